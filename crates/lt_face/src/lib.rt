@@ -1,0 +1,26 @@
+//! Keys, rows, and the traits that the layers above them share.
+#![tactic(auto)]
+
+pub mod count;
+pub mod indexes;
+pub mod items;
+pub mod key;
+pub mod key_iter;
+pub mod memory;
+pub mod moves;
+pub mod notes;
+pub mod row;
+pub mod row_set;
+
+pub use indexes::Indexes;
+pub use items::{Changes, Items, Perm, RowList};
+pub use key::{CELL_LIMIT, END, Gap, Key};
+pub use key_iter::KeyIter;
+pub use memory::NoMemory;
+pub use moves::Moves;
+pub use notes::{NoNotes, Notes};
+pub use row::Row;
+pub use row_set::{RowReads, RowSet};
+
+#[cfg(test)]
+mod tests;

@@ -1,0 +1,64 @@
+//! Sets of rows, however they are kept.
+ghost use Rattle.std.specs.Prelude.{◌≡◌, ◌≤◌, ℕ, List, [], length, IfOk, OnOk, OnErr, not};
+ghost use Rattle.std.specs.Option.{option_copied};
+ghost use Rattle.lt_face.specs.Rows.{IsRow, IsRowSet, has_row, first_from, with_row, without_row};
+
+use crate::memory::NoMemory;
+use crate::row::Row;
+use std::alloc::Global;
+
+/// What is read of a set of rows of one width, in ascending order. It asks for no threads: a join over it may run in any.
+pub trait RowReads: Sized {
+    /// The rows, ascending.
+    ghost rows: { Self → List (List ℕ) };
+
+    /// How many cells each row has.
+    ghost width_of: { Self → ℕ };
+
+    /// How many cells each row has: at most 8.
+    fn width(&self) -> usize
+        ensures value { result ≡ width_of self.now }
+        ensures bound { result ≤ 8 }
+        ensures is_set { IsRowSet (width_of self.now) (rows self.now) };
+
+    /// How many rows there are.
+    fn len(&self) -> usize
+        ensures { result ≡ length (rows self.now) };
+
+    /// Whether the set has the row.
+    fn has(&self, row: &Row) -> bool
+        ensures { result ≡ has_row (rows self.now) row.now };
+
+    /// The least row that is at least `from`, or None where there is none. `from` may have any width.
+    fn row_at_least(&self, from: &Row) -> Option<&Row>
+        ensures { option_copied result ≡ first_from (rows self.now) from.now };
+}
+
+/// A set of rows of one width, in ascending order.
+pub trait RowSet: RowReads + Drop + Send + Sync {
+    /// The empty set for rows of this width.
+    fn empty(alloc: Global, width: usize) -> Result<Self, NoMemory>
+        requires { width ≤ 8 }
+        ensures rows { IfOk result (λ set. Self.rows set ≡ []) }
+        ensures width { IfOk result (λ set. Self.width_of set ≡ width) };
+
+    /// Adds a row, and answers whether it was new. Want of memory leaves the set as it was.
+    fn insert(&mut self, row: Row) -> Result<bool, NoMemory>
+        requires { IsRow (Self.width_of self.old) row }
+        ensures ok { OnOk result (Self.rows self.new ≡ with_row (Self.rows self.old) row) }
+        ensures new { IfOk result (λ new. new ≡ not (has_row (Self.rows self.old) row)) }
+        ensures err { OnErr result (Self.rows self.new ≡ Self.rows self.old) }
+        ensures width { Self.width_of self.new ≡ Self.width_of self.old };
+
+    /// Removes a row, and answers whether it was there. Want of memory leaves the set as it was.
+    fn remove(&mut self, row: &Row) -> Result<bool, NoMemory>
+        ensures ok { OnOk result (Self.rows self.new ≡ without_row (Self.rows self.old) row.now) }
+        ensures there { IfOk result (λ there. there ≡ has_row (Self.rows self.old) row.now) }
+        ensures err { OnErr result (Self.rows self.new ≡ Self.rows self.old) }
+        ensures width { Self.width_of self.new ≡ Self.width_of self.old };
+
+    /// A second owner of the same rows. What either does later, the other does not see.
+    fn share(&self) -> Result<Self, NoMemory>
+        ensures rows { IfOk result (λ set. Self.rows set ≡ Self.rows self.now) }
+        ensures width { IfOk result (λ set. Self.width_of set ≡ Self.width_of self.now) };
+}
