@@ -1,0 +1,14 @@
+pub mod Samples
+pub mod Reports
+pub mod Spelling
+pub mod Scripts
+pub mod Levels
+pub mod Faulty
+pub mod Division
+pub mod Parts
+pub mod Reader
+pub mod Unique
+pub mod Laws
+pub mod Composition
+pub mod Choices
+pub mod Examples

@@ -1,0 +1,57 @@
+-- What the limits leave of an item that was read: how many things it has, and that its constants are cells.
+use Rattle.std.specs.Prelude.{ℕ, ◌≤◌, ◌<◌, ◌^◌, List, length, Option, Some, None}
+use Rattle.std.specs.List.{AllByRecursion}
+use Rattle.lt_face.specs.Rows.{IsCell}
+use Rattle.lt_model.specs.declared.syntax.Term.{Term}
+use Rattle.lt_model.specs.declared.syntax.Term.TheVariants.{Name, Cell}
+use Rattle.lt_model.specs.declared.syntax.Head.{Head}
+use Rattle.lt_model.specs.declared.syntax.Literal.{Literal}
+use Rattle.lt_model.specs.declared.syntax.Literal.TheVariants.{Atom, Cmp, Sum}
+use Rattle.lt_model.specs.declared.syntax.Statement.{Statement}
+use Rattle.lt_model.specs.declared.syntax.Statement.TheVariants.{Print}
+use Rattle.lt_model.specs.declared.syntax.Program.{Program}
+use Rattle.lt_model.specs.declared.syntax.Item.{Item}
+use Rattle.lt_model.specs.declared.syntax.Item.TheVariants.{Relation, Batch, Show}
+use Rattle.lt_model.specs.Variables.{body_of, heads_of, variables}
+
+abbrev pub HasCell : Term → Type 0
+HasCell (Name name) = Unit {0}
+HasCell (Cell kind cell) = IsCell cell
+
+-- 1 to 8 terms
+pub record AreTermsWithin (terms : List Term) : Type 0 where
+  pub some : 1 ≤ length terms
+  pub few : length terms ≤ 8
+  pub cells : AllByRecursion HasCell terms
+
+abbrev pub IsLiteralWithin : Literal → Type 0
+IsLiteralWithin (Atom head) = AreTermsWithin head.terms
+IsLiteralWithin (Cmp left op right) = HasCell left × HasCell right
+IsLiteralWithin (Sum var a minus b) = HasCell a × HasCell b
+
+abbrev pub ArePrintedWithin : Statement → Type 0
+ArePrintedWithin (Print terms body) = AreTermsWithin terms
+ArePrintedWithin s = Unit {0}
+
+-- at most 16 literals, and 16 variables
+pub record IsStatementWithin (s : Statement) : Type 0 where
+  pub heads : AllByRecursion (λ (head : Head). AreTermsWithin head.terms) (heads_of s)
+  pub printed : ArePrintedWithin s
+  pub literals : AllByRecursion IsLiteralWithin (body_of s)
+  pub few_literals : length (body_of s) ≤ 16
+  pub few_variables : length (variables s) ≤ 16
+
+-- at most 64 statements
+pub record IsProgramWithin (p : Program) : Type 0 where
+  pub statements : AllByRecursion IsStatementWithin p.statements
+  pub few : length p.statements ≤ 64
+
+abbrev pub IsVersionWithin : Option ℕ → Type 0
+IsVersionWithin None = Unit {0}
+IsVersionWithin (Some version) = version < 2 ^ 63
+
+-- 1 to 8 columns; at most 256 programs; a version that is an int
+abbrev pub IsWithinLimits : Item → Type 0
+IsWithinLimits (Relation name kinds) = (1 ≤ length kinds) × (length kinds ≤ 8)
+IsWithinLimits (Batch programs) = AllByRecursion IsProgramWithin programs × (length programs ≤ 256)
+IsWithinLimits (Show name version) = IsVersionWithin version

@@ -1,0 +1,30 @@
+//! Laws of the language: what its definitions leave no choice in. The laws of marks stand with the marks, in `lt_delta`.
+ghost use Rattle.lt_model.specs.Laws.{OneDerivation, OneFault, NoFaultAhead, OneReading, OneReport, SomeChoice, FoundChoice, KindsDetermined, SerialJoins};
+
+/// Tokens spell at most one list of items. Bytes have at most one reading: the same items, and the same end or fault.
+/// So they have at most one report, with marks and without.
+pub fn readings()
+    ensures derivation { OneDerivation }
+    ensures reading { OneReading }
+    ensures report { OneReport }
+{}
+
+/// A token has at most one fault, and none has one where more tokens would make a legal script of them.
+pub fn faults()
+    ensures one { OneFault }
+    ensures ahead { NoFaultAhead }
+{}
+
+/// Where a choice of one kind for each variable fits a statement, the check finds one; and the one that it finds fits.
+/// A bound term has the same kind in all that fit, so that it doesn't matter which of them is found.
+pub fn kinds()
+    ensures some { SomeChoice }
+    ensures found { FoundChoice }
+    ensures determined { KindsDetermined }
+{}
+
+/// Programs after programs give the replies and the marks of both, one list after the other: the later ones run on the
+/// state that the earlier ones left.
+pub fn serial()
+    ensures { SerialJoins }
+{}
