@@ -1,0 +1,19 @@
+//! Cells: the keys that stand for ints and symbols, in the order of their values.
+#![tactic(auto)]
+
+mod ints;
+mod laws;
+mod sums;
+mod symbols;
+#[cfg(test)]
+mod tests;
+mod text;
+
+pub use ints::{cell_of_int, int_of};
+pub use laws::{ints_ascend, symbols_ascend, symbols_return};
+pub use lt_face::key::Key;
+pub use lt_model::kind::{Kind, KindList};
+pub use lt_model::name::{Headings, Name};
+pub use sums::{difference, sum};
+pub use symbols::cell_of_sym;
+pub use text::{CellText, cell_text};

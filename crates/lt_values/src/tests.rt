@@ -1,0 +1,98 @@
+use crate::*;
+
+#[test]
+fn gives_ints_their_cells(rt: HostRuntime) {
+    for (n, cell) in [
+        (i64::MIN, 1),
+        (0, 9_223_372_036_854_775_809),
+        (i64::MAX, 18_446_744_073_709_551_616),
+    ] {
+        assert_eq!(rt; cell_of_int(n), cell, "the cell of {n}");
+        assert_eq!(rt; int_of(cell), n, "the int of {cell}");
+    }
+    ints_ascend();
+}
+
+#[test]
+fn gives_symbols_their_cells(rt: HostRuntime) {
+    let symbols: [(&[u8], Option<Key>); 7] = [
+        (b"a", Some(503_652_795_277_878_279_967_458_143_934_349_312)),
+        (
+            b"abcdefghijklmno",
+            Some(505_648_346_078_211_134_673_565_112_542_785_135),
+        ),
+        (b"", None),
+        (b"abcdefghijklmnop", None),
+        (b"a b", None),
+        (b"Ab", None),
+        (b"a{", None),
+    ];
+    for (text, cell) in symbols {
+        assert_eq!(rt; cell_of_sym(text), cell, "the cell of {text:?}");
+    }
+    symbols_return();
+}
+
+#[test]
+fn keeps_the_order_of_symbols(rt: HostRuntime) {
+    let ascending: [&[u8]; 8] = [b"0", b"9z", b"_", b"a", b"a0", b"aa", b"aaa", b"b"];
+    let mut below = 0;
+    for text in ascending {
+        match cell_of_sym(text) {
+            Some(cell) => {
+                assert!(rt; below < cell, "the cell of {text:?}");
+                below = cell;
+            }
+            None => assert!(rt; false, "{text:?} is a symbol"),
+        }
+    }
+    symbols_ascend();
+}
+
+#[test]
+fn adds_and_subtracts_ints(rt: HostRuntime) {
+    for (t, u, both, apart) in [
+        (2, 3, Some(5), Some(-1)),
+        (-4, -4, Some(-8), Some(0)),
+        (i64::MAX, 1, None, Some(9_223_372_036_854_775_806)),
+        (i64::MIN, 1, Some(-9_223_372_036_854_775_807), None),
+        (-1, i64::MIN, None, Some(i64::MAX)),
+        (0, i64::MIN, Some(i64::MIN), None),
+    ] {
+        let t_cell = cell_of_int(t);
+        let u_cell = cell_of_int(u);
+        assert_eq!(rt; sum(t_cell, u_cell), both.map(cell_of_int), "{t} + {u}");
+        assert_eq!(rt;
+            difference(t_cell, u_cell),
+            apart.map(cell_of_int),
+            "{t} - {u}"
+        );
+    }
+}
+
+#[test]
+fn writes_cells(rt: HostRuntime) {
+    let texts: [(Kind, Key, &[u8]); 6] = [
+        (Kind::Int, 1, b"-9223372036854775808"),
+        (Kind::Int, 9_223_372_036_854_775_808, b"-1"),
+        (Kind::Int, 9_223_372_036_854_775_909, b"100"),
+        (Kind::Int, 18_446_744_073_709_551_617, b""),
+        (
+            Kind::Sym,
+            503_652_795_277_878_279_967_458_143_934_349_312,
+            b"a",
+        ),
+        (
+            Kind::Sym,
+            505_648_346_078_211_134_673_565_112_542_785_135,
+            b"abcdefghijklmno",
+        ),
+    ];
+    for (kind, cell, text) in texts {
+        assert_eq!(rt;
+            cell_text(kind, cell).as_bytes(),
+            text,
+            "{cell} as {kind:?}"
+        );
+    }
+}
