@@ -1,0 +1,13 @@
+pub mod Gaps
+pub mod Firsts
+pub mod Words
+pub mod Places
+pub mod Choice
+pub mod Digits
+pub mod Excess
+pub mod Splitting
+pub mod Shrink
+pub mod Listing
+pub mod Splits
+pub mod Within
+pub mod Reading

@@ -1,0 +1,19 @@
+use Rattle.std.proofs.Common.{sym, arith}
+use Rattle.std.proofs.lemmas.Result.{err_from_is_err_and}
+use Rattle.lt_grammar.specs.Productions.{literal_at, starts_term}
+use Rattle.lt_script.specs.Tree.{literal_of}
+use Rattle.lt_script.proofs.Listing.{listing_next, listing_ends, listing_fails}
+use Rattle.lt_script.proofs.Shrink.{literals_shrink}
+use Rattle.lt_script.proofs.cursor.Cursor.further_literals.Goals as goal
+
+pub literals-preserved : goal.literals-preserved
+literals-preserved c =
+    listing_next literal_of starts_term literal_at 15 c.args.self.now literals_shrink c.args.first c.literals.literals.items c.push-in-literals.new.self.items c.literals.self c.next_literal.new.self c.in_ok-literal.literal (sym c.literals-test.ensures) c.in_ok-literal.ensures c.in_ok-push-2.ensures.items (omega arith) c.literals.invariant
+
+pub returns-clause-read : goal.returns-clause-read
+returns-clause-read c = listing_ends literal_of starts_term literal_at 15 c.args.self.now c.args.first c.literals.literals.items c.literals.self (sym c.literals-test.ensures) c.literals.invariant
+
+pub returns-in_err-literal-clause-read : goal.returns-in_err-literal-clause-read
+returns-in_err-literal-clause-read c =
+    let p = err_from_is_err_and c.from_residual-in_err-literal.result c.from_residual-in_err-literal.ensures.1 in
+    rw (p.1, p.2) (listing_fails literal_of starts_term literal_at 15 c.args.self.now c.in_err-literal.field-0.0 c.args.first c.literals.literals.items c.literals.self c.next_literal.new.self (sym c.literals-test.ensures) c.in_err-literal.ensures (omega arith) c.literals.invariant)

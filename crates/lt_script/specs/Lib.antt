@@ -1,0 +1,6 @@
+pub mod Signs
+pub mod View
+pub mod Ahead
+pub mod Tree
+pub mod Parsed
+pub mod Reading

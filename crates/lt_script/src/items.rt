@@ -1,0 +1,160 @@
+//! The items of a script: declarations, batches and questions.
+ghost use Rattle.std.specs.Prelude.{◌≡◌, ◌∷◌, IfOk, drop, map, false};
+ghost use Rattle.lt_reading.specs.Reading.{next_is, led, past_comma, given, many, at_once, maybe};
+ghost use Rattle.lt_model.specs.Grammar.{comma};
+ghost use Rattle.lt_grammar.specs.Tokens.{same_shape, at_word};
+ghost use Rattle.lt_grammar.specs.Grammar.{relation, batch, show};
+ghost use Rattle.lt_grammar.specs.Productions.{number_at, kind_at, starts_kind as begins_kind, program_at, is_program, batch_at, relation_at, is_at, show_at, item_at};
+ghost use Rattle.lt_script.specs.Ahead.{shapes};
+ghost use Rattle.lt_script.specs.Tree.{program_of, digits_of, item_of, HasKinds};
+ghost use Rattle.lt_script.specs.Parsed.{Parses, Refuses, further};
+
+use crate::cursor::Cursor;
+use crate::refusal::{Cause, Refusal};
+use crate::tree::{Item, Program};
+use lt_model::kind::Kind;
+use std::alloc::Global;
+
+impl<'a> Cursor<'a> {
+    // Whether a kind may begin with the next token.
+    fn starts_kind(&self) -> bool
+        ensures { result ≡ next_is begins_kind (shapes self.now) }
+    {
+        match self.peek() {
+            Some(first) => first.is_word(b"int") || first.is_word(b"sym"),
+            None => false,
+        }
+    }
+
+    // Why no kind past the last is read.
+    fn too_many_kinds(&mut self) -> Refusal
+        ensures { Refuses result self.old self.new (past_comma begins_kind) }
+    {
+        if self.peek().is_some() {
+            self.advance();
+            if self.starts_kind() {
+                return Refusal::Fault(Cause::TooMany);
+            }
+        }
+        Refusal::Fault(Cause::NotAllowed)
+    }
+
+    fn next_kind(&mut self) -> Result<Kind, Refusal>
+        ensures { Parses (λ k. k) result self.old self.new (led same_shape comma kind_at) }
+    {
+        self.sign(b",")?;
+        let kind = self.kind()?;
+        Ok(kind)
+    }
+
+    // The kinds after the first.
+    fn further_kinds(&mut self, alloc: Global, first: Kind) -> Result<Vec<Kind>, Refusal>
+        ensures read { Parses (λ v. drop 1 v.items) result self.old self.new (further begins_kind kind_at 7) }
+        ensures first { IfOk result (λ v. v.items ≡ first ∷ drop 1 v.items) }
+    {
+        let mut kinds = Vec::new(alloc);
+        kinds.push(first)?;
+        'kinds: while self.sign_stands(b",") {
+            if kinds.len() == 8 {
+                return Err(self.too_many_kinds());
+            }
+            let kind = self.next_kind()?;
+            kinds.push(kind)?;
+        }
+        Ok(kinds)
+    }
+
+    #[tactic(auto, unfolding(lt_grammar::specs::Productions::program_at))]
+    fn program(&mut self, alloc: Global) -> Result<Program<'a>, Refusal>
+        ensures { Parses program_of result self.old self.new program_at }
+    {
+        self.word(b"program")?;
+        let name = self.name()?;
+        let statements = self.statements(alloc)?;
+        self.word(b"end")?;
+        self.sign(b";")?;
+        Ok(Program { name, statements })
+    }
+
+    // The programs of a batch, at most two hundred and fifty-six.
+    fn programs(&mut self, alloc: Global) -> Result<Vec<Program<'a>>, Refusal>
+        ensures { Parses (λ v. map program_of v.items) result self.old self.new (many is_program program_at at_once 256) }
+    {
+        let mut programs = Vec::new(alloc);
+        'programs: while self.word_stands(b"program") {
+            if programs.len() == 256 {
+                return Err(Refusal::Fault(Cause::TooMany));
+            }
+            let program = self.program(alloc)?;
+            programs.push(program)?;
+        }
+        Ok(programs)
+    }
+
+    #[tactic(auto, unfolding(lt_grammar::specs::Productions::batch_at))]
+    fn batch(&mut self, alloc: Global) -> Result<Item<'a>, Refusal>
+        ensures read { Parses item_of result self.old self.new (given (λ x. batch x) batch_at) }
+        ensures kinds { IfOk result HasKinds }
+    {
+        self.word(b"batch")?;
+        let programs = self.programs(alloc)?;
+        self.word(b"commit")?;
+        self.sign(b";")?;
+        Ok(Item::Batch { programs })
+    }
+
+    #[tactic(auto, unfolding(lt_grammar::specs::Productions::relation_at))]
+    fn relation(&mut self, alloc: Global) -> Result<Item<'a>, Refusal>
+        ensures read { Parses item_of result self.old self.new (given (λ x. relation x.0 x.1.0 x.1.1) relation_at) }
+        ensures kinds { IfOk result HasKinds }
+    {
+        self.word(b"relation")?;
+        let name = self.name()?;
+        self.sign(b"(")?;
+        let first = self.kind()?;
+        let kinds = self.further_kinds(alloc, first)?;
+        self.sign(b")")?;
+        self.sign(b";")?;
+        Ok(Item::Relation { name, kinds })
+    }
+
+    // `at` and a number, or nothing.
+    #[tactic(auto, using(crate::proofs::Choice::version_some, crate::proofs::Choice::version_none))]
+    fn version(&mut self) -> Result<Option<&'a [u8]>, Refusal>
+        ensures { Parses digits_of result self.old self.new (maybe is_at (led same_shape at_word (number_at false))) }
+    {
+        if self.word_stands(b"at") {
+            self.word(b"at")?;
+            let digits = self.number(false)?;
+            return Ok(Some(digits));
+        }
+        Ok(None)
+    }
+
+    #[tactic(auto, unfolding(lt_grammar::specs::Productions::show_at))]
+    fn show(&mut self) -> Result<Item<'a>, Refusal>
+        ensures read { Parses item_of result self.old self.new (given (λ x. show x.0 x.1) show_at) }
+        ensures kinds { IfOk result HasKinds }
+    {
+        self.word(b"show")?;
+        let name = self.name()?;
+        let at = self.version()?;
+        self.sign(b";")?;
+        Ok(Item::Show { name, at })
+    }
+
+    /// Reads the next item. At a fault the cursor stands at the token that isn't allowed, or at the end where one is missing.
+    #[tactic(auto, using(crate::proofs::Choice::item_relation, crate::proofs::Choice::item_batch, crate::proofs::Choice::item_show))]
+    pub fn item(&mut self, alloc: Global) -> Result<Item<'a>, Refusal>
+        ensures read { Parses item_of result self.old self.new item_at }
+        ensures kinds { IfOk result HasKinds }
+    {
+        if self.word_stands(b"relation") {
+            return self.relation(alloc);
+        }
+        if self.word_stands(b"batch") {
+            return self.batch(alloc);
+        }
+        self.show()
+    }
+}

@@ -1,0 +1,13 @@
+//! Texts that are short and not empty.
+ghost use Rattle.std.specs.Prelude.{◌≤◌, IsTrue, length};
+ghost use Rattle.std.specs.List.{list_all};
+ghost use Rattle.lt_model.specs.Tokens.{in_word};
+
+/// 1 to 15 bytes of the source, each of `a`-`z`, `0`-`9` and `_`: the text of a word, or of a symbol between its quotes.
+#[derive(Clone, Copy)]
+pub struct Label<'a> {
+    pub bytes: &'a [u8],
+    pub ghost some: { 1 ≤ length bytes.now },
+    pub ghost few: { length bytes.now ≤ 15 },
+    pub ghost plain: { IsTrue (list_all in_word bytes.now) },
+}

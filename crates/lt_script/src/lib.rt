@@ -1,0 +1,35 @@
+//! Bytes read as tokens, and tokens as the items of the language. `Reader` gives them one at a time; where a script is
+//! at fault, it gives the first fault.
+#![tactic(auto)]
+
+mod build;
+mod cells;
+mod cursor;
+mod items;
+mod label;
+mod lexer;
+mod literals;
+mod names;
+mod one_token;
+mod range;
+mod reader;
+mod refusal;
+mod runs;
+mod standing;
+mod statements;
+mod terms;
+mod token;
+mod tree;
+
+pub use lt_model::syntax::{
+    Head, Item, Literal, LiteralList, Op, Program, ProgramList, Statement, StatementList, Term,
+    TermList,
+};
+pub use reader::{Reader, Step};
+
+#[cfg(test)]
+mod ending_tests;
+#[cfg(test)]
+mod item_tests;
+#[cfg(test)]
+mod token_tests;

@@ -1,0 +1,135 @@
+//! The names of variables in a statement, and how many different ones there are.
+ghost use Rattle.std.specs.Prelude.{◌≡◌, ◌++◌, [], IfOk, map, fold};
+ghost use Rattle.std.specs.List.{flat_map, list_any};
+ghost use Rattle.std.specs.Str.{bytes_eq};
+ghost use Rattle.lt_grammar.specs.Grammar.{term_names, literal_names, statement_names, few_names};
+ghost use Rattle.lt_model.specs.Variables.{with_name};
+ghost use Rattle.lt_script.specs.Parsed.{texts};
+ghost use Rattle.lt_script.specs.Tree.{term_of, literal_of, statement_of};
+
+use crate::tree::{Literal, Statement, Term};
+use std::alloc::{AllocError, Global};
+
+fn push_term<'a>(names: &mut Vec<&'a [u8]>, term: Term<'a>) -> Result<(), AllocError>
+    ensures { IfOk result (λ x. texts names.new.items ≡ texts names.old.items ++ term_names (term_of term.entry)) }
+{
+    if let Term::Name(name) = term {
+        names.push(name.bytes)?;
+    }
+    Ok(())
+}
+
+fn push_terms<'a>(names: &mut Vec<&'a [u8]>, terms: &[Term<'a>]) -> Result<(), AllocError>
+    ensures { IfOk result (λ x. texts names.new.items ≡ texts names.old.items ++ flat_map term_names (map term_of terms.now)) }
+{
+    for term in terms {
+        push_term(names, *term)?;
+    }
+    Ok(())
+}
+
+// Whether the text is among these.
+fn contains(names: &[&[u8]], text: &[u8]) -> bool
+    ensures { result ≡ list_any (bytes_eq text.now) (texts names.now) }
+{
+    for name in names {
+        if text == *name {
+            return true;
+        }
+    }
+    false
+}
+
+// Adds a name, if it is new.
+fn push_once<'a>(names: &mut Vec<&'a [u8]>, name: &'a [u8]) -> Result<(), AllocError>
+    ensures { IfOk result (λ x. texts names.new.items ≡ with_name (texts names.old.items) name.now) }
+{
+    if !contains(names, name) {
+        names.push(name)?;
+    }
+    Ok(())
+}
+
+// Each name once, where it stands first.
+fn without_repeats<'a>(alloc: Global, names: &[&'a [u8]]) -> Result<Vec<&'a [u8]>, AllocError>
+    ensures { IfOk result (λ once. texts once.items ≡ fold with_name [] (texts names.now)) }
+{
+    let mut once = Vec::new(alloc);
+    'names: for name in names {
+        push_once(&mut once, *name)?;
+    }
+    Ok(once)
+}
+
+#[tactic(auto, using(crate::proofs::Splitting::argument_names))]
+fn push_literal<'a>(names: &mut Vec<&'a [u8]>, literal: &Literal<'a>) -> Result<(), AllocError>
+    ensures { IfOk result (λ x. texts names.new.items ≡ texts names.old.items ++ literal_names (literal_of literal.now)) }
+{
+    match literal {
+        Literal::Atom(head) => push_terms(names, &head.terms)?,
+        Literal::Compare { left, right, .. } => {
+            push_term(names, *left)?;
+            push_term(names, *right)?;
+        }
+        Literal::Sum {
+            name,
+            left,
+            right,
+            ..
+        } => {
+            names.push(name.bytes)?;
+            push_term(names, *left)?;
+            push_term(names, *right)?;
+        }
+    }
+    Ok(())
+}
+
+fn push_literals<'a>(names: &mut Vec<&'a [u8]>, literals: &[Literal<'a>]) -> Result<(), AllocError>
+    ensures { IfOk result (λ x. texts names.new.items ≡ texts names.old.items ++ flat_map literal_names (map literal_of literals.now)) }
+{
+    for literal in literals {
+        push_literal(names, literal)?;
+    }
+    Ok(())
+}
+
+#[tactic(auto, using(crate::proofs::Splitting::argument_names, crate::proofs::Splitting::bodys_names))]
+fn push_statement<'a>(
+    names: &mut Vec<&'a [u8]>,
+    statement: &Statement<'a>,
+) -> Result<(), AllocError>
+    ensures { IfOk result (λ x. texts names.new.items ≡ texts names.old.items ++ statement_names (statement_of statement.now)) }
+{
+    match statement {
+        Statement::Insert { head, body } => {
+            push_terms(names, &head.terms)?;
+            push_literals(names, body)?;
+        }
+        Statement::Delete { head, body } => {
+            push_terms(names, &head.terms)?;
+            push_literals(names, body)?;
+        }
+        Statement::Replace { gone, come, body } => {
+            push_terms(names, &gone.terms)?;
+            push_terms(names, &come.terms)?;
+            push_literals(names, body)?;
+        }
+        Statement::Require { body, .. } => push_literals(names, body)?,
+        Statement::Print { terms, body } => {
+            push_terms(names, terms)?;
+            push_literals(names, body)?;
+        }
+    }
+    Ok(())
+}
+
+/// Whether a statement has at most sixteen variables.
+#[tactic(auto, unfolding(lt_grammar::specs::Grammar::few_names))]
+pub fn has_few_names(alloc: Global, statement: &Statement) -> Result<bool, AllocError>
+    ensures { IfOk result (λ b. b ≡ few_names (statement_of statement.now)) }
+{
+    let mut names = Vec::new(alloc);
+    push_statement(&mut names, statement)?;
+    Ok(without_repeats(alloc, &names)?.len() <= 16)
+}

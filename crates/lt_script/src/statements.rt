@@ -1,0 +1,137 @@
+//! Statements up to the semicolon, where their variables are counted.
+ghost use Rattle.std.specs.Prelude.{◌≡◌, map};
+ghost use Rattle.lt_reading.specs.Reading.{next_is, given, many, at_once};
+ghost use Rattle.lt_grammar.specs.Grammar.{insert, delete, replace, require, print};
+ghost use Rattle.lt_grammar.specs.Productions.{insert_at, delete_at, replace_at, require_at, print_at, form_at, statement_at, starts_statement as begins_statement};
+ghost use Rattle.lt_script.specs.Ahead.{shapes};
+ghost use Rattle.lt_script.specs.Tree.{statement_of};
+ghost use Rattle.lt_script.specs.Parsed.{Parses};
+
+use crate::cursor::Cursor;
+use crate::names::has_few_names;
+use crate::one_token::not_allowed;
+use crate::refusal::{Cause, Refusal};
+use crate::tree::Statement;
+use std::alloc::Global;
+
+impl<'a> Cursor<'a> {
+    #[tactic(auto, unfolding(lt_grammar::specs::Productions::insert_at))]
+    fn insert(&mut self, alloc: Global) -> Result<Statement<'a>, Refusal>
+        ensures { Parses statement_of result self.old self.new (given (λ x. insert x.0 x.1) insert_at) }
+    {
+        self.word(b"insert")?;
+        let head = self.head(alloc)?;
+        let body = self.where_part(alloc)?;
+        Ok(Statement::Insert { head, body })
+    }
+
+    #[tactic(auto, unfolding(lt_grammar::specs::Productions::delete_at))]
+    fn delete(&mut self, alloc: Global) -> Result<Statement<'a>, Refusal>
+        ensures { Parses statement_of result self.old self.new (given (λ x. delete x.0 x.1) delete_at) }
+    {
+        self.word(b"delete")?;
+        let head = self.head(alloc)?;
+        let body = self.where_part(alloc)?;
+        Ok(Statement::Delete { head, body })
+    }
+
+    #[tactic(auto, unfolding(lt_grammar::specs::Productions::replace_at))]
+    fn replace(&mut self, alloc: Global) -> Result<Statement<'a>, Refusal>
+        ensures { Parses statement_of result self.old self.new (given (λ x. replace x.0 x.1.0 x.1.1) replace_at) }
+    {
+        self.word(b"replace")?;
+        let gone = self.head(alloc)?;
+        self.word(b"by")?;
+        let come = self.head(alloc)?;
+        let body = self.where_part(alloc)?;
+        Ok(Statement::Replace { gone, come, body })
+    }
+
+    #[tactic(auto, unfolding(lt_grammar::specs::Productions::require_at))]
+    fn require(&mut self, alloc: Global) -> Result<Statement<'a>, Refusal>
+        ensures { Parses statement_of result self.old self.new (given (λ x. require x.0 x.1.0 x.1.1) require_at) }
+    {
+        self.word(b"require")?;
+        let some = self.need()?;
+        let body = self.body(alloc)?;
+        Ok(Statement::Require { some, body })
+    }
+
+    #[tactic(auto, unfolding(lt_grammar::specs::Productions::print_at))]
+    fn print(&mut self, alloc: Global) -> Result<Statement<'a>, Refusal>
+        ensures { Parses statement_of result self.old self.new (given (λ x. print x.0.0 x.0.1 x.1.0 x.1.1) print_at) }
+    {
+        self.word(b"print")?;
+        let terms = self.terms(alloc)?;
+        self.word(b"where")?;
+        let body = self.body(alloc)?;
+        Ok(Statement::Print { terms, body })
+    }
+
+    // A statement up to its semicolon.
+    #[tactic(auto, using(crate::proofs::Choice::form_insert, crate::proofs::Choice::form_delete, crate::proofs::Choice::form_replace, crate::proofs::Choice::form_require, crate::proofs::Choice::form_print))]
+    fn form(&mut self, alloc: Global) -> Result<Statement<'a>, Refusal>
+        ensures { Parses statement_of result self.old self.new form_at }
+    {
+        if self.word_stands(b"insert") {
+            return self.insert(alloc);
+        }
+        if self.word_stands(b"delete") {
+            return self.delete(alloc);
+        }
+        if self.word_stands(b"replace") {
+            return self.replace(alloc);
+        }
+        if self.word_stands(b"require") {
+            return self.require(alloc);
+        }
+        self.print(alloc)
+    }
+
+    // A statement and the semicolon that ends it. It has at most sixteen variables.
+    #[tactic(auto, using(crate::proofs::Choice::close_refuses, crate::proofs::Choice::close_full, crate::proofs::Choice::close_ends), unfolding(lt_grammar::specs::Productions::statement_at))]
+    fn statement(&mut self, alloc: Global) -> Result<Statement<'a>, Refusal>
+        ensures { Parses statement_of result self.old self.new statement_at }
+    {
+        let statement = self.form(alloc)?;
+        if !self.sign_stands(b";") {
+            return not_allowed();
+        }
+        if !has_few_names(alloc, &statement)? {
+            return Err(Refusal::Fault(Cause::TooFull));
+        }
+        self.sign(b";")?;
+        Ok(statement)
+    }
+
+    // Whether a statement may begin with the next token.
+    fn starts_statement(&self) -> bool
+        ensures { result ≡ next_is begins_statement (shapes self.now) }
+    {
+        match self.peek() {
+            Some(first) => {
+                first.is_word(b"insert")
+                    || first.is_word(b"delete")
+                    || first.is_word(b"replace")
+                    || first.is_word(b"require")
+                    || first.is_word(b"print")
+            }
+            None => false,
+        }
+    }
+
+    /// The statements of a program, at most sixty-four.
+    pub fn statements(&mut self, alloc: Global) -> Result<Vec<Statement<'a>>, Refusal>
+        ensures { Parses (λ v. map statement_of v.items) result self.old self.new (many begins_statement statement_at at_once 64) }
+    {
+        let mut statements = Vec::new(alloc);
+        'statements: while self.starts_statement() {
+            if statements.len() == 64 {
+                return Err(Refusal::Fault(Cause::TooMany));
+            }
+            let statement = self.statement(alloc)?;
+            statements.push(statement)?;
+        }
+        Ok(statements)
+    }
+}

@@ -1,0 +1,129 @@
+//! Terms, and relations with their arguments.
+ghost use Rattle.std.specs.Prelude.{◌≡◌, ◌∷◌, IfOk, drop, map};
+ghost use Rattle.lt_reading.specs.Reading.{next_is, led, past_comma};
+ghost use Rattle.lt_model.specs.Grammar.{comma};
+ghost use Rattle.lt_grammar.specs.Tokens.{same_shape};
+ghost use Rattle.lt_grammar.specs.Productions.{constant_at, term_at, starts_term as begins_term, terms_at, head_at};
+ghost use Rattle.lt_script.specs.Ahead.{shapes};
+ghost use Rattle.lt_script.specs.Tree.{term_of, terms_of, head_of};
+ghost use Rattle.lt_script.specs.Parsed.{Parses, Refuses, further};
+
+use crate::cursor::Cursor;
+use crate::one_token::is_reserved;
+use crate::refusal::{Cause, Refusal};
+use crate::token::Lexeme;
+use crate::tree::{Head, Term};
+use std::alloc::Global;
+
+impl<'a> Cursor<'a> {
+    /// A term that is no name.
+    #[tactic(auto, using(crate::proofs::Choice::constant_minus, crate::proofs::Choice::constant_number, crate::proofs::Choice::constant_quoted))]
+    pub fn constant(&mut self) -> Result<Term<'a>, Refusal>
+        ensures { Parses term_of result self.old self.new constant_at }
+    {
+        if self.sign_stands(b"-") {
+            self.sign(b"-")?;
+            let digits = self.number(true)?;
+            return Ok(Term::Numeral {
+                minus: true,
+                digits,
+            });
+        }
+        if self.number_stands() {
+            let digits = self.number(false)?;
+            return Ok(Term::Numeral {
+                minus: false,
+                digits,
+            });
+        }
+        let text = self.quoted()?;
+        Ok(Term::Quoted(text))
+    }
+
+    /// A name or a constant.
+    #[tactic(auto, using(crate::proofs::Choice::term_name, crate::proofs::Choice::term_constant))]
+    pub fn term(&mut self) -> Result<Term<'a>, Refusal>
+        ensures { Parses term_of result self.old self.new term_at }
+    {
+        if self.any_word_stands() {
+            let name = self.name()?;
+            return Ok(Term::Name(name));
+        }
+        self.constant()
+    }
+
+    // Whether a term may begin with the next token.
+    fn starts_term(&self) -> bool
+        ensures { result ≡ next_is begins_term (shapes self.now) }
+    {
+        match self.peek() {
+            Some(first) => match first.lexeme {
+                Lexeme::Word(label) => !is_reserved(label.bytes),
+                Lexeme::Number(_) => true,
+                Lexeme::Symbol(_) => true,
+                Lexeme::Sign(_) => first.is_sign(b"-"),
+            },
+            None => false,
+        }
+    }
+
+    /// Why no term or literal past the last is read: the comma may stand there, but nothing that begins one behind it.
+    pub fn too_many_terms(&mut self) -> Refusal
+        ensures { Refuses result self.old self.new (past_comma begins_term) }
+    {
+        if self.peek().is_some() {
+            self.advance();
+            if self.starts_term() {
+                return Refusal::Fault(Cause::TooMany);
+            }
+        }
+        Refusal::Fault(Cause::NotAllowed)
+    }
+
+    fn next_term(&mut self) -> Result<Term<'a>, Refusal>
+        ensures { Parses term_of result self.old self.new (led same_shape comma term_at) }
+    {
+        self.sign(b",")?;
+        let term = self.term()?;
+        Ok(term)
+    }
+
+    // The terms after the first.
+    fn further_terms(&mut self, alloc: Global, first: Term<'a>) -> Result<Vec<Term<'a>>, Refusal>
+        ensures read { Parses (λ v. map term_of (drop 1 v.items)) result self.old self.new (further begins_term term_at 7) }
+        ensures first { IfOk result (λ v. v.items ≡ first.entry ∷ drop 1 v.items) }
+    {
+        let mut terms = Vec::new(alloc);
+        terms.push(first)?;
+        'terms: while self.sign_stands(b",") {
+            if terms.len() == 8 {
+                return Err(self.too_many_terms());
+            }
+            let term = self.next_term()?;
+            terms.push(term)?;
+        }
+        Ok(terms)
+    }
+
+    /// At most eight terms between parentheses.
+    #[tactic(auto, unfolding(lt_grammar::specs::Productions::terms_at))]
+    pub fn terms(&mut self, alloc: Global) -> Result<Vec<Term<'a>>, Refusal>
+        ensures { Parses (λ v. terms_of v.items) result self.old self.new terms_at }
+    {
+        self.sign(b"(")?;
+        let first = self.term()?;
+        let terms = self.further_terms(alloc, first)?;
+        self.sign(b")")?;
+        Ok(terms)
+    }
+
+    /// A relation and its arguments.
+    #[tactic(auto, unfolding(lt_grammar::specs::Productions::head_at))]
+    pub fn head(&mut self, alloc: Global) -> Result<Head<'a>, Refusal>
+        ensures { Parses head_of result self.old self.new head_at }
+    {
+        let relation = self.name()?;
+        let terms = self.terms(alloc)?;
+        Ok(Head { relation, terms })
+    }
+}
