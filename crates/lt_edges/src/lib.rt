@@ -1,0 +1,20 @@
+//! Where bytes come from and go to, and where a worker may be held up.
+#![tactic(auto)]
+
+mod gate;
+mod mem_sink;
+mod mem_source;
+mod sink;
+mod source;
+mod standard;
+mod sure;
+#[cfg(test)]
+mod tests;
+
+pub use gate::{Gate, OpenGate};
+pub use mem_sink::MemSink;
+pub use mem_source::MemSource;
+pub use sink::Sink;
+pub use source::{Failed, Source};
+pub use standard::{StdSink, StdSource};
+pub use sure::{SureSink, SureSource};
