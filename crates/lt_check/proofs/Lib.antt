@@ -1,0 +1,6 @@
+pub mod Steps
+pub mod Narrowing
+pub mod Binding
+pub mod Statements
+pub mod Fitting
+pub mod Limits

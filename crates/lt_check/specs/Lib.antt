@@ -1,0 +1,5 @@
+pub mod Seen
+pub mod Narrowing
+pub mod Binding
+pub mod Outcome
+pub mod States

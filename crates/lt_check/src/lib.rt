@@ -1,0 +1,13 @@
+//! What stands between reading and running: the relations that are there, and the check of a program against them.
+#![tactic(auto)]
+
+mod bound;
+pub mod check;
+mod kinds;
+mod names;
+mod normal_form;
+mod occurrences;
+pub mod schema;
+mod statement;
+#[cfg(test)]
+mod tests;

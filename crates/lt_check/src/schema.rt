@@ -1,0 +1,110 @@
+//! The relations that are there.
+ghost use Rattle.std.specs.Prelude.{◌≡◌, ◌≤◌, ◌<◌, ◌↔◌, ◌++◌, ◌∷◌, [], length, None, IfOk, OnOk, OnErr, IsErrOf, IsSome};
+ghost use Rattle.lt_model.specs.Schema.{number_of, columns_of};
+
+use lt_face::memory::NoMemory;
+use lt_model::kind::{Kind, KindList};
+use lt_model::name::{Headings, Name};
+use std::alloc::Global;
+use std::marker::Model;
+
+/// How many relations there may be.
+const MOST_RELATIONS: usize = 64;
+
+/// Why a relation was not declared.
+#[derive(Clone, Copy, Debug, PartialEq, Eq)]
+pub enum DeclareFault {
+    /// A relation of this name is there: code 24.
+    Taken,
+    /// The name is new, and 64 relations are there: code 25.
+    Full,
+    NoMemory,
+}
+
+/// At most 64 relations by number, in order of declaration.
+#[derive(Drop)]
+pub struct Schema {
+    headings: Headings,
+}
+
+impl Model for Schema {
+    ghost use Rattle.std.specs.Prelude.{◌≤◌, length};
+    ghost use Rattle.lt_model.specs.Schema as model;
+
+    ghost Value = { model.Schema };
+
+    ghost view = { λ s. s.headings };
+
+    ghost invariant = { λ s. length s.headings ≤ 64 };
+}
+
+impl From<NoMemory> for DeclareFault {
+    ghost use Rattle.lt_check.specs.declared.schema.DeclareFault.TheVariants as faults;
+    ghost use Rattle.std.specs.Prelude.{◌≡◌};
+
+    ghost from_gives = { λ _ e. e ≡ faults.NoMemory };
+
+    fn from(_: NoMemory) -> DeclareFault {
+        DeclareFault::NoMemory
+    }
+}
+
+impl Schema {
+    /// No relations.
+    pub fn new(alloc: Global) -> Schema
+        ensures { result ≡ [] }
+    {
+        Schema {
+            headings: Headings::new(alloc),
+        }
+    }
+
+    /// The number of the relation of this name.
+    pub fn find(&self, name: &Name) -> Option<u32>
+        ensures { result ≡ number_of self.now name.now }
+    {
+        for (number, heading) in self.headings.as_slice().iter().enumerate() {
+            if heading.0.as_bytes() == name.as_bytes() {
+                return Some(number as u32);
+            }
+        }
+        None
+    }
+
+    /// The name of each relation with the kinds of its columns.
+    pub fn headings(&self) -> &Headings
+        ensures headings { result.now ≡ self.now }
+        ensures bound { length self.now ≤ 64 }
+    {
+        &self.headings
+    }
+
+    /// The kinds of a relation's columns, none where it isn't there.
+    pub fn columns(&self, name: &Name) -> &[Kind]
+        ensures { result.now ≡ columns_of self.now name.now }
+    {
+        match self.find(name) {
+            Some(number) => self.headings.as_slice()[number as usize].1.as_slice(),
+            None => &[],
+        }
+    }
+
+    /// One relation more, and its number. An error leaves the schema as it was.
+    pub fn declare(&mut self, name: Name, kinds: KindList) -> Result<u32, DeclareFault>
+        ensures ok { IfOk result (λ number. (number ≡ length self.old) × (self.new ≡ self.old ++ (name, kinds) ∷ [])) }
+        ensures room { OnOk result (length self.old < 64) }
+        ensures taken { IsErrOf result DeclareFault.Taken ↔ IsSome (number_of self.old name) }
+        ensures full { IsErrOf result DeclareFault.Full ↔ ((number_of self.old name ≡ None) × (length self.old ≡ 64)) }
+        ensures err { OnErr result (self.new ≡ self.old) }
+    {
+        if self.find(&name).is_some() {
+            return Err(DeclareFault::Taken);
+        }
+        let number = self.headings.len();
+        if number == MOST_RELATIONS {
+            return Err(DeclareFault::Full);
+        }
+        self.headings.push((name, kinds))?;
+        Ok(number as u32)
+    }
+}

@@ -1,0 +1,143 @@
+//! The check of one statement.
+ghost use Rattle.std.specs.Prelude.{◌≡◌, IfOk, IfErr, None, length};
+ghost use Rattle.std.specs.List.{list_all, list_any};
+ghost use Rattle.lt_model.specs.Bound.{is_bound};
+ghost use Rattle.lt_model.specs.Check.{is_unknown, is_misfit, choice_fits, code_of, normal, normal_with, kind_of};
+ghost use Rattle.lt_model.specs.Variables as model;
+ghost use Rattle.lt_model.specs.Variables.{variables, place_of};
+ghost use Rattle.lt_model.specs.Limits.{ArePrintedWithin, IsStatementWithin};
+ghost use Rattle.lt_check.specs.Narrowing.{completed, Settles};
+ghost use Rattle.lt_check.specs.Outcome.{IsCode};
+ghost use Rattle.lt_check.specs.Seen.{seen};
+
+use crate::bound::Bound;
+use crate::check::CheckFault;
+use crate::kinds::{Known, settled};
+use crate::names::Names;
+use crate::normal_form::{atom, body as normal_body, numbered};
+use crate::occurrences::{atoms_of, body_of, places_of};
+use crate::schema::Schema;
+use lt_face::memory::NoMemory;
+use lt_model::name::Name;
+use lt_model::syntax::{Head, Statement};
+use lt_query::{Body, Stmt};
+use std::alloc::Global;
+
+fn bad(code: u32, statement: u32) -> Result<Stmt, CheckFault>
+    ensures { result ≡ Err (CheckFault.Bad code statement) }
+{
+    Err(CheckFault::Bad { code, statement })
+}
+
+// Whether a relation isn't there.
+fn has_unknown(schema: &Schema, atoms: &[&Head]) -> bool
+    ensures { result ≡ list_any (is_unknown schema.now) (seen atoms.now) }
+{
+    for atom in atoms {
+        if schema.find(&atom.relation).is_none() {
+            return true;
+        }
+    }
+    false
+}
+
+// Whether an atom has another number of arguments than its relation has columns.
+fn has_misfit(schema: &Schema, atoms: &[&Head]) -> bool
+    ensures { result ≡ list_any (is_misfit schema.now) (seen atoms.now) }
+{
+    for atom in atoms {
+        if atom.terms.len() != schema.columns(&atom.relation).len() {
+            return true;
+        }
+    }
+    false
+}
+
+fn with_body(
+    alloc: Global,
+    schema: &Schema,
+    names: &Names,
+    known: &Known,
+    statement: &Statement,
+    body: Body,
+) -> Result<Stmt, NoMemory>
+    requires { ArePrintedWithin statement.now }
+    ensures { IfOk result (λ stmt. stmt ≡ normal_with schema.now names.now body (kind_of names.now (completed known.now)) statement.now) }
+{
+    match statement {
+        Statement::Insert { head, .. } => Ok(Stmt::Insert {
+            head: atom(alloc, schema, names, head)?,
+            body,
+        }),
+        Statement::Delete { head, .. } => Ok(Stmt::Delete {
+            head: atom(alloc, schema, names, head)?,
+            body,
+        }),
+        Statement::Replace { gone, come, .. } => Ok(Stmt::Replace {
+            gone: atom(alloc, schema, names, gone)?,
+            come: atom(alloc, schema, names, come)?,
+            body,
+        }),
+        Statement::Need { some, .. } => Ok(Stmt::Need { some: *some, body }),
+        Statement::Print { terms, .. } => Ok(Stmt::Print {
+            terms: numbered(alloc, names, terms.as_slice())?,
+            kinds: known.kinds(alloc, names, terms.as_slice())?,
+            body,
+        }),
+    }
+}
+
+// Kinds by which the statement's conditions fit.
+fn kinds_of(
+    alloc: Global,
+    schema: &Schema,
+    names: &Names,
+    atoms: &[&Head],
+    statement: &Statement,
+) -> Result<Option<Known>, NoMemory>
+    requires names { names.now ≡ variables statement.now }
+    requires atoms { seen atoms.now ≡ model.atoms_of statement.now }
+    ensures { IfOk result (λ found. Settles (choice_fits schema.now statement.now) (length names.now) found) }
+{
+    settled(alloc, schema, names, atoms, body_of(statement))
+}
+
+// Whether the body binds each of these variables.
+#[tactic(auto, using(crate::proofs::Binding::all_alike))]
+fn binds(alloc: Global, body: &Body, names: &Names, places: &[&Name]) -> Result<bool, NoMemory>
+    ensures { IfOk result (λ all. all ≡ list_all (λ name. is_bound body.now (place_of names.now name)) (seen places.now)) }
+{
+    let bound = Bound::by(alloc, body)?;
+    Ok(bound.has_all(names, places))
+}
+
+/// The normal form of the statement of this number, or its first code.
+pub fn check_statement(
+    alloc: Global,
+    schema: &Schema,
+    statement: &Statement,
+    number: u32,
+) -> Result<Stmt, CheckFault>
+    requires { IsStatementWithin statement.now }
+    ensures good { IfOk result (λ stmt. (code_of schema.now statement.now ≡ None) × (stmt ≡ normal schema.now statement.now)) }
+    ensures bad { IfErr result (λ fault. IsCode (code_of schema.now statement.now) number fault) }
+{
+    let atoms = atoms_of(alloc, statement)?;
+    if has_unknown(schema, &atoms) {
+        return bad(20, number);
+    }
+    if has_misfit(schema, &atoms) {
+        return bad(21, number);
+    }
+    let places = places_of(alloc, statement)?;
+    let names = Names::of(alloc, &places)?;
+    let Some(known) = kinds_of(alloc, schema, &names, &atoms, statement)? else {
+        return bad(22, number);
+    };
+    let body = normal_body(alloc, schema, &names, body_of(statement))?;
+    if !binds(alloc, &body, &names, &places)? {
+        return bad(23, number);
+    }
+    let stmt = with_body(alloc, schema, &names, &known, statement, body)?;
+    Ok(stmt)
+}
