@@ -1,0 +1,9 @@
+pub mod OwnOrder
+pub mod Elements
+pub mod Kept
+pub mod Nexts
+pub mod Sorts
+pub mod Grown
+pub mod Finds
+pub mod States
+pub mod Replaced

@@ -1,0 +1,7 @@
+use Rattle.std.proofs.Common.{◌≢◌, take}
+use Rattle.std.specs.List.{AllByRecursion}
+use Rattle.lt_model.specs.declared.mark.Mark.{Mark}
+use Rattle.lt_base.proofs.database.is_named.Given as goal
+
+abbrev pub invariant-loop-mark : goal.invariant-loop-mark
+invariant-loop-mark l = AllByRecursion (λ (m : Mark). m.relation ≢ l.relation) (take l.mark-index l.mark-items)

@@ -1,0 +1,31 @@
+-- Indexes of a relation's rows, and marks laid on them.
+use Rattle.std.specs.Prelude.{◌≡◌, ℕ, List, map}
+use Rattle.lt_face.specs.Lists.{IsIn}
+use Rattle.lt_face.specs.State.{Row, permuted}
+use Rattle.lt_model.specs.declared.mark.Mark.{Mark}
+use Rattle.lt_model.specs.Marks.{Marks}
+use Rattle.lt_delta.specs.Laying.{rows_laid}
+use Rattle.lt_base.specs.declared.index.Index.{Index}
+use Rattle.lt_base.specs.Columns.{IsPermOf}
+
+-- the same rows, each with its cells in the order of the columns
+pub record IsPermuted (width : ℕ) (columns : List ℕ) (rows index : List Row) : Type 0 where
+  pub perm : IsPermOf width columns
+  pub there : (row : Row) → IsIn row rows → IsIn (permuted columns row) index
+  pub from : (r : Row) → IsIn r index → (row : Row) × IsIn row rows × (permuted columns row ≡ r)
+
+-- an index of a relation of this width and these rows
+pub record IsIndexed (width : ℕ) (rows : List Row) (index : Index) : Type 0 where
+  pub wide : index.rows.width ≡ width
+  pub same : IsPermuted width index.columns rows index.rows.rows
+
+-- a mark on the row as an index has it
+abbrev pub permuted_mark : List ℕ → Mark → Mark
+permuted_mark columns m = record { relation = m.relation; row = permuted columns m.row; plus = m.plus }
+
+-- the index with the marks of its relation laid on it
+abbrev pub index_laid : ℕ → Marks → Index → Index
+index_laid relation marks index = record {
+  columns = index.columns;
+  rows = record { width = index.rows.width; rows = rows_laid relation index.rows.rows (map (permuted_mark index.columns) marks) };
+}

@@ -1,0 +1,4 @@
+pub mod Columns
+pub mod Tables
+pub mod Indexed
+pub mod Shown

@@ -1,0 +1,224 @@
+//! `Database`: relations by number.
+ghost use Rattle.std.specs.Prelude.{◌≡◌, ◌≢◌, ◌<◌, ◌≤◌, ◌^◌, ◌||◌, ◌&&◌, ◌==◌, ℕ, List, Bool, true, false, [], ◌∷◌, ◌++◌, map, length, nat_lt, is_some, option_map, slice_get, IfOk, IfSome, IsTrue};
+ghost use Rattle.std.specs.Arc.{arc_value};
+ghost use Rattle.std.specs.List.{AllByRecursion};
+ghost use Rattle.std.specs.Option.{option_copied};
+ghost use Rattle.lt_face.specs.Rows.{IsRow, has_row};
+ghost use Rattle.lt_face.specs.State.{rows_in, row_eq};
+ghost use Rattle.lt_model.specs.declared.mark.Mark.{Mark as MarkType};
+ghost use Rattle.lt_model.specs.Fits.{FitMarks, IsWide};
+ghost use Rattle.lt_model.specs.Marks.{laid};
+ghost use Rattle.lt_delta.specs.Laying.{rows_laid};
+ghost use Rattle.lt_base.specs.Columns.{IsPermOf};
+ghost use Rattle.lt_base.specs.Tables.{Table, state_of, has_index};
+ghost use Rattle.lt_base.specs.Shown.{set_of, table_laid, tables_laid};
+
+use crate::relation::Relation;
+use lt_delta::Marks;
+use lt_face::indexes::Indexes;
+use lt_face::items::Perm;
+use lt_face::memory::NoMemory;
+use lt_face::row::Row;
+use lt_face::row_set::RowReads;
+use lt_flat::FlatRows;
+use std::alloc::Global;
+use std::marker::Model;
+use std::sync::Arc;
+
+/// The rows of a relation, or of an index.
+pub type Rows = FlatRows;
+
+/// Relations by number, from 0 on. Databases share the relations in which they don't differ.
+#[derive(Drop)]
+pub struct Database {
+    relations: Vec<Arc<Relation>>,
+}
+
+impl Model for Database {
+    ghost use Rattle.std.specs.Prelude.{List, map};
+    ghost use Rattle.std.specs.Arc.{arc_value};
+    ghost use Rattle.lt_base.specs.Tables.{Table};
+
+    ghost Value = { List Table };
+
+    ghost view = { λ d. map arc_value d.relations.items };
+}
+
+/// Whether a mark names the relation.
+fn is_named(marks: &Marks, relation: usize) -> bool
+    ensures named { IsTrue result → relation < 2 ^ 32 }
+    ensures unnamed { result ≡ false → AllByRecursion (λ (m : MarkType). m.relation ≢ relation) marks.now }
+{
+    for mark in marks.as_slice() {
+        if mark.relation as usize == relation {
+            return true;
+        }
+    }
+    false
+}
+
+/// The relation of this number with the marks laid on it. Where none names it, it is shared.
+fn relation_laid(
+    alloc: Global,
+    relation: &Arc<Relation>,
+    number: usize,
+    marks: &Marks,
+) -> Result<Arc<Relation>, NoMemory>
+    requires { AllByRecursion (λ (m : MarkType). m.relation ≡ number → IsRow (arc_value relation.now).width m.row) marks.now }
+    ensures { IfOk result (λ laid. arc_value laid ≡ table_laid number (arc_value relation.now) marks.now) }
+{
+    if !is_named(marks, number) {
+        let same = relation.clone()?;
+        return Ok(same);
+    }
+    let laid = relation.laid(number as u32, marks)?;
+    let laid = Arc::new(alloc, laid)?;
+    Ok(laid)
+}
+
+/// The same relations, with second owners.
+fn shared(relations: &Vec<Arc<Relation>>) -> Result<Vec<Arc<Relation>>, NoMemory>
+    ensures { IfOk result (λ shared. map arc_value shared.items ≡ map arc_value relations.now.items) }
+{
+    let mut shared = Vec::new(*relations.allocator());
+    for relation in relations {
+        let relation = relation.clone()?;
+        shared.push(relation)?;
+    }
+    Ok(shared)
+}
+
+impl Database {
+    /// The database without relations.
+    pub fn empty(alloc: Global) -> Database
+        ensures { result ≡ [] }
+    {
+        Database {
+            relations: Vec::new(alloc),
+        }
+    }
+
+    /// The database with one more relation, of this width and without rows. Its number is the old count.
+    pub fn declared(&self, width: usize) -> Result<Database, NoMemory>
+        requires { (1 ≤ width) × (width ≤ 8) }
+        ensures tables { IfOk result (λ db. db ≡ self.now ++ record { width = width; rows = []; others = [] } ∷ []) }
+        ensures state { IfOk result (λ db. state_of db ≡ state_of self.now ++ record { width = width; rows = [] } ∷ []) }
+    {
+        let alloc = *self.relations.allocator();
+        let mut relations = shared(&self.relations)?;
+        let empty = Relation::empty(alloc, width)?;
+        let empty = Arc::new(alloc, empty)?;
+        relations.push(empty)?;
+        Ok(Database { relations })
+    }
+
+    /// How many relations there are.
+    pub fn count(&self) -> usize
+        ensures { result ≡ length (state_of self.now) }
+    {
+        self.relations.len()
+    }
+
+    /// The relation of this number.
+    fn relation(&self, number: u32) -> Option<&Relation>
+        ensures { option_copied result ≡ slice_get self.now number }
+    {
+        let place = number as usize;
+        if place >= self.relations.len() {
+            return None;
+        }
+        let relation: &Relation = &self.relations[place];
+        Some(relation)
+    }
+
+    /// The rows of a relation.
+    pub fn rows(&self, relation: u32) -> Option<&Rows>
+        ensures { option_map set_of (option_copied result) ≡ slice_get (state_of self.now) relation }
+    {
+        match self.relation(relation) {
+            Some(relation) => Some(relation.rows()),
+            None => None,
+        }
+    }
+
+    /// Whether a relation has the row.
+    pub fn has(&self, relation: u32, row: &Row) -> bool
+        ensures { result ≡ has_row (rows_in (state_of self.now) relation) row.now }
+    {
+        match self.rows(relation) {
+            Some(rows) => rows.has(row),
+            None => false,
+        }
+    }
+
+    /// The same relations, one of them with an index on its columns in this order, made by one sort. A database that
+    /// has the index already is shared.
+    pub fn with_index(&self, relation: u32, perm: &Perm) -> Result<Database, NoMemory>
+        requires there { relation < length (state_of self.now) }
+        requires perm { (width : ℕ) → IsWide (state_of self.now) relation width → IsPermOf width perm.now }
+        ensures state { IfOk result (λ db. state_of db ≡ state_of self.now) }
+        ensures indexes { IfOk result (λ db. (r : ℕ) (columns : List ℕ) →
+            has_index db r columns ≡ (has_index self.now r columns || (r == relation && row_eq columns perm.now))) }
+        ensures same { IfOk result (λ db. has_index self.now relation perm.now ≡ true → db ≡ self.now) }
+    {
+        if self.index(relation, perm).is_some() {
+            let same = self.share()?;
+            return Ok(same);
+        }
+        let place = relation as usize;
+        let alloc = *self.relations.allocator();
+        let mut relations = shared(&self.relations)?;
+        let indexed = relations[place].with_index(perm)?;
+        let indexed = Arc::new(alloc, indexed)?;
+        relations[place] = indexed;
+        Ok(Database { relations })
+    }
+
+    /// The database with the marks laid on each index of their relations.
+    pub fn laid(&self, marks: &Marks) -> Result<Database, NoMemory>
+        requires { FitMarks (state_of self.now) marks.now }
+        ensures state { IfOk result (λ db. state_of db ≡ laid (state_of self.now) marks.now) }
+        ensures indexes { IfOk result (λ db. (relation : ℕ) (columns : List ℕ) →
+            has_index db relation columns ≡ has_index self.now relation columns) }
+    {
+        let relations = all_laid(&self.relations, marks)?;
+        Ok(Database { relations })
+    }
+
+    /// A second owner of the same relations and indexes.
+    pub fn share(&self) -> Result<Database, NoMemory>
+        ensures { IfOk result (λ db. db ≡ self.now) }
+    {
+        let relations = shared(&self.relations)?;
+        Ok(Database { relations })
+    }
+}
+
+/// The relations with the marks laid on them.
+fn all_laid(relations: &Vec<Arc<Relation>>, marks: &Marks) -> Result<Vec<Arc<Relation>>, NoMemory>
+    requires { FitMarks (state_of (map arc_value relations.now.items)) marks.now }
+    ensures { IfOk result (λ laid. map arc_value laid.items ≡ tables_laid 0 (map arc_value relations.now.items) marks.now) }
+{
+    let alloc = *relations.allocator();
+    let mut laid = Vec::new(alloc);
+    for (number, relation) in relations.iter().enumerate() {
+        let relation = relation_laid(alloc, relation, number, marks)?;
+        laid.push(relation)?;
+    }
+    Ok(laid)
+}
+
+impl Indexes for Database {
+    type Rows = Rows;
+
+    ghost state = { state_of };
+
+    ghost has_index = { has_index };
+
+    fn index(&self, relation: u32, perm: &Perm) -> Option<&Rows> {
+        match self.relation(relation) {
+            Some(relation) => relation.index(perm),
+            None => None,
+        }
+    }
+}

@@ -1,0 +1,12 @@
+//! A database: relations with their rows, each in one or more orders of its columns.
+#![tactic(auto)]
+
+mod columns;
+mod database;
+mod index;
+mod relation;
+#[cfg(test)]
+mod tests;
+mod walk;
+
+pub use database::{Database, Rows};

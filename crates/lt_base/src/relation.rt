@@ -1,0 +1,139 @@
+//! A relation of a database.
+ghost use Rattle.std.specs.Prelude.{◌≡◌, ◌≤◌, [], ◌∷◌, ◌++◌, map, IfOk, IfSome, is_some};
+ghost use Rattle.std.specs.List.{AllByRecursion, list_any};
+ghost use Rattle.lt_face.specs.Rows.{IsRow};
+ghost use Rattle.lt_face.specs.Lists.{IsIn};
+ghost use Rattle.lt_face.specs.State.{IsIndexOf, row_eq};
+ghost use Rattle.lt_model.specs.declared.mark.Mark.{Mark as MarkType};
+ghost use Rattle.lt_delta.specs.Laying.{rows_laid};
+ghost use Rattle.lt_base.specs.Columns.{IsPermOf};
+ghost use Rattle.lt_base.specs.Tables.{relation_of, has_columns};
+ghost use Rattle.lt_base.specs.Indexed.{IsIndexed, index_laid};
+
+use crate::columns::{is_own_order, is_same_order};
+use crate::database::Rows;
+use crate::index::Index;
+use lt_delta::{Mark, Marks};
+use lt_face::items::Perm;
+use lt_face::memory::NoMemory;
+use lt_face::row_set::{RowReads, RowSet};
+use std::alloc::Global;
+use std::marker::Model;
+
+/// The rows with their cells in the order of the columns, and the same rows in other orders.
+#[derive(Drop)]
+pub(crate) struct Relation {
+    first: Rows,
+    others: Vec<Index>,
+}
+
+impl Model for Relation {
+    ghost use Rattle.std.specs.Prelude.{◌≤◌, map};
+    ghost use Rattle.std.specs.List.{AllByRecursion};
+    ghost use Rattle.lt_base.specs.Tables.{Table};
+    ghost use Rattle.lt_base.specs.Indexed.{IsIndexed};
+
+    ghost Value = { Table };
+
+    ghost view = { λ r. record { width = r.first.width; rows = r.first.rows; others = map (λ i. i.columns) r.others.items } };
+
+    ghost invariant = { λ r. (1 ≤ r.first.width) × AllByRecursion (IsIndexed r.first.width r.first.rows) r.others.items };
+}
+
+/// The index on these columns among others.
+fn found<'a>(others: &'a [Index], perm: &Perm) -> Option<&'a Index>
+    ensures there { is_some result ≡ list_any (row_eq perm.now) (map (λ i. i.columns) others.now) }
+    ensures found { IfSome result (λ index. (index.now.columns ≡ perm.now) × IsIn index.now others.now) }
+{
+    for index in others {
+        if is_same_order(index.columns.as_slice(), perm.as_slice()) {
+            return Some(index);
+        }
+    }
+    None
+}
+
+/// The indexes with the marks of their relation laid on them.
+fn all_laid(others: &Vec<Index>, relation: u32, marks: &[Mark]) -> Result<Vec<Index>, NoMemory>
+    requires perms { AllByRecursion (λ index. IsPermOf index.rows.width index.columns) others.now.items }
+    requires fit { AllByRecursion (λ index. AllByRecursion (λ (m : MarkType). m.relation ≡ relation → IsRow index.rows.width m.row) marks.now) others.now.items }
+    ensures { IfOk result (λ laid. laid.items ≡ map (index_laid relation marks.now) others.now.items) }
+{
+    let mut laid = Vec::new(*others.allocator());
+    for index in others {
+        let index = index.laid(relation, marks)?;
+        laid.push(index)?;
+    }
+    Ok(laid)
+}
+
+/// The same indexes, each with a second owner of its rows.
+fn all_shared(others: &Vec<Index>) -> Result<Vec<Index>, NoMemory>
+    ensures { IfOk result (λ shared. shared.items ≡ others.now.items) }
+{
+    let mut shared = Vec::new(*others.allocator());
+    for index in others {
+        let index = index.share()?;
+        shared.push(index)?;
+    }
+    Ok(shared)
+}
+
+impl Relation {
+    /// A relation of this width, without rows.
+    pub(crate) fn empty(alloc: Global, width: usize) -> Result<Relation, NoMemory>
+        requires { (1 ≤ width) × (width ≤ 8) }
+        ensures { IfOk result (λ relation. relation ≡ record { width = width; rows = []; others = [] }) }
+    {
+        let first = Rows::empty(alloc, width)?;
+        Ok(Relation {
+            first,
+            others: Vec::new(alloc),
+        })
+    }
+
+    /// The rows, with their cells in the order of the columns.
+    pub(crate) fn rows(&self) -> &Rows
+        ensures width { result.now.width ≡ self.now.width }
+        ensures rows { result.now.rows ≡ self.now.rows }
+    {
+        &self.first
+    }
+
+    /// The rows with their cells in this order of the columns, where there is such an index.
+    pub(crate) fn index(&self, perm: &Perm) -> Option<&Rows>
+        ensures there { is_some result ≡ has_columns self.now perm.now }
+        ensures rows { IfSome result (λ found. IsIndexOf (relation_of self.now ∷ []) 0 perm.now found.now.width found.now.rows) }
+    {
+        if is_own_order(perm.as_slice(), self.first.width()) {
+            return Some(&self.first);
+        }
+        match found(&self.others, perm) {
+            Some(index) => Some(&index.rows),
+            None => None,
+        }
+    }
+
+    /// The relation with one more index.
+    pub(crate) fn with_index(&self, perm: &Perm) -> Result<Relation, NoMemory>
+        requires { IsPermOf self.now.width perm.now }
+        ensures { IfOk result (λ relation. relation ≡ record self.now { others = self.now.others ++ perm.now ∷ [] }) }
+    {
+        let first = self.first.share()?;
+        let mut others = all_shared(&self.others)?;
+        let index = Index::on(&first, perm)?;
+        others.push(index)?;
+        Ok(Relation { first, others })
+    }
+
+    /// The relation of this number with the marks laid on all its indexes.
+    pub(crate) fn laid(&self, number: u32, marks: &Marks) -> Result<Relation, NoMemory>
+        requires { AllByRecursion (λ (m : MarkType). m.relation ≡ number → IsRow self.now.width m.row) marks.now }
+        ensures { IfOk result (λ relation. relation ≡ record self.now { rows = rows_laid number self.now.rows marks.now }) }
+    {
+        let _width = self.first.width();
+        let first = marks.lay_on(number, &self.first)?;
+        let others = all_laid(&self.others, number, marks.as_slice())?;
+        Ok(Relation { first, others })
+    }
+}

@@ -1,0 +1,33 @@
+-- Marks laid on a relation's rows are those rows in the laid state.
+use Rattle.std.proofs.Common.{◌≡◌, ◌≢◌, ℕ, zero, suc, ◌<◌, List, [], ◌∷◌, length, inl, inr, refl, sym, ap, ◌∙◌, arith}
+use Rattle.std.specs.Prelude.{if◌then◌else◌}
+use Rattle.std.proofs.lemmas.Bool.Decides.{eqb_tells}
+use Rattle.lt_face.specs.State.{Row, State, rows_in}
+use Rattle.lt_model.specs.declared.mark.Mark.{Mark}
+use Rattle.lt_model.specs.Marks.{Marks, change, write, lay, laid}
+use Rattle.lt_model.proofs.Laws.{change_length}
+use Rattle.lt_delta.specs.Laying.{row_laid, rows_laid}
+
+changed_at : (n : ℕ) (f : List Row → List Row) (state : State) → n < length state → rows_in (change n f state) n ≡ f (rows_in state n)
+changed_at n f [] h = absurd (omega arith)
+changed_at zero f (relation ∷ state) h = refl
+changed_at (suc n) f (relation ∷ state) h = changed_at n f state (omega arith)
+
+changed_off : (n k : ℕ) (f : List Row → List Row) (state : State) → n ≢ k → rows_in (change n f state) k ≡ rows_in state k
+changed_off n k f [] h = refl
+changed_off zero zero f (relation ∷ state) h = absurd (h refl)
+changed_off zero (suc k) f (relation ∷ state) h = refl
+changed_off (suc n) zero f (relation ∷ state) h = refl
+changed_off (suc n) (suc k) f (relation ∷ state) h = changed_off n k f state (λ e. h (ap suc e))
+
+row_in : (state : State) (m : Mark) (relation : ℕ) → relation < length state → rows_in (lay state m) relation ≡ row_laid relation (rows_in state relation) m
+row_in state m relation h = elim (eqb_tells m.relation relation) [
+  | inl e ↦ ap (λ (n : ℕ). rows_in (change n (write m) state) relation) e.1 ∙ changed_at relation (write m) state h ∙ ap (λ b. if b then write m (rows_in state relation) else rows_in state relation) (sym e.0)
+  | inr e ↦ changed_off m.relation relation (write m) state e.1 ∙ ap (λ b. if b then write m (rows_in state relation) else rows_in state relation) (sym e.0)
+]
+
+pub rows_in_laid : (state : State) (marks : Marks) (relation : ℕ) → relation < length state → rows_in (laid state marks) relation ≡ rows_laid relation (rows_in state relation) marks
+rows_in_laid state [] relation h = refl
+rows_in_laid state (m ∷ marks) relation h =
+    rows_in_laid (lay state m) marks relation (omega (arith, h, change_length m.relation (write m) state))
+    ∙ ap (λ (rows : List Row). rows_laid relation rows marks) (row_in state m relation h)

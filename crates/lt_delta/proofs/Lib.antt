@@ -1,0 +1,7 @@
+pub mod MarkOrder
+pub mod Merges
+pub mod Words
+pub mod Ends
+pub mod Composes
+pub mod Laid
+pub mod Kept

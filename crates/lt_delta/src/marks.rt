@@ -1,0 +1,121 @@
+//! `Marks`: a list of marks, shared by count.
+ghost use Rattle.std.specs.Prelude.{◌≡◌, ◌<◌, ◌↔◌, [], length, slice_get, Some, IfOk, IsTrue};
+ghost use Rattle.lt_model.specs.Marks.{AreMarks, and_then};
+
+use crate::merging::merged;
+use crate::order::is_same;
+use crate::sorting::settled;
+use lt_face::memory::NoMemory;
+use lt_model::mark::{Mark, MarkList};
+use std::alloc::Global;
+use std::marker::Model;
+use std::sync::Arc;
+
+/// Marks, strictly ascending by (relation, row): one for each row at most.
+#[derive(Drop)]
+pub struct Marks {
+    list: Arc<Vec<Mark>>,
+}
+
+impl Model for Marks {
+    ghost use Rattle.std.specs.Prelude.{List};
+    ghost use Rattle.std.specs.Arc.{arc_value};
+    ghost use Rattle.lt_model.specs.declared.mark.Mark.{Mark};
+    ghost use Rattle.lt_model.specs.Marks.{AreMarks};
+
+    ghost Value = { List Mark };
+
+    ghost view = { λ m. (arc_value m.list).items };
+
+    ghost invariant = { λ m. AreMarks (arc_value m.list).items };
+}
+
+impl Marks {
+    /// No marks.
+    pub fn empty(alloc: Global) -> Result<Marks, NoMemory>
+        ensures { IfOk result (λ marks. marks ≡ []) }
+    {
+        let list = Arc::new(alloc, Vec::new(alloc))?;
+        Ok(Marks { list })
+    }
+
+    /// The marks of a list, in order. Of several on one row the last stays.
+    pub fn from_list(list: MarkList) -> Result<Marks, NoMemory>
+        ensures { IfOk result (λ marks. marks ≡ and_then [] list) }
+    {
+        let alloc = list.allocator();
+        let marks = settled(list.into_vec())?;
+        let list = Arc::new(alloc, marks)?;
+        Ok(Marks { list })
+    }
+
+    /// A second owner of the same marks.
+    pub fn share(&self) -> Result<Marks, NoMemory>
+        ensures { IfOk result (λ marks. marks ≡ self.now) }
+    {
+        let list = self.list.clone()?;
+        Ok(Marks { list })
+    }
+
+    /// The marks of both, the second's where both have one on a row.
+    pub fn and_then(first: &Marks, second: &Marks) -> Result<Marks, NoMemory>
+        ensures { IfOk result (λ marks. marks ≡ and_then first.now second.now) }
+    {
+        if second.len() == 0 {
+            return first.share();
+        }
+        if first.len() == 0 {
+            return second.share();
+        }
+        let alloc = *first.list.allocator();
+        let marks = merged(alloc, &first.list, &second.list)?;
+        let list = Arc::new(alloc, marks)?;
+        Ok(Marks { list })
+    }
+
+    /// How many marks there are. They ascend strictly.
+    pub fn len(&self) -> usize
+        ensures count { result ≡ length self.now }
+        ensures ascending { AreMarks self.now }
+    {
+        self.list.len()
+    }
+
+    /// The mark at a place in their order.
+    pub fn mark(&self, i: usize) -> &Mark
+        requires { i < length self.now }
+        ensures { slice_get self.now i ≡ Some result.now }
+    {
+        &self.list[i]
+    }
+
+    /// All marks in their order.
+    pub fn as_slice(&self) -> &[Mark]
+        ensures marks { result.now ≡ self.now }
+        ensures ascending { AreMarks self.now }
+    {
+        &self.list
+    }
+
+    /// Whether both have the same marks.
+    pub fn equal(first: &Marks, second: &Marks) -> bool
+        ensures { IsTrue result ↔ (first.now ≡ second.now) }
+    {
+        are_same(&first.list, &second.list)
+    }
+}
+
+/// Whether two lists have the same marks.
+fn are_same(a: &[Mark], b: &[Mark]) -> bool
+    ensures { IsTrue result ↔ (a.now ≡ b.now) }
+{
+    if a.len() != b.len() {
+        return false;
+    }
+    for (i, x) in a.iter().enumerate() {
+        if !is_same(x, &b[i]) {
+            return false;
+        }
+    }
+    true
+}
