@@ -1,0 +1,14 @@
+pub mod RowTerms
+pub mod KnownValues
+pub mod SortedRows
+pub mod Walking
+pub mod WholePicks
+pub mod Loops
+pub mod LaidRows
+pub mod MarkedRows
+pub mod BoundCells
+pub mod RunSteps
+pub mod BareStates
+pub mod Ready
+pub mod FittingSamples
+pub mod FittingRuns

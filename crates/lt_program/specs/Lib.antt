@@ -1,0 +1,5 @@
+pub mod Values
+pub mod Walk
+pub mod Effect
+pub mod Run
+pub mod Samples

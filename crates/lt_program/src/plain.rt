@@ -1,0 +1,126 @@
+//! The run of a program, computed as it is defined.
+ghost use Rattle.std.specs.Prelude.{◌≡◌, ◌≤◌, [], length, IfOk, if◌then◌else◌};
+ghost use Rattle.std.specs.List.{AllByRecursion, list_any};
+ghost use Rattle.lt_face.specs.State.{State};
+ghost use Rattle.lt_model.specs.Fits.{FitMarks};
+ghost use Rattle.lt_model.specs.Laws.{Rises};
+ghost use Rattle.lt_model.specs.Run.{run};
+ghost use Rattle.lt_program.specs.Effect.{IsReady};
+ghost use Rattle.lt_program.specs.Run.{AreReplied, IsFitting, lists, body_in, reads_rows};
+ghost use Rattle.lt_program.specs.Walk.{AreCells, bare};
+
+use crate::effect::effect_on;
+use crate::progress::Progress;
+use lt_delta::Marks;
+use lt_face::items::{Items, RowList};
+use lt_face::memory::NoMemory;
+use lt_face::row::Row;
+use lt_model::normal::{Body, Prog, Stmt};
+use lt_model::reply::Reply;
+use std::alloc::Global;
+
+/// An equal list of rows.
+fn copied(alloc: Global, rows: &[Row]) -> Result<RowList, NoMemory>
+    ensures { IfOk result (λ copy. copy ≡ rows.now) }
+{
+    let mut copy = Items::new(alloc);
+    for row in rows {
+        copy.push(row.copy_row())?;
+    }
+    Ok(copy)
+}
+
+/// Equal lists of rows.
+fn all_copied(alloc: Global, relations: &[RowList]) -> Result<Vec<RowList>, NoMemory>
+    ensures { IfOk result (λ copies. copies.items ≡ relations.now) }
+{
+    let mut copies = Vec::new(alloc);
+    for rows in relations {
+        let copy = copied(alloc, rows.as_slice())?;
+        copies.push(copy)?;
+    }
+    Ok(copies)
+}
+
+/// The conditions of a statement.
+fn body_of(stmt: &Stmt) -> &Body
+    ensures { result.now ≡ body_in stmt.now }
+{
+    match stmt {
+        Stmt::Insert { body, .. } => body,
+        Stmt::Delete { body, .. } => body,
+        Stmt::Replace { body, .. } => body,
+        Stmt::Need { body, .. } => body,
+        Stmt::Print { body, .. } => body,
+    }
+}
+
+/// Whether some statement reads a relation.
+fn reads(prog: &[Stmt]) -> bool
+    ensures { result ≡ list_any reads_rows prog.now }
+{
+    for stmt in prog {
+        if body_of(stmt).atoms.len() > 0 {
+            return true;
+        }
+    }
+    false
+}
+
+/// The relations that a run works on: copies of these, or none where the program reads none. So a program that only
+/// inserts what it names doesn't pay for the rows that are there.
+fn working(alloc: Global, prog: &[Stmt], rows: &[RowList]) -> Result<Vec<RowList>, NoMemory>
+    ensures { IfOk result (λ copies. copies.items ≡ (if list_any reads_rows prog.now then rows.now else [])) }
+{
+    if reads(prog) {
+        let copies = all_copied(alloc, rows)?;
+        Ok(copies)
+    } else {
+        Ok(Vec::new(alloc))
+    }
+}
+
+/// The run of a program on relations that it may change.
+fn run_on(alloc: Global, prog: &[Stmt], relations: Vec<RowList>) -> Result<(Reply, Marks), NoMemory>
+    requires few { length prog.now ≤ 64 }
+    requires ready { AllByRecursion IsReady prog.now }
+    requires rises { Rises (bare relations.items) }
+    requires cells { AreCells relations.items }
+    ensures reply { IfOk result (λ out. out.0 ≡ (run prog.now (bare relations.items)).0) }
+    ensures marks { IfOk result (λ out. out.1 ≡ (run prog.now (bare relations.items)).1) }
+{
+    let mut progress = Progress {
+        relations,
+        marks: Marks::empty(alloc)?,
+        prints: Items::new(alloc),
+    };
+    for (i, stmt) in prog.iter().enumerate() {
+        let number = i as u32 + 1;
+        let effect = effect_on(alloc, &progress.relations, stmt)?;
+        let met = progress.accept(number, effect)?;
+        if !met {
+            let none = Marks::empty(alloc)?;
+            return Ok((Reply::Refused(number), none));
+        }
+    }
+    let Progress {
+        relations: _,
+        marks,
+        prints,
+    } = progress;
+    Ok((Reply::Done(prints), marks))
+}
+
+/// The reply of a program on relations with these rows, and its marks.
+pub fn run_plain(alloc: Global, prog: &Prog, rows: &[RowList]) -> Result<(Reply, Marks), NoMemory>
+    requires { IsFitting rows.now prog.now }
+    ensures reply { IfOk result (λ out. (state : State) → lists state ≡ rows.now → out.0 ≡ (run prog.now state).0) }
+    ensures marks { IfOk result (λ out. (state : State) → lists state ≡ rows.now → out.1 ≡ (run prog.now state).1) }
+    ensures fits { IfOk result (λ out. (fitting : IsFitting rows.now prog.now) → FitMarks fitting.state out.1) }
+    ensures printed { IfOk result (λ out. AreReplied out.0) }
+{
+    let prog = prog.as_slice();
+    let relations = working(alloc, prog, rows)?;
+    let out = run_on(alloc, prog, relations)?;
+    Ok(out)
+}
