@@ -1,0 +1,9 @@
+pub mod Joining
+pub mod Rows
+pub mod Relations
+pub mod Batches
+pub mod Running
+pub mod Folds
+pub mod Shown
+pub mod Fronts
+pub mod Taking
