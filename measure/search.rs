@@ -1,6 +1,6 @@
 // The searches of crates/lt_measure in plain Rust, by `partition_point` over sorted vectors.
 //
-//     rustc -O -C target-cpu=x86-64-v2 measure/search.rs -o /tmp/search && /tmp/search 1000
+//     rustc -O -C target-cpu=x86-64-v2 measure/search.rs -o search && ./search 1000
 use std::cmp::Ordering;
 use std::time::Instant;
 
