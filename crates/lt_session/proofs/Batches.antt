@@ -11,7 +11,7 @@ use Rattle.lt_model.specs.Serial.{serial}
 use Rattle.lt_model.specs.Marks.{laid}
 use Rattle.lt_model.specs.Run.{run}
 use Rattle.lt_model.specs.Report.{World, Text, says, good_of, programs_text, done_text, bad_program_text, batch_text, version_text, with_batch}
-use Rattle.lt_session.specs.Batches.{after_run, after_checked, after_program, published, after_batch}
+use Rattle.lt_session.specs.Batches.{after_checked, after_program, published, after_batch}
 
 abbrev checks : Schema → List Program → List (Text × Checked)
 checks schema programs = map (λ (p : Program). (p.name, checked p schema)) programs

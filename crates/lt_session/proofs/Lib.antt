@@ -1,9 +1,10 @@
 pub mod Joining
 pub mod Rows
+pub mod Journals
 pub mod Relations
+pub mod Older
 pub mod Batches
 pub mod Running
 pub mod Folds
 pub mod Shown
 pub mod Fronts
-pub mod Taking

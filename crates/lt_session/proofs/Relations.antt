@@ -1,6 +1,6 @@
 -- The relations of a session beside those of a state: their columns and their rows.
-use Rattle.std.proofs.Common.{◌≡◌, ℕ, zero, suc, ◌<◌, ◌≤◌, List, [], ◌∷◌, ◌++◌, length, get_or, map, Some, refl, sym, ap, subst, ◌∙◌, arith}
-use Rattle.std.specs.Prelude.{position, unwrap_or, option_map, option_and_then, slice_get}
+use Rattle.std.proofs.Common.{◌≡◌, ℕ, zero, suc, ◌<◌, ◌≤◌, List, [], ◌∷◌, ◌++◌, length, get_or, map, Some, refl, sym, ap, subst, ◌∙◌}
+use Rattle.std.specs.Prelude.{unwrap_or, option_map, option_and_then, slice_get}
 use Rattle.std.specs.List.{AllByRecursion}
 use Rattle.std.specs.Str.{bytes_eq}
 use Rattle.std.proofs.lemmas.List.{length-map, get_or-map, map-append}
@@ -21,7 +21,7 @@ use Rattle.lt_program.proofs.BareStates.{laid-plain}
 same_count : (schema : Schema) (state : State) → IsStateOf schema state → length state ≡ length schema
 same_count schema state h = sym (length-map state (λ (r : Relation). r.width)) ∙ ap (λ (ws : List ℕ). length ws) h ∙ length-map schema (λ heading. length heading.1)
 
-found_heading : (schema : Schema) (name : List ℕ) (n : ℕ) → number_of schema name ≡ Some n → n < length schema
+pub found_heading : (schema : Schema) (name : List ℕ) (n : ℕ) → number_of schema name ≡ Some n → n < length schema
 found_heading schema name n e = (position-Some (λ heading. bytes_eq heading.0 name) schema n ([], []) e).0
 
 none_of : Relation
@@ -31,7 +31,7 @@ module _ (schema : Schema) (state : State) (name : List ℕ) (n : ℕ) (widths :
   pub found_within : n < length state
   found_within = rw (same_count schema state widths) (found_heading schema name n found)
 
-  columns_found : columns_of schema name ≡ (get_or schema n ([], [])).1
+  pub columns_found : columns_of schema name ≡ (get_or schema n ([], [])).1
   columns_found =
       ap (λ o. unwrap_or (option_map (λ heading. heading.1) (option_and_then (slice_get schema) o)) []) found
       ∙ ap (λ o. unwrap_or (option_map (λ heading. heading.1) o) []) (slice_get-get_or schema n ([], []) (found_heading schema name n found))

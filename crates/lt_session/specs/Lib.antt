@@ -1,8 +1,9 @@
 pub mod Texts
 pub mod Batches
+pub mod Past
 pub mod World
+pub mod Reports
 pub mod Command
-pub mod Plain
 pub mod Statuses
 pub mod Writing
 pub mod Ends

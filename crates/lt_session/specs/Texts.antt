@@ -1,6 +1,7 @@
 -- Texts, apart from where they lie in memory.
-use Rattle.std.specs.Prelude.{ℕ, zero, suc, List, ◌∷◌, map}
+use Rattle.std.specs.Prelude.{ℕ, zero, suc, List, [], ◌∷◌, ◌++◌, map, codes, decimal, Option}
 use Rattle.std.specs.Borrow.{Bor}
+use Rattle.lt_model.specs.Report.{line, at_words}
 
 abbrev pub texts : List (Bor (List ℕ)) → List (List ℕ)
 texts words = map (λ (w : Bor (List ℕ)). w.now) words
@@ -9,3 +10,7 @@ texts words = map (λ (w : Bor (List ℕ)). w.now) words
 abbrev pub spaced : ℕ → List ℕ → List ℕ
 spaced zero word = word
 spaced (suc n) word = 32 ∷ word
+
+-- the line with which the rows of a relation begin
+abbrev pub show_line : List ℕ → Option ℕ → ℕ → List ℕ
+show_line name version count = line ((codes "show" ∷ name ∷ []) ++ at_words version ++ decimal count ∷ [])

@@ -1,16 +1,16 @@
 -- What a session has, as the fold over the items of a script sees it.
-use Rattle.std.specs.Prelude.{◌≡◌, ◌↔◌, ℕ, ◌≤◌, Bool, false, List, length, fold, IsTrue}
+use Rattle.std.specs.Prelude.{◌≡◌, ℕ, ◌≤◌, false, List, length, fold, Some}
 use Rattle.std.specs.List.{AllByRecursion}
 use Rattle.lt_model.specs.declared.syntax.Item.{Item}
 use Rattle.lt_model.specs.declared.syntax.Program.{Program}
 use Rattle.lt_model.specs.declared.normal.Stmt.{Stmt}
+use Rattle.lt_face.specs.State.{Row, rows_in}
 use Rattle.lt_model.specs.State.{IsState}
-use Rattle.lt_model.specs.Check.{checked}
-use Rattle.lt_model.specs.Plain.{IsAccepted, IsGood}
 use Rattle.lt_model.specs.Report as model
 use Rattle.lt_check.specs.States.{IsStateOf}
 use Rattle.lt_program.specs.Run.{lists}
 use Rattle.lt_session.specs.Batches.{after_run, after_program}
+use Rattle.lt_session.specs.Past.{IsBehind, AreBehind, FitsFront}
 use Rattle.lt_session.specs.declared.world.World.{World}
 
 -- the session stands where the fold does
@@ -20,7 +20,10 @@ pub record Shows (w : World) (m : model.World) : Type 0 where
   pub widths : IsStateOf m.schema m.state
   pub rows : lists m.state ≡ w.relations.items
   pub sets : IsState m.state
+  pub now : IsBehind m.state w.journal.items
   pub versions : length m.versions ≡ length w.versions.items
+  pub past : AreBehind m.versions w.versions.items w.journal.items
+  pub fitting : AllByRecursion (FitsFront m.schema) m.versions
   pub text : m.text ≡ w.report.items
 
 -- it stands somewhere
@@ -32,10 +35,6 @@ pub record IsWorld (w : World) : Type 0 where
 abbrev pub Takes : World → Item → World → Type 0
 Takes old item new = (m : model.World) → Shows old m → Shows new (model.step false m item)
 
--- whether the item was accepted, and no program of it has a code
-abbrev pub IsAcceptedAs : Bool → World → Item → Type 0
-IsAcceptedAs good w item = (m : model.World) → Shows w m → IsTrue good ↔ IsAccepted m item
-
 -- the session stands behind a checked program
 abbrev pub Runs : World → List ℕ → List Stmt → World → Type 0
 Runs old name prog new = (m : model.World) → Shows old m → Shows new (after_run m name prog)
@@ -44,12 +43,10 @@ Runs old name prog new = (m : model.World) → Shows old m → Shows new (after_
 abbrev pub TakesProgram : World → Program → World → Type 0
 TakesProgram old program new = (m : model.World) → Shows old m → Shows new (after_program m program)
 
-abbrev pub IsGoodAs : Bool → World → Program → Type 0
-IsGoodAs good w program = IsTrue good ↔ IsGood (checked program w.schema)
-
 -- the session stands behind the programs
 abbrev pub TakesPrograms : World → List Program → World → Type 0
 TakesPrograms old programs new = (m : model.World) → Shows old m → Shows new (fold after_program m programs)
 
-abbrev pub AreGoodAs : Bool → World → List Program → Type 0
-AreGoodAs good w programs = IsTrue good ↔ AllByRecursion (λ (p : Program). IsGood (checked p w.schema)) programs
+-- the rows are those of a relation at a version
+abbrev pub IsShownAt : World → ℕ → ℕ → List Row → Type 0
+IsShownAt w version relation rows = (m : model.World) → Shows w m → rows ≡ rows_in (model.at_version m (Some version)) relation

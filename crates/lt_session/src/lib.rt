@@ -3,14 +3,13 @@
 
 mod input;
 mod output;
-mod plain;
-mod refusal;
+mod past;
 mod repair;
+mod script;
 mod status;
+#[cfg(test)]
+mod tests;
 mod text;
 mod world;
 
 pub use repair::repair_main;
-
-#[cfg(test)]
-mod tests;

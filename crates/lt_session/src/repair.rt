@@ -1,17 +1,16 @@
-ghost use Rattle.std.specs.Prelude.{◌≡◌, ◌≤◌, ◌<◌, ◌+◌, List, ℕ, [], Some, None, IsTrue, IfSome, IsSome, map, string_bytes, length, true, false, codes, ◌⊎◌};
-ghost use Rattle.std.specs.Io.KnownBytes.{Appends, Consumes, IsAtEnd, Keeps};
+//! The call that runs a command.
+ghost use Rattle.std.specs.Prelude.{◌≡◌, ◌≤◌, IsTrue, IfSome, IsSome, map, string_bytes, length, false, ◌⊎◌};
+ghost use Rattle.std.specs.Io.KnownBytes.{Appends, Keeps};
 ghost use Rattle.lt_edges.specs.Causes.{Rose};
 ghost use Rattle.lt_model.specs.Report.{usage_text};
 ghost use Rattle.lt_session.specs.Command.{is_run as is_run_command, limit};
-ghost use Rattle.lt_session.specs.Plain.{IsPlainReport, IsNotPlain};
 ghost use Rattle.lt_session.specs.Statuses.{status_code};
-ghost use Rattle.lt_session.specs.Ends.{IsReported, IsRefused, IsTooLong, IsPart, EndsAs, WrittenAs, RefusedAs};
-ghost use Rattle.lt_session.specs.Writing.{AppendsFront, WhereTold};
+ghost use Rattle.lt_session.specs.Ends.{IsReported, IsFaultReported, IsTooLong, IsPart, EndsAs};
+ghost use Rattle.lt_session.specs.Writing.{AppendsFront};
 
 use crate::input::{InputError, read_all};
 use crate::output::write_lines;
-use crate::plain::report_of;
-use crate::refusal::Refusal;
+use crate::script::report_of;
 use crate::status::{Status, code};
 use lt_edges::{Gate, Sink, Source};
 use std::alloc::Global;
@@ -42,26 +41,6 @@ fn refuse_words<K: Sink>(sink: &mut K) -> Status
     }
 }
 
-// Writes the report and says how that ended.
-fn write_report<K: Sink>(sink: &mut K, text: &[u8]) -> Status
-    ensures { WrittenAs result (K.holds sink.old) (K.holds sink.new) (K.faults sink.old) (K.faults sink.new) text.now }
-{
-    match write_lines(sink, text) {
-        Ok(()) => Status::Done,
-        Err(_) => Status::WriteFault,
-    }
-}
-
-// Nothing is written of a script that isn't of the form.
-fn refuse_script<K: Sink>(sink: &mut K) -> Status
-    ensures { RefusedAs result (K.holds sink.old) (K.holds sink.new) (K.faults sink.old) (K.faults sink.new) }
-{
-    match sink.flush() {
-        Ok(()) => Status::Refused,
-        Err(_) => Status::WriteFault,
-    }
-}
-
 // Reads a script to its end and writes its report.
 fn run_script<S: Source, K: Sink>(alloc: Global, source: &mut S, sink: &mut K) -> Status
     ensures { EndsAs result (S.left source.old) (S.left source.new) (S.faults source.old) (S.faults source.new)
@@ -73,15 +52,19 @@ fn run_script<S: Source, K: Sink>(alloc: Global, source: &mut S, sink: &mut K) -
         Err(InputError::Failed) => return Status::ReadFault,
         Err(InputError::TooLong) => return Status::TooLong,
     };
-    match report_of(alloc, &bytes) {
-        Ok(text) => write_report(sink, &text),
-        Err(Refusal::NoMemory) => Status::NoMemory,
-        Err(Refusal::NotPlain) => refuse_script(sink),
+    let Ok(report) = report_of(alloc, &bytes) else {
+        return Status::NoMemory;
+    };
+    match write_lines(sink, &report.text) {
+        Ok(()) if report.faulty => Status::Faulty,
+        Ok(()) => Status::Done,
+        Err(_) => Status::WriteFault,
     }
 }
 
-/// Runs a command. The status is 0 or 2 where a script was read to its end, 1 where the words aren't taken, 3 or 4
-/// where a read or a write failed, 5 where memory ran out, and 6 where the script is too long.
+/// Runs a command. The status is 0 where a script without a fault was read to its end, 2 where it has one, 1 where the
+/// words aren't taken, 3 or 4 where a read or a write failed, 5 where memory ran out, and 6 where the script is longer
+/// than 16,777,216 bytes.
 pub fn repair_main<R: Threads + Wait + Sync, S: Source, K: Sink, G: Gate>(
     _rt: &R,
     alloc: Global,
@@ -92,7 +75,7 @@ pub fn repair_main<R: Threads + Wait + Sync, S: Source, K: Sink, G: Gate>(
 ) -> u8
     // The bytes written are the report of the bytes read.
     ensures reported { result ≡ 0 → IsReported (S.left source.old) (S.left source.new) (K.holds sink.old) (K.holds sink.new) }
-    ensures refused { result ≡ 2 → IsRefused (S.left source.old) (S.left source.new) (K.holds sink.old) (K.holds sink.new) }
+    ensures faulty { result ≡ 2 → IsFaultReported (S.left source.old) (S.left source.new) (K.holds sink.old) (K.holds sink.new) }
     // Why it ended otherwise.
     ensures words { (result ≡ 1) ⊎ (result ≡ 4) ⊎ IsTrue (is_run_command (map string_bytes words.now)) }
     ensures not_taken { result ≡ 1 → is_run_command (map string_bytes words.now) ≡ false }
@@ -104,10 +87,10 @@ pub fn repair_main<R: Threads + Wait + Sync, S: Source, K: Sink, G: Gate>(
     // What was written until then.
     ensures part { result ≡ 4 → IsTrue (is_run_command (map string_bytes words.now)) → IsPart (S.left source.old) (S.left source.new) (K.holds sink.old) (K.holds sink.new) }
     ensures usage_part { result ≡ 4 → is_run_command (map string_bytes words.now) ≡ false → AppendsFront (K.holds sink.old) (K.holds sink.new) usage_text }
-    // Without a fault and within the limit, a script is run, or memory ran out.
+    ensures unwritten { ((result ≡ 3) ⊎ (result ≡ 5) ⊎ (result ≡ 6)) → Keeps (K.holds sink.old) (K.holds sink.new) }
+    // Where no read and no write failed and the input is within the limit, it is run, or memory ran out.
     ensures complete { IsTrue (is_run_command (map string_bytes words.now)) → (Rose (S.faults source.old) (S.faults source.new) → ⊥) → (Rose (K.faults sink.old) (K.faults sink.new) → ⊥)
         → IfSome (S.left source.old) (λ bytes. length bytes ≤ limit) → IsSome (S.left source.old) → (result ≡ 0) ⊎ (result ≡ 2) ⊎ (result ≡ 5) }
-    ensures unwritten { ((result ≡ 3) ⊎ (result ≡ 5) ⊎ (result ≡ 6)) → Keeps (K.holds sink.old) (K.holds sink.new) }
 {
     if !is_run(words) {
         return code(refuse_words(sink));

@@ -1,10 +1,11 @@
 //! The lines of the report.
-ghost use Rattle.std.specs.Prelude.{◌≡◌, ◌++◌, length, OnOk, None, flat_map};
+ghost use Rattle.std.specs.Prelude.{◌≡◌, ◌++◌, length, OnOk, flat_map};
 ghost use Rattle.std.specs.List.{AllByRecursion, join_with_byte};
 ghost use Rattle.lt_face.specs.Rows.{IsRow};
-ghost use Rattle.lt_model.specs.Report.{line, cell_texts, rows_text, print_text, reply_text, bad_program_text, bad_text, batch_text, version_text, show_text};
+ghost use Rattle.lt_model.specs.Report.{line, cell_texts, rows_text, print_text, reply_text, bad_program_text, bad_text, batch_text, version_text, show_text, close_text};
 ghost use Rattle.lt_program.specs.Run.{ArePrinted, AreReplied};
-ghost use Rattle.lt_session.specs.Texts.{texts, spaced};
+ghost use Rattle.lt_model.specs.Script.{Fault};
+ghost use Rattle.lt_session.specs.Texts.{texts, spaced, show_line};
 
 use itoa::Buffer;
 use lt_face::key::Key;
@@ -155,17 +156,48 @@ pub fn put_bad(out: &mut Vec<u8>, code: u32) -> Result<(), AllocError>
     put_line(out, &[b"bad", buffer.format(code).as_bytes()])
 }
 
-/// What a relation holds: how many rows, and the rows.
+/// The line of a fault.
+pub fn put_fault(out: &mut Vec<u8>, at: u64, code: u32) -> Result<(), AllocError>
+    ensures { OnOk result (out.new.items ≡ out.old.items ++ close_text (Fault at code)) }
+{
+    let mut first = Buffer::new();
+    let mut second = Buffer::new();
+    let at = first.format(at).as_bytes();
+    put_line(out, &[b"fault", at, second.format(code).as_bytes()])
+}
+
+// The line with which a relation's rows begin.
+fn put_show_line(
+    out: &mut Vec<u8>,
+    name: &[u8],
+    at: Option<u64>,
+    count: usize,
+) -> Result<(), AllocError>
+    ensures { OnOk result (out.new.items ≡ out.old.items ++ show_line name.now at count) }
+{
+    let mut buffer = Buffer::new();
+    let count = buffer.format(count).as_bytes();
+    match at {
+        None => put_line(out, &[b"show", name, count]),
+        Some(version) => {
+            let mut second = Buffer::new();
+            let version = second.format(version).as_bytes();
+            put_line(out, &[b"show", name, b"at", version, count])
+        }
+    }
+}
+
+/// What a relation holds, or held at a version: how many rows, and the rows.
 pub fn put_show(
     out: &mut Vec<u8>,
     name: &[u8],
+    at: Option<u64>,
     kinds: &[Kind],
     rows: &[Row],
 ) -> Result<(), AllocError>
     requires { AllByRecursion (IsRow (length kinds.now)) rows.now }
-    ensures { OnOk result (out.new.items ≡ out.old.items ++ show_text name.now None kinds.now rows.now) }
+    ensures { OnOk result (out.new.items ≡ out.old.items ++ show_text name.now at kinds.now rows.now) }
 {
-    let mut buffer = Buffer::new();
-    put_line(out, &[b"show", name, buffer.format(rows.len()).as_bytes()])?;
+    put_show_line(out, name, at, rows.len())?;
     put_rows(out, kinds, rows)
 }

@@ -1,13 +1,15 @@
 //! What a script has made so far.
-ghost use Rattle.std.specs.Prelude.{◌≡◌, IsTrue, true, false, None, IfOk, OnOk};
+ghost use Rattle.std.specs.Prelude.{◌≡◌, ◌≤◌, length, None, Some, IfOk, OnOk};
 ghost use Rattle.std.specs.List.{AllByRecursion};
 ghost use Rattle.lt_model.specs.declared.syntax.Item.TheVariants as items;
 ghost use Rattle.lt_model.specs.Limits.{IsWithinLimits, IsProgramWithin};
 ghost use Rattle.lt_face.specs.State.{State};
 ghost use Rattle.lt_model.specs.Fits.{Fits};
 ghost use Rattle.lt_model.specs.Report.{opening};
+ghost use Rattle.lt_model.specs.Schema.{number_of};
 ghost use Rattle.lt_check.specs.States.{IsStateOf};
 
+use crate::past::rows_after;
 use crate::text::{put_bad, put_bad_program, put_batch, put_reply, put_show, put_version};
 use lt_check::check::{CheckFault, check};
 use lt_check::schema::{DeclareFault, Schema};
@@ -16,7 +18,7 @@ use lt_face::{Items, NoMemory, RowList};
 use lt_model::kind::KindList;
 use lt_model::name::Name;
 use lt_model::normal::Prog;
-use lt_model::syntax::Program;
+use lt_model::syntax::{Item, Program};
 use lt_program::{lay, run_plain};
 use std::alloc::Global;
 
@@ -31,7 +33,7 @@ pub struct World {
 }
 
 impl World {
-    ghost use Rattle.lt_session.specs.World.{Shows, IsWorld, Takes, Runs, TakesProgram, TakesPrograms, IsAcceptedAs, IsGoodAs, AreGoodAs};
+    ghost use Rattle.lt_session.specs.World.{Shows, IsWorld, Takes, Runs, TakesProgram, TakesPrograms, IsShownAt};
 
     /// No relation, and no version but the empty one.
     pub fn new(alloc: Global) -> World
@@ -46,49 +48,102 @@ impl World {
         }
     }
 
-    /// A relation more, without rows. False where the item has a code.
-    pub fn declare(&mut self, alloc: Global, name: Name, kinds: KindList) -> Result<bool, NoMemory>
+    /// A relation more, without rows.
+    pub fn declare(&mut self, alloc: Global, name: Name, kinds: KindList) -> Result<(), NoMemory>
         requires { IsWithinLimits (items.Relation name kinds) }
-        ensures takes { OnOk result (Takes self.old (items.Relation name kinds) self.new) }
-        ensures accepted { IfOk result (λ good. IsAcceptedAs good self.old (items.Relation name kinds)) }
+        ensures { OnOk result (Takes self.old (items.Relation name kinds) self.new) }
     {
         match self.schema.declare(name, kinds) {
             Ok(_) => {
                 self.relations.push(Items::new(alloc))?;
-                Ok(true)
+                Ok(())
             }
             Err(DeclareFault::Taken) => {
                 put_bad(&mut self.report, 24)?;
-                Ok(false)
+                Ok(())
             }
             Err(DeclareFault::Full) => {
                 put_bad(&mut self.report, 25)?;
-                Ok(false)
+                Ok(())
             }
             Err(DeclareFault::NoMemory) => Err(NoMemory),
         }
     }
 
-    /// Writes what a relation holds. False where it isn't there.
-    pub fn show(&mut self, name: &Name) -> Result<bool, NoMemory>
-        requires { IsWorld self.old }
-        ensures takes { OnOk result (Takes self.old (items.Show name.now None) self.new) }
-        ensures accepted { IfOk result (λ good. IsAcceptedAs good self.old (items.Show name.now None)) }
+    // The rows that a relation had at a version.
+    fn rows_at(&self, alloc: Global, number: u32, version: usize) -> Result<RowList, NoMemory>
+        requires world { IsWorld self.now }
+        requires made { version ≤ length self.now.versions.items }
+        ensures { IfOk result (IsShownAt self.now version number) }
     {
-        match self.schema.find(name) {
-            Some(number) => {
-                let rows = self.relations[number as usize].as_slice();
-                put_show(
-                    &mut self.report,
-                    name.as_bytes(),
-                    self.schema.columns(name),
-                    rows,
-                )?;
-                Ok(true)
+        if version == 0 {
+            return Ok(Items::new(alloc));
+        }
+        let count = self.versions[version - 1];
+        let rows = rows_after(alloc, number, &self.journal[..count])?;
+        Ok(rows)
+    }
+
+    // Writes what a relation that is there holds.
+    fn show_now(&mut self, name: &Name, number: u32) -> Result<(), NoMemory>
+        requires world { IsWorld self.old }
+        requires found { number_of self.old.schema name.now ≡ Some number }
+        ensures { OnOk result (Takes self.old (items.Show name.now None) self.new) }
+    {
+        let rows = self.relations[number as usize].as_slice();
+        put_show(
+            &mut self.report,
+            name.as_bytes(),
+            None,
+            self.schema.columns(name),
+            rows,
+        )?;
+        Ok(())
+    }
+
+    // Writes what a relation that is there held at a version that is there.
+    fn show_at(
+        &mut self,
+        alloc: Global,
+        name: &Name,
+        number: u32,
+        version: u64,
+    ) -> Result<(), NoMemory>
+        requires world { IsWorld self.old }
+        requires found { number_of self.old.schema name.now ≡ Some number }
+        requires made { version ≤ length self.old.versions.items }
+        ensures { OnOk result (Takes self.old (items.Show name.now (Some version)) self.new) }
+    {
+        let rows = self.rows_at(alloc, number, version as usize)?;
+        let rows = rows.as_slice();
+        let columns = self.schema.columns(name);
+        put_show(
+            &mut self.report,
+            name.as_bytes(),
+            Some(version),
+            columns,
+            rows,
+        )?;
+        Ok(())
+    }
+
+    /// Writes what a relation holds, or what it held at a version.
+    pub fn show(&mut self, alloc: Global, name: &Name, at: Option<u64>) -> Result<(), NoMemory>
+        requires { IsWorld self.old }
+        ensures { OnOk result (Takes self.old (items.Show name.now at) self.new) }
+    {
+        let Some(number) = self.schema.find(name) else {
+            put_bad(&mut self.report, 20)?;
+            return Ok(());
+        };
+        match at {
+            None => self.show_now(name, number),
+            Some(version) if version <= self.versions.len() as u64 => {
+                self.show_at(alloc, name, number, version)
             }
-            None => {
-                put_bad(&mut self.report, 20)?;
-                Ok(false)
+            Some(_) => {
+                put_bad(&mut self.report, 26)?;
+                Ok(())
             }
         }
     }
@@ -107,55 +162,60 @@ impl World {
         Ok(())
     }
 
-    // Runs a program of a batch. False where it has a code.
-    fn program(&mut self, alloc: Global, program: &Program) -> Result<bool, NoMemory>
+    // Runs a program of a batch, or says which code it has.
+    fn program(&mut self, alloc: Global, program: &Program) -> Result<(), NoMemory>
         requires world { IsWorld self.old }
         requires within { IsProgramWithin program.now }
         ensures takes { OnOk result (TakesProgram self.old program.now self.new) }
         ensures schema { self.new.schema ≡ self.old.schema }
-        ensures good { IfOk result (λ good. IsGoodAs good self.old program.now) }
     {
         match check(alloc, program, &self.schema) {
-            Ok(prog) => {
-                self.run(alloc, &program.name, &prog)?;
-                Ok(true)
-            }
+            Ok(prog) => { self.run(alloc, &program.name, &prog) }
             Err(CheckFault::Bad { code, statement }) => {
                 put_bad_program(&mut self.report, program.name.as_bytes(), code, statement)?;
-                Ok(false)
+                Ok(())
             }
             Err(CheckFault::NoMemory) => Err(NoMemory),
         }
     }
 
-    // Runs the programs of a batch one after another. False where one has a code.
-    fn programs(&mut self, alloc: Global, programs: &[Program]) -> Result<bool, NoMemory>
+    // Runs the programs of a batch one after another.
+    fn programs(&mut self, alloc: Global, programs: &[Program]) -> Result<(), NoMemory>
         requires world { IsWorld self.old }
         requires within { AllByRecursion IsProgramWithin programs.now }
         ensures takes { OnOk result (TakesPrograms self.old programs.now self.new) }
         ensures schema { self.new.schema ≡ self.old.schema }
-        ensures good { IfOk result (λ good. AreGoodAs good self.old programs.now) }
     {
-        let mut all_good = true;
         'programs: for program in programs {
-            let good = self.program(alloc, program)?;
-            all_good = all_good && good;
+            self.program(alloc, program)?;
         }
-        Ok(all_good)
+        Ok(())
     }
 
-    /// Runs a batch and makes its version. False where one of its programs has a code.
-    pub fn batch(&mut self, alloc: Global, programs: &[Program]) -> Result<bool, NoMemory>
+    /// Runs a batch and makes its version.
+    pub fn batch(&mut self, alloc: Global, programs: &[Program]) -> Result<(), NoMemory>
         requires world { IsWorld self.old }
         requires within { AllByRecursion IsProgramWithin programs.now }
-        ensures takes { OnOk result (Takes self.old (items.Batch programs.now) self.new) }
-        ensures accepted { IfOk result (λ good. IsAcceptedAs good self.old (items.Batch programs.now)) }
+        ensures { OnOk result (Takes self.old (items.Batch programs.now) self.new) }
     {
         let number = self.versions.len() as u64 + 1;
         put_batch(&mut self.report, number)?;
-        let good = self.programs(alloc, programs)?;
+        self.programs(alloc, programs)?;
         self.versions.push(self.journal.len())?;
         put_version(&mut self.report, number)?;
-        Ok(good)
+        Ok(())
+    }
+
+    /// Takes the next item of a script.
+    pub fn take(&mut self, alloc: Global, item: Item) -> Result<(), NoMemory>
+        requires world { IsWorld self.old }
+        requires within { IsWithinLimits item }
+        ensures { OnOk result (Takes self.old item self.new) }
+    {
+        match item {
+            Item::Relation { name, kinds } => self.declare(alloc, name, kinds),
+            Item::Batch { programs } => self.batch(alloc, programs.as_slice()),
+            Item::Show { name, at } => self.show(alloc, &name, at),
+        }
     }
 }
