@@ -7,6 +7,7 @@ pub mod Faulty
 pub mod Division
 pub mod Parts
 pub mod Reader
+pub mod ItemReader
 pub mod Unique
 pub mod Laws
 pub mod Composition
