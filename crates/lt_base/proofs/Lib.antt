@@ -7,3 +7,4 @@ pub mod Grown
 pub mod Finds
 pub mod States
 pub mod Replaced
+pub mod Tabled

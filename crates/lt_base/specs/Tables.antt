@@ -1,6 +1,7 @@
 -- What a database is seen as.
-use Rattle.std.specs.Prelude.{ℕ, zero, suc, Bool, false, ◌||◌, List, [], ◌∷◌, map}
+use Rattle.std.specs.Prelude.{◌≤◌, ℕ, zero, suc, Bool, false, ◌||◌, List, [], ◌∷◌, map}
 use Rattle.std.specs.List.{list_any}
+use Rattle.lt_face.specs.Rows.{IsRowSet}
 use Rattle.lt_face.specs.State.{Row, Relation, State, row_eq}
 use Rattle.lt_base.specs.Columns.{numbers}
 
@@ -9,6 +10,12 @@ pub record Table : Type 0 where
   pub width : ℕ
   pub rows : List Row
   pub others : List (List ℕ)
+
+-- the rows ascend strictly, and are as wide as the relation, which has 1 to 8 columns
+pub record IsTable (table : Table) : Type 0 where
+  pub is_set : IsRowSet table.width table.rows
+  pub some : 1 ≤ table.width
+  pub few : table.width ≤ 8
 
 abbrev pub relation_of : Table → Relation
 relation_of table = record { width = table.width; rows = table.rows }

@@ -4,13 +4,14 @@ ghost use Rattle.std.specs.Arc.{arc_value};
 ghost use Rattle.std.specs.List.{AllByRecursion};
 ghost use Rattle.std.specs.Option.{option_copied};
 ghost use Rattle.lt_face.specs.Rows.{IsRow, has_row};
-ghost use Rattle.lt_face.specs.State.{rows_in, row_eq};
+ghost use Rattle.lt_face.specs.State.{Relation as RelationView, rows_in, row_eq};
 ghost use Rattle.lt_model.specs.declared.mark.Mark.{Mark as MarkType};
 ghost use Rattle.lt_model.specs.Fits.{FitMarks, IsWide};
 ghost use Rattle.lt_model.specs.Marks.{laid};
+ghost use Rattle.lt_model.specs.State.{IsState};
 ghost use Rattle.lt_delta.specs.Laying.{rows_laid};
 ghost use Rattle.lt_base.specs.Columns.{IsPermOf};
-ghost use Rattle.lt_base.specs.Tables.{Table, state_of, has_index};
+ghost use Rattle.lt_base.specs.Tables.{Table, IsTable, state_of, has_index};
 ghost use Rattle.lt_base.specs.Shown.{set_of, table_laid, tables_laid};
 
 use crate::relation::Relation;
@@ -76,6 +77,15 @@ fn relation_laid(
     Ok(laid)
 }
 
+/// Looks at each relation.
+fn look_over(relations: &Vec<Arc<Relation>>)
+    ensures { AllByRecursion IsTable (map arc_value relations.now.items) }
+{
+    for relation in relations {
+        let _width = relation.rows().width();
+    }
+}
+
 /// The same relations, with second owners.
 fn shared(relations: &Vec<Arc<Relation>>) -> Result<Vec<Arc<Relation>>, NoMemory>
     ensures { IfOk result (λ shared. map arc_value shared.items ≡ map arc_value relations.now.items) }
@@ -117,6 +127,14 @@ impl Database {
         ensures { result ≡ length (state_of self.now) }
     {
         self.relations.len()
+    }
+
+    /// Looks at each relation: its rows ascend strictly, and are as wide as it, which has 1 to 8 columns.
+    pub fn look_over(&self)
+        ensures state { IsState (state_of self.now) }
+        ensures wide { AllByRecursion (λ (relation : RelationView). (1 ≤ relation.width) × (relation.width ≤ 8)) (state_of self.now) }
+    {
+        look_over(&self.relations);
     }
 
     /// The relation of this number.

@@ -96,6 +96,7 @@ impl Relation {
     pub(crate) fn rows(&self) -> &Rows
         ensures width { result.now.width ≡ self.now.width }
         ensures rows { result.now.rows ≡ self.now.rows }
+        ensures some { 1 ≤ self.now.width }
     {
         &self.first
     }

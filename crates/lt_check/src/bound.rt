@@ -10,8 +10,8 @@ ghost use Rattle.lt_check.specs.Seen.{seen};
 use crate::names::Names;
 use lt_face::memory::NoMemory;
 use lt_model::name::Name;
+use lt_model::normal::{Atom, Body, Term, Test};
 use lt_model::syntax::Op;
-use lt_query::{Atom, Body, Term, Test};
 use std::alloc::Global;
 use std::marker::Model;
 

@@ -10,8 +10,8 @@ ghost use Rattle.lt_check.specs.Outcome.{IsFault};
 use crate::schema::Schema;
 use crate::statement::check_statement;
 use lt_face::memory::NoMemory;
+use lt_model::normal::Prog;
 use lt_model::syntax::Program;
-use lt_query::Prog;
 use std::alloc::Global;
 
 /// Why a program is not checked.

@@ -7,9 +7,9 @@ use crate::names::Names;
 use crate::schema::Schema;
 use lt_face::items::Items;
 use lt_face::memory::NoMemory;
+use lt_model::normal::{Atom, Body, Term, TermList, Test};
 use lt_model::syntax;
 use lt_model::syntax::{Head, Literal};
-use lt_query::{Atom, Body, Term, TermList, Test};
 use std::alloc::Global;
 
 fn term(names: &Names, term: &syntax::Term) -> Term

@@ -19,8 +19,8 @@ use crate::occurrences::{atoms_of, body_of, places_of};
 use crate::schema::Schema;
 use lt_face::memory::NoMemory;
 use lt_model::name::Name;
+use lt_model::normal::{Body, Stmt};
 use lt_model::syntax::{Head, Statement};
-use lt_query::{Body, Stmt};
 use std::alloc::Global;
 
 fn bad(code: u32, statement: u32) -> Result<Stmt, CheckFault>

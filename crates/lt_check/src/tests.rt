@@ -13,9 +13,9 @@ use lt_face::key::{CELL_LIMIT, Key};
 use lt_face::memory::NoMemory;
 use lt_model::kind::{Kind, KindList};
 use lt_model::name::Name;
+use lt_model::normal::Term::{Cell, Var};
+use lt_model::normal::{Prog, Stmt, Test};
 use lt_model::syntax::{Head, Literal, Op, Program, Statement, Term, TermList};
-use lt_query::Term::{Cell, Var};
-use lt_query::{Prog, Stmt, Test};
 use std::alloc::Global;
 use std::test::Fail;
 

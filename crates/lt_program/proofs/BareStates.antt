@@ -13,7 +13,8 @@ use Rattle.lt_model.specs.Answers.{picks, answer_of, ascending, answers, fits_pi
 use Rattle.lt_model.specs.Effect.{Writes, Needs, Prints, marks_of, effect}
 use Rattle.lt_model.specs.Marks.{Marks, and_then, write, change, lay, laid}
 use Rattle.lt_model.specs.Run.{Progress, run_on, run_from, run}
-use Rattle.lt_program.specs.Run.{lists, body_in, reads_rows}
+use Rattle.lt_program.specs.Run.{lists, reads_rows}
+use Rattle.lt_query.specs.Needs.{body_of}
 use Rattle.lt_program.specs.Walk.{bare}
 
 -- the same rows without widths
@@ -72,8 +73,8 @@ run-plain program state rows is = ap (λ (lists : List (List Row)). run program 
 
 -- ---- programs that read no relation
 
-no_atoms : (stmt : Stmt) → reads_rows stmt ≡ false → (body_in stmt).atoms ≡ []
-no_atoms stmt h = empty (body_in stmt).atoms h
+no_atoms : (stmt : Stmt) → reads_rows stmt ≡ false → (body_of stmt).atoms ≡ []
+no_atoms stmt h = empty (body_of stmt).atoms h
   where
     empty : (atoms : List Atom) → nat_lt 0 (length atoms) ≡ false → atoms ≡ []
     empty [] h = refl
@@ -92,7 +93,7 @@ module _ (s t : State) where
   marks_of-none : (plus : Bool) (head : Atom) (body : Body) → body.atoms ≡ [] → marks_of plus head body s ≡ marks_of plus head body t
   marks_of-none plus head body none = ap (map (λ row. record { relation = head.relation; row = row; plus = plus })) (answers-none head.terms body none)
 
-  effect-none : (stmt : Stmt) → (body_in stmt).atoms ≡ [] → effect stmt s ≡ effect stmt t
+  effect-none : (stmt : Stmt) → (body_of stmt).atoms ≡ [] → effect stmt s ≡ effect stmt t
   effect-none (Insert head body) none = ap Writes (marks_of-none true head body none)
   effect-none (Delete head body) none = ap Writes (marks_of-none false head body none)
   effect-none (Replace gone come body) none =

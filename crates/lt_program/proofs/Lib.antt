@@ -12,3 +12,13 @@ pub mod BareStates
 pub mod Ready
 pub mod FittingSamples
 pub mod FittingRuns
+pub mod RunGrows
+pub mod TallyGrows
+pub mod NoAtoms
+pub mod CourseSteps
+pub mod IndexesMade
+pub mod Widths
+pub mod Sounds
+pub mod FittingShapes
+pub mod Picked
+pub mod TallyCosts

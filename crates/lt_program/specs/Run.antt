@@ -3,9 +3,7 @@ use Rattle.std.specs.Prelude.{◌≡◌, ℕ, ◌≤◌, Bool, nat_lt, List, [],
 use Rattle.std.specs.List.{AllByRecursion}
 use Rattle.lt_face.specs.Rows.{IsRow}
 use Rattle.lt_face.specs.State.{Row, Relation, State}
-use Rattle.lt_model.specs.declared.normal.Body.{Body}
 use Rattle.lt_model.specs.declared.normal.Stmt.{Stmt}
-use Rattle.lt_model.specs.declared.normal.Stmt.TheVariants.{Insert, Delete, Replace, Need, Print}
 use Rattle.lt_model.specs.declared.reply.Printed.{Printed}
 use Rattle.lt_model.specs.declared.reply.Reply.{Reply}
 use Rattle.lt_model.specs.declared.reply.Reply.TheVariants.{Done, Refused}
@@ -17,6 +15,7 @@ use Rattle.lt_program.specs.declared.effect.Effect.{Effect}
 use Rattle.lt_program.specs.declared.effect.Effect.TheVariants.{Writes, Needs, Prints}
 use Rattle.lt_program.specs.declared.progress.Progress.{Progress}
 use Rattle.lt_program.specs.Effect.{view}
+use Rattle.lt_query.specs.Needs.{body_of}
 use Rattle.lt_program.specs.Walk.{bare}
 
 -- the rows of each relation
@@ -39,17 +38,9 @@ abbrev pub AreReplied : Reply → Type 0
 AreReplied (Done prints) = AllByRecursion ArePrinted prints
 AreReplied (Refused j) = Unit {0}
 
--- the body of a statement
-abbrev pub body_in : Stmt → Body
-body_in (Insert head body) = body
-body_in (Delete head body) = body
-body_in (Replace gone come body) = body
-body_in (Need some body) = body
-body_in (Print terms kinds body) = body
-
 -- whether a statement reads a relation
 abbrev pub reads_rows : Stmt → Bool
-reads_rows stmt = nat_lt 0 (length (body_in stmt).atoms)
+reads_rows stmt = nat_lt 0 (length (body_of stmt).atoms)
 
 -- the marks and the prints so far
 abbrev pub so_far : Progress → model.Progress

@@ -23,9 +23,14 @@ pub(crate) enum Effect {
 }
 
 /// A mark for each row.
-fn marked(alloc: Global, relation: u32, plus: bool, rows: RowList) -> Result<Marks, NoMemory>
-    requires { IsAscending rows }
-    ensures { IfOk result (λ marks. marks ≡ map (λ row. record { relation = relation; row = row; plus = plus }) rows) }
+pub(crate) fn marked(
+    alloc: Global,
+    relation: u32,
+    plus: bool,
+    rows: &RowList,
+) -> Result<Marks, NoMemory>
+    requires { IsAscending rows.now }
+    ensures { IfOk result (λ marks. marks ≡ map (λ row. record { relation = relation; row = row; plus = plus }) rows.now) }
 {
     let mut list = Items::new(alloc);
     for row in rows.as_slice() {
@@ -54,7 +59,7 @@ fn marks_of(
     ensures cells { IfOk result HaveCells }
 {
     let rows = answers(alloc, relations, head.terms.as_slice(), body)?;
-    let marks = marked(alloc, head.relation, plus, rows)?;
+    let marks = marked(alloc, head.relation, plus, &rows)?;
     Ok(marks)
 }
 

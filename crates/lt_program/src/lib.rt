@@ -4,16 +4,24 @@
 mod answers;
 mod ascending;
 mod conditions;
+mod course;
 mod effect;
+mod evaluation;
+mod indexing;
 mod laying;
 mod matching;
+mod part;
 mod plain;
 mod progress;
+mod tally;
 #[cfg(test)]
 mod tests;
 mod values;
 
+pub use indexing::indexed;
 pub use laying::lay;
 pub use lt_delta::{Mark, MarkList, Marks};
 pub use lt_model::reply::{Printed, Prints, Reply};
+pub use part::{Outcome, Part};
 pub use plain::run_plain;
+pub use tally::{Tally, run};

@@ -6,7 +6,7 @@ ghost use Rattle.lt_model.specs.Fits.{FitMarks};
 ghost use Rattle.lt_model.specs.Laws.{Rises};
 ghost use Rattle.lt_model.specs.Run.{run};
 ghost use Rattle.lt_program.specs.Effect.{IsReady};
-ghost use Rattle.lt_program.specs.Run.{AreReplied, IsFitting, lists, body_in, reads_rows};
+ghost use Rattle.lt_program.specs.Run.{AreReplied, IsFitting, lists, reads_rows};
 ghost use Rattle.lt_program.specs.Walk.{AreCells, bare};
 
 use crate::effect::effect_on;
@@ -15,12 +15,13 @@ use lt_delta::Marks;
 use lt_face::items::{Items, RowList};
 use lt_face::memory::NoMemory;
 use lt_face::row::Row;
-use lt_model::normal::{Body, Prog, Stmt};
+use lt_model::normal::{Prog, Stmt};
 use lt_model::reply::Reply;
+use lt_query::body_of;
 use std::alloc::Global;
 
 /// An equal list of rows.
-fn copied(alloc: Global, rows: &[Row]) -> Result<RowList, NoMemory>
+pub(crate) fn copied(alloc: Global, rows: &[Row]) -> Result<RowList, NoMemory>
     ensures { IfOk result (λ copy. copy ≡ rows.now) }
 {
     let mut copy = Items::new(alloc);
@@ -40,19 +41,6 @@ fn all_copied(alloc: Global, relations: &[RowList]) -> Result<Vec<RowList>, NoMe
         copies.push(copy)?;
     }
     Ok(copies)
-}
-
-/// The conditions of a statement.
-fn body_of(stmt: &Stmt) -> &Body
-    ensures { result.now ≡ body_in stmt.now }
-{
-    match stmt {
-        Stmt::Insert { body, .. } => body,
-        Stmt::Delete { body, .. } => body,
-        Stmt::Replace { body, .. } => body,
-        Stmt::Need { body, .. } => body,
-        Stmt::Print { body, .. } => body,
-    }
 }
 
 /// Whether some statement reads a relation.

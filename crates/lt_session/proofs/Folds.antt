@@ -1,11 +1,11 @@
--- Steps of the fold over the items, where they have no code.
-use Rattle.std.proofs.Common.{◌≡◌, ℕ, ◌<◌, ◌≤◌, List, [], ◌∷◌, ◌++◌, length, Some, None, refl, ap, ◌∙◌, arith, false}
-use Rattle.std.specs.Prelude.{nat_le, nat_lt, Option, IsSome}
+-- Steps of the fold over the items, where they have no code, and where a version isn't there.
+use Rattle.std.proofs.Common.{◌≡◌, ℕ, ◌<◌, List, [], ◌∷◌, ◌++◌, length, Some, None, refl, ap, ◌∙◌, arith, true, false}
+use Rattle.std.specs.Prelude.{nat_le, nat_lt, unwrap_or, Option, IsSome}
 use Rattle.std.proofs.lemmas.Bool.Decides.{nat_tests}
 use Rattle.lt_face.specs.State.{rows_in}
 use Rattle.lt_model.specs.declared.kind.Kind.{Kind}
 use Rattle.lt_model.specs.Schema.{number_of, columns_of}
-use Rattle.lt_model.specs.Report.{World, says, at_version, with_relation, shown, show_text}
+use Rattle.lt_model.specs.Report.{World, says, at_version, with_relation, shown, show_text, bad_text}
 
 pub not_found : {A : Type 0} (o : Option A) → (IsSome o → ⊥) → o ≡ None
 not_found None h = refl
@@ -18,16 +18,12 @@ declares m name kinds none room =
     let few : nat_le 64 (length m.schema) ≡ false = grind (arith, nat_tests, room) in
     ap (λ o. with_relation m name kinds o) none ∙ rw few refl
 
--- a relation that is there
-pub shows : (m : World) (name : List ℕ) (n : ℕ) → number_of m.schema name ≡ Some n
-    → shown m name None (number_of m.schema name) ≡ says m (show_text name None (columns_of m.schema name) (rows_in m.state n))
-shows m name n e =
-    let current : nat_lt (length m.versions) 0 ≡ false = grind (arith, nat_tests) in
-    ap (λ o. shown m name None o) e ∙ rw current refl
+-- a relation that is there, now or at a version that is there
+pub shows : (m : World) (name : List ℕ) (n : ℕ) (at : Option ℕ) → number_of m.schema name ≡ Some n → nat_lt (length m.versions) (unwrap_or at 0) ≡ false
+    → shown m name at (number_of m.schema name) ≡ says m (show_text name at (columns_of m.schema name) (rows_in (at_version m at) n))
+shows m name n at e made = ap (λ o. shown m name at o) e ∙ rw made refl
 
--- as it was at a version that is there
-pub shows_at : (m : World) (name : List ℕ) (n version : ℕ) → number_of m.schema name ≡ Some n → version ≤ length m.versions
-    → shown m name (Some version) (number_of m.schema name) ≡ says m (show_text name (Some version) (columns_of m.schema name) (rows_in (at_version m (Some version)) n))
-shows_at m name n version e made =
-    let there : nat_lt (length m.versions) version ≡ false = grind (arith, nat_tests, made) in
-    ap (λ o. shown m name (Some version) o) e ∙ rw there refl
+-- at a version that isn't there
+pub shows_none : (m : World) (name : List ℕ) (n : ℕ) (at : Option ℕ) → number_of m.schema name ≡ Some n → nat_lt (length m.versions) (unwrap_or at 0) ≡ true
+    → shown m name at (number_of m.schema name) ≡ says m (bad_text 26)
+shows_none m name n at e later = ap (λ o. shown m name at o) e ∙ rw later refl

@@ -1,10 +1,10 @@
 pub mod Joining
 pub mod Rows
-pub mod Journals
-pub mod Relations
-pub mod Older
+pub mod Columns
+pub mod Versions
+pub mod Folds
 pub mod Batches
 pub mod Running
-pub mod Folds
 pub mod Shown
+pub mod Showing
 pub mod Fronts

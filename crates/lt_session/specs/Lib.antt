@@ -1,6 +1,6 @@
 pub mod Texts
 pub mod Batches
-pub mod Past
+pub mod Versions
 pub mod World
 pub mod Reports
 pub mod Command

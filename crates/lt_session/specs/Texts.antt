@@ -1,6 +1,7 @@
 -- Texts, apart from where they lie in memory.
-use Rattle.std.specs.Prelude.{ℕ, zero, suc, List, [], ◌∷◌, ◌++◌, map, codes, decimal, Option}
+use Rattle.std.specs.Prelude.{ℕ, zero, suc, List, [], ◌∷◌, ◌++◌, map, codes, decimal, Option, Some, None}
 use Rattle.std.specs.Borrow.{Bor}
+use Rattle.lt_face.specs.State.{Row}
 use Rattle.lt_model.specs.Report.{line, at_words}
 
 abbrev pub texts : List (Bor (List ℕ)) → List (List ℕ)
@@ -14,3 +15,8 @@ spaced (suc n) word = 32 ∷ word
 -- the line with which the rows of a relation begin
 abbrev pub show_line : List ℕ → Option ℕ → ℕ → List ℕ
 show_line name version count = line ((codes "show" ∷ name ∷ []) ++ at_words version ++ decimal count ∷ [])
+
+-- the rows of a set, and none where there is no set
+abbrev pub held : {X : Type 0} → (X → List Row) → Option (Bor X) → List Row
+held rows_of None = []
+held rows_of (Some set) = rows_of set.now

@@ -1,29 +1,24 @@
 -- What a session has, as the fold over the items of a script sees it.
-use Rattle.std.specs.Prelude.{◌≡◌, ℕ, ◌≤◌, false, List, length, fold, Some}
+use Rattle.std.specs.Prelude.{◌≡◌, ℕ, ◌≤◌, false, List, [], ◌∷◌, length, fold, map}
 use Rattle.std.specs.List.{AllByRecursion}
 use Rattle.lt_model.specs.declared.syntax.Item.{Item}
 use Rattle.lt_model.specs.declared.syntax.Program.{Program}
 use Rattle.lt_model.specs.declared.normal.Stmt.{Stmt}
-use Rattle.lt_face.specs.State.{Row, rows_in}
-use Rattle.lt_model.specs.State.{IsState}
 use Rattle.lt_model.specs.Report as model
 use Rattle.lt_check.specs.States.{IsStateOf}
-use Rattle.lt_program.specs.Run.{lists}
+use Rattle.lt_base.specs.Tables.{state_of}
 use Rattle.lt_session.specs.Batches.{after_run, after_program}
-use Rattle.lt_session.specs.Past.{IsBehind, AreBehind, FitsFront}
+use Rattle.lt_session.specs.Versions.{IsFront}
 use Rattle.lt_session.specs.declared.world.World.{World}
 
--- the session stands where the fold does
+-- the session stands where the fold does: the databases have its states, from version 0 on
 pub record Shows (w : World) (m : model.World) : Type 0 where
   pub schema : m.schema ≡ w.schema
-  pub narrow : AllByRecursion (λ heading. length heading.1 ≤ 8) m.schema
+  pub some : AllByRecursion (λ heading. 1 ≤ length heading.1) m.schema
   pub widths : IsStateOf m.schema m.state
-  pub rows : lists m.state ≡ w.relations.items
-  pub sets : IsState m.state
-  pub now : IsBehind m.state w.journal.items
-  pub versions : length m.versions ≡ length w.versions.items
-  pub past : AreBehind m.versions w.versions.items w.journal.items
-  pub fitting : AllByRecursion (FitsFront m.schema) m.versions
+  pub state : m.state ≡ state_of w.database
+  pub versions : [] ∷ m.versions ≡ map state_of w.versions.items
+  pub older : AllByRecursion (IsFront m.schema) m.versions
   pub text : m.text ≡ w.report.items
 
 -- it stands somewhere
@@ -46,7 +41,3 @@ TakesProgram old program new = (m : model.World) → Shows old m → Shows new (
 -- the session stands behind the programs
 abbrev pub TakesPrograms : World → List Program → World → Type 0
 TakesPrograms old programs new = (m : model.World) → Shows old m → Shows new (fold after_program m programs)
-
--- the rows are those of a relation at a version
-abbrev pub IsShownAt : World → ℕ → ℕ → List Row → Type 0
-IsShownAt w version relation rows = (m : model.World) → Shows w m → rows ≡ rows_in (model.at_version m (Some version)) relation

@@ -3,7 +3,6 @@
 
 mod input;
 mod output;
-mod past;
 mod repair;
 mod script;
 mod status;

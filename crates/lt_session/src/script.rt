@@ -20,7 +20,7 @@ pub fn report_of(alloc: Global, bytes: &[u8]) -> Result<Report, NoMemory>
     ensures { IfOk result (λ report. IsReportOf bytes.now report) }
 {
     let mut reader = Reader::over(bytes);
-    let mut world = World::new(alloc);
+    let mut world = World::new(alloc)?;
     'items: loop {
         match reader.next_item(alloc) {
             Step::Item(item) => world.take(alloc, item)?,

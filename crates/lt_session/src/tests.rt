@@ -151,6 +151,24 @@ fn reports_scripts(rt: HostRuntime) -> Result<(), Fail> {
             0,
         ),
         (
+            "show at versions before and after the relation",
+            "batch commit; relation r(int); batch program p insert r(1); end; commit; show r at 0; show r at 1; show r at 2; show r at 3; show r;",
+            "batch 1\nversion 1\nbatch 2\np done\nversion 2\nshow r at 0 0\nshow r at 1 0\nshow r at 2 1\n1\nbad 26\nshow r 1\n1\n",
+            0,
+        ),
+        (
+            "show rows that differ in the last of eight columns",
+            "relation w(int,int,int,int,int,int,int,int); batch program p insert w(1,1,1,1,1,1,1,2); insert w(2,1,1,1,1,1,1,1); insert w(1,1,1,1,1,1,1,9223372036854775807); insert w(1,1,1,1,1,1,1,1); end; commit; show w;",
+            "batch 1\np done\nversion 1\nshow w 4\n1 1 1 1 1 1 1 1\n1 1 1 1 1 1 1 2\n1 1 1 1 1 1 1 9223372036854775807\n2 1 1 1 1 1 1 1\n",
+            0,
+        ),
+        (
+            "an index takes the marks of later programs",
+            "relation e(int,int); batch program l insert e(5,3); insert e(1,3); insert e(2,4); end; program a print (x) where e(x,3); end; program m insert e(4,3); delete e(5,3); end; program b print (x) where e(x,3); end; commit; batch program c print (x) where e(x,3); end; commit; show e; show e at 1;",
+            "batch 1\nl done\na done\nprint 1 2\n1\n5\nm done\nb done\nprint 1 2\n1\n4\nversion 1\nbatch 2\nc done\nprint 1 2\n1\n4\nversion 2\nshow e 3\n1 3\n2 4\n4 3\nshow e at 1 3\n1 3\n2 4\n4 3\n",
+            0,
+        ),
+        (
             "sum past the int range",
             "relation r(int); relation s(int); batch program l insert r(9223372036854775807); end; commit; batch program p insert s(m) where r(n), m = n + 1; end; commit; show s;",
             "batch 1\nl done\nversion 1\nbatch 2\np done\nversion 2\nshow s 0\n",

@@ -1,15 +1,16 @@
 //! The lines of the report.
-ghost use Rattle.std.specs.Prelude.{◌≡◌, ◌++◌, length, OnOk, flat_map};
+ghost use Rattle.std.specs.Prelude.{◌≡◌, ◌≤◌, ◌<◌, ◌+◌, ◌^◌, ℕ, List, [], ◌∷◌, ◌++◌, length, IfSome, OnOk, flat_map};
 ghost use Rattle.std.specs.List.{AllByRecursion, join_with_byte};
 ghost use Rattle.lt_face.specs.Rows.{IsRow};
 ghost use Rattle.lt_model.specs.Report.{line, cell_texts, rows_text, print_text, reply_text, bad_program_text, bad_text, batch_text, version_text, show_text, close_text};
 ghost use Rattle.lt_program.specs.Run.{ArePrinted, AreReplied};
 ghost use Rattle.lt_model.specs.Script.{Fault};
-ghost use Rattle.lt_session.specs.Texts.{texts, spaced, show_line};
+ghost use Rattle.lt_session.specs.Texts.{texts, spaced, show_line, held};
 
 use itoa::Buffer;
 use lt_face::key::Key;
 use lt_face::row::Row;
+use lt_face::row_set::RowReads;
 use lt_model::kind::Kind;
 use lt_model::reply::{Printed, Reply};
 use lt_values::cell_text;
@@ -187,17 +188,51 @@ fn put_show_line(
     }
 }
 
-/// What a relation holds, or held at a version: how many rows, and the rows.
-pub fn put_show(
+// The least row of this width that is above a row: its last cell is one more.
+fn row_above(row: &Row) -> Row
+    requires some { 1 ≤ length row.now }
+    requires cells { AllByRecursion (λ c. c < 2 ^ 120) row.now }
+    ensures { (init : List ℕ) × (last : ℕ) × (row.now ≡ init ++ last ∷ []) × (result ≡ init ++ (last + 1) ∷ []) }
+{
+    let mut above = row.copy_row();
+    let last = above.pop().unwrap();
+    above.push(last + 1);
+    above
+}
+
+// The rows of a set, each on its line. They are read in place.
+fn put_set<R: RowReads>(out: &mut Vec<u8>, kinds: &[Kind], rows: &R) -> Result<(), AllocError>
+    requires some { 1 ≤ length kinds.now }
+    requires wide { R.width_of rows.now ≡ length kinds.now }
+    ensures { OnOk result (out.new.items ≡ out.old.items ++ rows_text kinds.now (R.rows rows.now)) }
+{
+    let _width = rows.width();
+    let mut from = Row::from_cells(*out.allocator(), &[]);
+    'rows: for _place in 0..rows.len() {
+        let row = rows.row_at_least(&from).unwrap();
+        put_row(out, kinds, row)?;
+        from = row_above(row);
+    }
+    Ok(())
+}
+
+/// What a relation holds, or held at a version: how many rows, and the rows. A relation that wasn't there has none.
+pub fn put_show<R: RowReads>(
     out: &mut Vec<u8>,
     name: &[u8],
     at: Option<u64>,
     kinds: &[Kind],
-    rows: &[Row],
+    rows: Option<&R>,
 ) -> Result<(), AllocError>
-    requires { AllByRecursion (IsRow (length kinds.now)) rows.now }
-    ensures { OnOk result (out.new.items ≡ out.old.items ++ show_text name.now at kinds.now rows.now) }
+    requires some { 1 ≤ length kinds.now }
+    requires wide { IfSome rows (λ set. R.width_of set.now ≡ length kinds.now) }
+    ensures { OnOk result (out.new.items ≡ out.old.items ++ show_text name.now at kinds.now (held R.rows rows.entry)) }
 {
-    put_show_line(out, name, at, rows.len())?;
-    put_rows(out, kinds, rows)
+    match rows {
+        Some(rows) => {
+            put_show_line(out, name, at, rows.len())?;
+            put_set(out, kinds, rows)
+        }
+        None => put_show_line(out, name, at, 0),
+    }
 }

@@ -1,61 +1,77 @@
 //! What a script has made so far.
-ghost use Rattle.std.specs.Prelude.{◌≡◌, ◌≤◌, length, None, Some, IfOk, OnOk};
+ghost use Rattle.std.specs.Prelude.{◌≡◌, IfOk, OnOk};
 ghost use Rattle.std.specs.List.{AllByRecursion};
+ghost use Rattle.std.specs.Option.{option_copied};
 ghost use Rattle.lt_model.specs.declared.syntax.Item.TheVariants as items;
 ghost use Rattle.lt_model.specs.Limits.{IsWithinLimits, IsProgramWithin};
 ghost use Rattle.lt_face.specs.State.{State};
 ghost use Rattle.lt_model.specs.Fits.{Fits};
 ghost use Rattle.lt_model.specs.Report.{opening};
-ghost use Rattle.lt_model.specs.Schema.{number_of};
 ghost use Rattle.lt_check.specs.States.{IsStateOf};
+ghost use Rattle.lt_session.specs.Versions.{database_of};
 
-use crate::past::rows_after;
 use crate::text::{put_bad, put_bad_program, put_batch, put_reply, put_show, put_version};
+use lt_base::Database;
 use lt_check::check::{CheckFault, check};
 use lt_check::schema::{DeclareFault, Schema};
-use lt_delta::Marks;
-use lt_face::{Items, NoMemory, RowList};
+use lt_face::{Moves, NoMemory};
 use lt_model::kind::KindList;
 use lt_model::name::Name;
 use lt_model::normal::Prog;
 use lt_model::syntax::{Item, Program};
-use lt_program::{lay, run_plain};
+use lt_program::{indexed, run};
 use std::alloc::Global;
+use std::sync::Arc;
 
-/// The relations with their rows, the marks of all programs so far, how many there were at each version, and the report.
+/// The relations by name, the database, its versions by number, and the report. Version 0 has no relations.
 #[derive(Drop)]
 pub struct World {
     pub schema: Schema,
-    pub relations: Vec<RowList>,
-    pub journal: Vec<Marks>,
-    pub versions: Vec<usize>,
+    pub database: Database,
+    pub versions: Vec<Database>,
     pub report: Vec<u8>,
 }
 
+// The database of now, or of a version that is there.
+fn database_at<'a>(
+    now: &'a Database,
+    versions: &'a [Database],
+    at: Option<u64>,
+) -> Option<&'a Database>
+    ensures { option_copied result ≡ database_of now.now versions.now at }
+{
+    match at {
+        None => Some(now),
+        Some(version) => versions.get(version as usize),
+    }
+}
+
 impl World {
-    ghost use Rattle.lt_session.specs.World.{Shows, IsWorld, Takes, Runs, TakesProgram, TakesPrograms, IsShownAt};
+    ghost use Rattle.lt_session.specs.World.{Shows, IsWorld, Takes, Runs, TakesProgram, TakesPrograms};
 
     /// No relation, and no version but the empty one.
-    pub fn new(alloc: Global) -> World
-        ensures { Shows result opening }
+    pub fn new(alloc: Global) -> Result<World, NoMemory>
+        ensures { IfOk result (λ world. Shows world opening) }
     {
-        World {
+        let mut versions = Vec::new(alloc);
+        versions.push(Database::empty(alloc))?;
+        Ok(World {
             schema: Schema::new(alloc),
-            relations: Vec::new(alloc),
-            journal: Vec::new(alloc),
-            versions: Vec::new(alloc),
+            database: Database::empty(alloc),
+            versions,
             report: Vec::new(alloc),
-        }
+        })
     }
 
     /// A relation more, without rows.
-    pub fn declare(&mut self, alloc: Global, name: Name, kinds: KindList) -> Result<(), NoMemory>
+    pub fn declare(&mut self, name: Name, kinds: KindList) -> Result<(), NoMemory>
         requires { IsWithinLimits (items.Relation name kinds) }
         ensures { OnOk result (Takes self.old (items.Relation name kinds) self.new) }
     {
+        let width = kinds.as_slice().len();
         match self.schema.declare(name, kinds) {
             Ok(_) => {
-                self.relations.push(Items::new(alloc))?;
+                self.database = self.database.declared(width)?;
                 Ok(())
             }
             Err(DeclareFault::Taken) => {
@@ -70,65 +86,8 @@ impl World {
         }
     }
 
-    // The rows that a relation had at a version.
-    fn rows_at(&self, alloc: Global, number: u32, version: usize) -> Result<RowList, NoMemory>
-        requires world { IsWorld self.now }
-        requires made { version ≤ length self.now.versions.items }
-        ensures { IfOk result (IsShownAt self.now version number) }
-    {
-        if version == 0 {
-            return Ok(Items::new(alloc));
-        }
-        let count = self.versions[version - 1];
-        let rows = rows_after(alloc, number, &self.journal[..count])?;
-        Ok(rows)
-    }
-
-    // Writes what a relation that is there holds.
-    fn show_now(&mut self, name: &Name, number: u32) -> Result<(), NoMemory>
-        requires world { IsWorld self.old }
-        requires found { number_of self.old.schema name.now ≡ Some number }
-        ensures { OnOk result (Takes self.old (items.Show name.now None) self.new) }
-    {
-        let rows = self.relations[number as usize].as_slice();
-        put_show(
-            &mut self.report,
-            name.as_bytes(),
-            None,
-            self.schema.columns(name),
-            rows,
-        )?;
-        Ok(())
-    }
-
-    // Writes what a relation that is there held at a version that is there.
-    fn show_at(
-        &mut self,
-        alloc: Global,
-        name: &Name,
-        number: u32,
-        version: u64,
-    ) -> Result<(), NoMemory>
-        requires world { IsWorld self.old }
-        requires found { number_of self.old.schema name.now ≡ Some number }
-        requires made { version ≤ length self.old.versions.items }
-        ensures { OnOk result (Takes self.old (items.Show name.now (Some version)) self.new) }
-    {
-        let rows = self.rows_at(alloc, number, version as usize)?;
-        let rows = rows.as_slice();
-        let columns = self.schema.columns(name);
-        put_show(
-            &mut self.report,
-            name.as_bytes(),
-            Some(version),
-            columns,
-            rows,
-        )?;
-        Ok(())
-    }
-
     /// Writes what a relation holds, or what it held at a version.
-    pub fn show(&mut self, alloc: Global, name: &Name, at: Option<u64>) -> Result<(), NoMemory>
+    pub fn show(&mut self, name: &Name, at: Option<u64>) -> Result<(), NoMemory>
         requires { IsWorld self.old }
         ensures { OnOk result (Takes self.old (items.Show name.now at) self.new) }
     {
@@ -136,29 +95,29 @@ impl World {
             put_bad(&mut self.report, 20)?;
             return Ok(());
         };
-        match at {
-            None => self.show_now(name, number),
-            Some(version) if version <= self.versions.len() as u64 => {
-                self.show_at(alloc, name, number, version)
-            }
-            Some(_) => {
-                put_bad(&mut self.report, 26)?;
-                Ok(())
-            }
-        }
+        let Some(database) = database_at(&self.database, &self.versions, at) else {
+            put_bad(&mut self.report, 26)?;
+            return Ok(());
+        };
+        let columns = self.schema.columns(name);
+        let rows = database.rows(number);
+        put_show(&mut self.report, name.as_bytes(), at, columns, rows)?;
+        Ok(())
     }
 
-    // Runs a checked program, and keeps what it did.
-    fn run(&mut self, alloc: Global, name: &Name, prog: &Prog) -> Result<(), NoMemory>
+    // Runs a checked program on the indexes that it needs, and lays its marks.
+    fn run(&mut self, alloc: Global, name: &Name, prog: Prog) -> Result<(), NoMemory>
         requires world { IsWorld self.old }
-        requires fits { (state : State) → IsStateOf self.old.schema state → Fits state prog.now }
-        ensures runs { OnOk result (Runs self.old name.now prog.now self.new) }
+        requires fits { (state : State) → IsStateOf self.old.schema state → Fits state prog }
+        ensures runs { OnOk result (Runs self.old name.now prog self.new) }
         ensures schema { self.new.schema ≡ self.old.schema }
     {
-        let (reply, marks) = run_plain(alloc, prog, &self.relations)?;
-        put_reply(&mut self.report, name.as_bytes(), &reply)?;
-        lay(&mut self.relations, marks.as_slice())?;
-        self.journal.push(marks)?;
+        let database = indexed(&self.database, &prog)?;
+        let prog = Arc::new(alloc, prog)?;
+        let mut moves: Moves<()> = Moves::new();
+        let tally = run(&prog, &database, &mut moves)?;
+        put_reply(&mut self.report, name.as_bytes(), tally.reply())?;
+        self.database = database.laid(tally.marks())?;
         Ok(())
     }
 
@@ -170,7 +129,7 @@ impl World {
         ensures schema { self.new.schema ≡ self.old.schema }
     {
         match check(alloc, program, &self.schema) {
-            Ok(prog) => { self.run(alloc, &program.name, &prog) }
+            Ok(prog) => { self.run(alloc, &program.name, prog) }
             Err(CheckFault::Bad { code, statement }) => {
                 put_bad_program(&mut self.report, program.name.as_bytes(), code, statement)?;
                 Ok(())
@@ -198,10 +157,11 @@ impl World {
         requires within { AllByRecursion IsProgramWithin programs.now }
         ensures { OnOk result (Takes self.old (items.Batch programs.now) self.new) }
     {
-        let number = self.versions.len() as u64 + 1;
+        let number = self.versions.len() as u64;
         put_batch(&mut self.report, number)?;
         self.programs(alloc, programs)?;
-        self.versions.push(self.journal.len())?;
+        let version = self.database.share()?;
+        self.versions.push(version)?;
         put_version(&mut self.report, number)?;
         Ok(())
     }
@@ -213,9 +173,9 @@ impl World {
         ensures { OnOk result (Takes self.old item self.new) }
     {
         match item {
-            Item::Relation { name, kinds } => self.declare(alloc, name, kinds),
+            Item::Relation { name, kinds } => self.declare(name, kinds),
             Item::Batch { programs } => self.batch(alloc, programs.as_slice()),
-            Item::Show { name, at } => self.show(alloc, &name, at),
+            Item::Show { name, at } => self.show(&name, at),
         }
     }
 }

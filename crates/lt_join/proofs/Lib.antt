@@ -1,0 +1,24 @@
+pub mod Costs
+pub mod Gaps
+pub mod Kept
+pub mod Leaves
+pub mod Repair
+mod Samples
+pub mod Seats
+pub mod Steps
+pub mod Truth
+pub mod Walks
+pub mod Under
+pub mod Opening
+pub mod Noting
+pub mod Levels
+pub mod Deeper
+pub mod Hitting
+pub mod Roots
+pub mod ValueLemmas
+pub mod Usable
+pub mod SortedRows
+pub mod KnownValues
+pub mod Prepared
+pub mod OwnOrder
+pub mod ReadyQueries

@@ -1,0 +1,35 @@
+-- A body that fits its state, and a plan of it, can be walked.
+use Rattle.std.specs.Prelude.{◌<◌, ◌≤◌, ℕ, List, length}
+use Rattle.std.specs.List.{AllByRecursion}
+use Rattle.std.proofs.Common.{arith}
+use Rattle.lt_face.specs.State.{State}
+use Rattle.lt_face.proofs.RowLemmas.{each_weaker}
+use Rattle.lt_model.specs.declared.normal.Term.{Term}
+use Rattle.lt_model.specs.declared.normal.Term.TheVariants.{Var, Cell}
+use Rattle.lt_model.specs.declared.normal.Test.{Test}
+use Rattle.lt_model.specs.declared.normal.Body.{Body}
+use Rattle.lt_model.specs.Fits.{IsTermOf, IsBodyOf, test_terms}
+use Rattle.lt_query.specs.declared.plans.Level.{Level}
+use Rattle.lt_query.specs.declared.plans.Guide.{Guide}
+use Rattle.lt_query.specs.declared.plans.Plan.{Plan}
+use Rattle.lt_query.specs.Runnable.{IsRunnable, IsWidth}
+use Rattle.lt_join.specs.Values.{IsTest}
+use Rattle.lt_join.specs.Holders.{IsPrepared}
+
+small_term : (vars : ℕ) → vars ≤ 16 → (t : Term) → IsTermOf vars t → IsTermOf 16 t
+small_term vars few (Var v) h = omega arith
+small_term vars few (Cell c) h = h
+
+pub IsPrepared-from : (state : State) (body : Body) (plan : Plan) (terms : List Term) → IsBodyOf state body → IsRunnable body plan → length terms ≤ 8 → IsPrepared body plan terms
+IsPrepared-from state body plan terms fits runnable narrow = record {
+  runnable = runnable;
+  tests = each_weaker (λ test. AllByRecursion (IsTermOf body.vars) (test_terms test)) IsTest
+      (λ test h. each_weaker (IsTermOf body.vars) (IsTermOf 16) (small_term body.vars fits.has_few_variables) (test_terms test) h) body.tests fits.tests;
+  variables = each_weaker (λ (level : Level). IsTermOf body.vars level.term) (λ (level : Level). IsTermOf 16 level.term)
+      (λ level h. small_term body.vars fits.has_few_variables level.term h) plan.levels runnable.variables;
+  narrow = narrow;
+}
+
+-- each atom has columns
+pub has_columns : (guides : List Guide) → AllByRecursion (λ (guide : Guide). IsWidth (length guide.places)) guides → AllByRecursion (λ (guide : Guide). 0 < length guide.places) guides
+has_columns guides h = each_weaker (λ (guide : Guide). IsWidth (length guide.places)) (λ (guide : Guide). 0 < length guide.places) (λ guide w. omega (arith, w.0)) guides h

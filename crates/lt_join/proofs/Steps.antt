@@ -1,0 +1,344 @@
+-- The steps of a walk.
+use Rattle.std.specs.Prelude.{◌≡◌, ℕ, zero, suc, ◌+◌, ◌-◌, ◌^◌, ◌<◌, ◌≤◌, Bool, true, false, ◌==◌, List, [], ◌∷◌, ◌++◌, map, length, slice_get, take, drop, ◌⊎◌, Some, None, nat_lt, if◌then◌else◌}
+use Rattle.std.specs.List.{AllByRecursion, AllZip, list_any, list_all}
+use Rattle.lt_model.specs.declared.normal.Atom.{Atom}
+use Rattle.lt_face.proofs.Membership.{IsIn-append_left, IsIn-append_right}
+use Rattle.lt_sense.specs.declared.covering.KeptGap.{KeptGap}
+use Rattle.lt_join.proofs.Repair.{All_at, list_any_from, list_any_of}
+use Rattle.lt_join.proofs.Leaves.{holds_at_leaf, IsWitness-at_leaf, IsAnswer-from_witness, answers_are}
+use Rattle.lt_join.proofs.Walks.{Certifies-from_explored}
+use Rattle.lt_query.specs.Answering.{AreTestsBound}
+use Rattle.lt_model.specs.Bound.{are_bound}
+use Rattle.std.proofs.Common.{refl, sym, ap, ◌∙◌, subst, inl, inr, cond, arith, add-zero, get_or}
+use Rattle.std.proofs.lemmas.Bool.{and_parts, ltb-true, cases_order, ne_eqb, eq-eqb, or_cases, or_left, or_right}
+use Rattle.lt_model.specs.declared.normal.Term.{Term}
+use Rattle.lt_model.specs.declared.normal.Body.{Body}
+use Rattle.lt_query.specs.declared.plans.Level.{Level}
+use Rattle.lt_query.specs.declared.plans.Guide.{Guide}
+use Rattle.lt_query.specs.declared.plans.Plan.{Plan}
+use Rattle.lt_sense.specs.declared.covering.Hit.{Hit}
+use Rattle.lt_sense.specs.declared.sense.Sense.{Sense}
+use Rattle.lt_join.specs.declared.Found.{Found}
+use Rattle.lt_face.specs.Lists.{IsIn}
+use Rattle.lt_face.specs.State.{Row, State}
+use Rattle.lt_model.specs.Answers.{Assignment, cells_of, passes, holds, ascending, answers}
+use Rattle.lt_model.specs.Cells.{is_cell}
+use Rattle.lt_face.specs.State.{Has}
+use Rattle.lt_join.specs.Certify.{Certifies, IsWitness, IsMet}
+use Rattle.lt_sense.specs.Sense.{IsTight, covers, gap_covers, hit_covers}
+use Rattle.lt_face.specs.Lists.{AnyByRecursion}
+use Rattle.lt_query.specs.Plan.{Keys, IsPlanOf, AreLevelsFrom, IsLevelOf, IsGuideOf, term_at}
+use Rattle.lt_join.specs.Explored.{Fits, FitFrom, IsPassed, with_key, Explored, hit_of, AreHits}
+use Rattle.lt_join.specs.Walked.{at, leaf_assignment, IsCollected, Grows, FoundGrows, IsRight, HitsAbove, IsReached, IsExploredBelow, IsSkipped, StandsAt}
+
+passed_grows : (s t : Sense) → Grows s t → (l : ℕ) (keys : Keys) (k : ℕ) (guides : List Guide) → AnyByRecursion (IsPassed s l keys k) guides → AnyByRecursion (IsPassed t l keys k) guides
+passed_grows s t grows l keys k [] h = h
+passed_grows s t grows l keys k (guide ∷ guides) h =
+    elim h [
+      | inl p ↦ inl (record { gap = p.gap; kept = grows.gaps p.gap p.kept; relation = p.relation; columns = p.columns; prefix = p.prefix; at = p.at; from = p.from; below = p.below })
+      | inr r ↦ inr (passed_grows s t grows l keys k guides r)
+    ]
+
+-- what is explored stays explored
+pub Explored-grows : (s t : Sense) → Grows s t → (guides : List Guide) (Leaf Leaf' : Keys → Type 0) → ((keys : Keys) → Leaf keys → Leaf' keys) → (levels : List Level) (l : ℕ) (keys : Keys) → Explored s guides Leaf levels l keys → Explored t guides Leaf' levels l keys
+Explored-grows s t grows guides Leaf Leaf' leaf [] l keys h = leaf keys h
+Explored-grows s t grows guides Leaf Leaf' leaf (level ∷ levels) l keys h = λ k cell.
+    elim (h k cell) [
+      | inl passed ↦ inl (passed_grows s t grows l keys k guides passed)
+      | inr other ↦ elim other [ inl unfit ↦ inr (inl unfit) | inr deeper ↦ inr (inr (Explored-grows s t grows guides Leaf Leaf' leaf levels (l + 1) (with_key keys l k) deeper)) ]
+    ]
+
+hits_grow : (s t : Sense) → Grows s t → (guides : List Guide) (keys : Keys) → AreHits s guides keys → AreHits t guides keys
+hits_grow s t grows [] keys h = tt
+hits_grow s t grows (guide ∷ guides) keys h = (grows.hits (hit_of keys guide) h.0, hits_grow s t grows guides keys h.1)
+
+pub IsCollected-grows : (body : Body) (plan : Plan) (terms : List Term) (f g : Found) → FoundGrows f g → (keys : Keys) → IsCollected body plan terms f keys → IsCollected body plan terms g keys
+IsCollected-grows body plan terms f g grows keys h = record {
+  hits = hits_grow f.sense g.sense grows.sense plan.guides keys h.hits;
+  answer = λ held. grows.rows _ (h.answer held);
+}
+
+pub IsSkipped-grows : (plan : Plan) (s t : Sense) → Grows s t → (keys : List ℕ) (level : Level) (k : ℕ) → IsSkipped plan s keys level k → IsSkipped plan t keys level k
+IsSkipped-grows plan s t grows keys level k h = elim h [ inl p ↦ inl (passed_grows s t grows (length keys) (at keys) k plan.guides p) | inr u ↦ inr u ]
+
+pub Grows-chain : (s t u : Sense) → Grows s t → Grows t u → Grows s u
+Grows-chain s t u g h = record { gaps = λ gap k. h.gaps gap (g.gaps gap k); hits = λ hit k. h.hits hit (g.hits hit k) }
+
+pub FoundGrows-chain : (s t u : Found) → FoundGrows s t → FoundGrows t u → FoundGrows s u
+FoundGrows-chain s t u g h = record { sense = Grows-chain s.sense t.sense u.sense g.sense h.sense; rows = λ row k. h.rows row (g.rows row k) }
+
+covers_grows : (s t : Sense) → Grows s t → (relation : ℕ) (row : Row) → covers s relation row ≡ true → covers t relation row ≡ true
+covers_grows s t grows relation row h =
+    elim (or_cases (list_any (λ gap. gap_covers gap relation row) s.gaps) (list_any (λ hit. hit_covers hit relation row) s.hits) h) [
+      | inl g ↦ let f = list_any_from (λ (gap : KeptGap). gap_covers gap relation row) s.gaps g in
+          or_left _ (list_any (λ hit. hit_covers hit relation row) t.hits) (list_any_of (λ (gap : KeptGap). gap_covers gap relation row) f.0 t.gaps (grows.gaps f.0 f.1) f.2)
+      | inr g ↦ let f = list_any_from (λ (hit : Hit). hit_covers hit relation row) s.hits g in
+          or_right (list_any (λ gap. gap_covers gap relation row) t.gaps) _ (list_any_of (λ (hit : Hit). hit_covers hit relation row) f.0 t.hits (grows.hits f.0 f.1) f.2)
+    ]
+
+met_grows : (s t : Sense) → Grows s t → (state : State) (a : Assignment) (atoms : List Atom) → AllByRecursion (IsMet s state a) atoms → AllByRecursion (IsMet t state a) atoms
+met_grows s t grows state a [] h = tt
+met_grows s t grows state a (atom ∷ atoms) h = ((h.0.0, covers_grows s t grows atom.relation (cells_of a atom.terms) h.0.1), met_grows s t grows state a atoms h.1)
+
+pub witnesses_grow : (s t : Sense) → Grows s t → (terms : List Term) (body : Body) (state : State) (rows : List Row) → AllByRecursion (IsWitness s terms body state) rows → AllByRecursion (IsWitness t terms body state) rows
+witnesses_grow s t grows terms body state [] h = tt
+witnesses_grow s t grows terms body state (row ∷ rows) h =
+    ((h.0.0, h.0.1, met_grows s t grows state h.0.0 body.atoms h.0.2, h.0.3), witnesses_grow s t grows terms body state rows h.1)
+
+-- the walk below a key
+pub IsDone : Body → Plan → List Term → Found → List ℕ → ℕ → Type 0
+IsDone body plan terms found keys k =
+    Explored found.sense plan.guides (IsCollected body plan terms found) (drop (length keys + 1) plan.levels) (length keys + 1) (with_key (at keys) (length keys) k)
+
+pub IsDone-grows : (body : Body) (plan : Plan) (terms : List Term) (f g : Found) → FoundGrows f g → (keys : List ℕ) (k : ℕ) → IsDone body plan terms f keys k → IsDone body plan terms g keys k
+unfolding IsDone
+IsDone-grows body plan terms f g grows keys k h =
+    Explored-grows f.sense g.sense grows.sense plan.guides (IsCollected body plan terms f) (IsCollected body plan terms g) (IsCollected-grows body plan terms f g grows) (drop (length keys + 1) plan.levels) (length keys + 1) (with_key (at keys) (length keys) k) h
+
+-- what the loop over a level's keys keeps
+pub record IsUnderWay (body : Body) (plan : Plan) (terms : List Term) (state : State) (begun : Found) (keys0 : List ℕ) (level : Level) (found : Found) (keys : List ℕ) (key : ℕ) : Type 0 where
+  pub same : keys ≡ keys0
+  pub grows : FoundGrows begun found
+  pub right : IsRight body terms state found
+  pub done : (k : ℕ) → is_cell k ≡ true → k < key → IsSkipped plan found.sense keys0 level k ⊎ IsDone body plan terms found keys0 k
+  pub at_key : key < 2 ^ 128 - 1 → (is_cell key ≡ true) × Fits level (at keys0) key
+
+at_push_below : (keys : List ℕ) (k m : ℕ) → m < length keys → at (keys ++ k ∷ []) m ≡ at keys m
+at_push_below [] k m h = absurd (omega arith)
+at_push_below (x ∷ keys) k zero h = refl
+at_push_below (x ∷ keys) k (suc m) h = at_push_below keys k m (omega arith)
+
+at_push_last : (keys : List ℕ) (k : ℕ) → at (keys ++ k ∷ []) (length keys) ≡ k
+at_push_last [] k = refl
+at_push_last (x ∷ keys) k = at_push_last keys k
+
+at_push_past : (keys : List ℕ) (k m : ℕ) → length keys < m → at (keys ++ k ∷ []) m ≡ at keys m
+at_push_past [] k zero h = absurd (omega arith)
+at_push_past [] k (suc m) h = refl
+at_push_past (x ∷ keys) k zero h = absurd (omega arith)
+at_push_past (x ∷ keys) k (suc m) h = at_push_past keys k m (omega arith)
+
+pub length_push : (keys : List ℕ) (k : ℕ) → length (keys ++ k ∷ []) ≡ length keys + 1
+length_push [] k = refl
+length_push (x ∷ keys) k = let e = length_push keys k in omega arith
+
+pub at_push : (keys : List ℕ) (k : ℕ) → at (keys ++ k ∷ []) ≡ with_key (at keys) (length keys) k
+at_push keys k =
+    let each = λ (m : ℕ). elim (cases_order m (length keys)) as (λ w. at (keys ++ k ∷ []) m ≡ with_key (at keys) (length keys) k m) [
+      | inl e ↦ rw (e, eq-eqb (length keys) (length keys) refl) (at_push_last keys k)
+      | inr r ↦ elim r [
+        | inl lt ↦ let no : (m == length keys) ≡ false = ne_eqb m (length keys) (λ e. omega arith) in rw no (at_push_below keys k m lt)
+        | inr gt ↦ let no : (m == length keys) ≡ false = ne_eqb m (length keys) (λ e. omega arith) in rw no (at_push_past keys k m gt)
+      ]
+    ] in
+    λ i. λ m. each m i
+
+pub IsDone-of_child : (body : Body) (plan : Plan) (terms : List Term) (found : Found) (keys : List ℕ) (k : ℕ) → IsExploredBelow body plan terms found (keys ++ k ∷ []) → IsDone body plan terms found keys k
+unfolding IsDone
+IsDone-of_child body plan terms found keys k h =
+    let deeper = subst (λ n. Explored found.sense plan.guides (IsCollected body plan terms found) (drop n plan.levels) n (at (keys ++ k ∷ []))) (length_push keys k) h in
+    subst (λ ks. Explored found.sense plan.guides (IsCollected body plan terms found) (drop (length keys + 1) plan.levels) (length keys + 1) ks) (at_push keys k) deeper
+
+pub level_at : (body : Body) (all levels : List Level) (l i : ℕ) (level : Level) → AreLevelsFrom body all l levels → slice_get levels i ≡ Some level → IsLevelOf body all (l + i) level
+level_at body all [] l i level are e = cc
+level_at body all (x ∷ levels) l zero level are e = let same : x ≡ level = cc in rw add-zero (subst (IsLevelOf body all l) same are.0)
+level_at body all (x ∷ levels) l (suc i) level are e = subst (λ n. IsLevelOf body all n level) (let s : (l + 1) + i ≡ l + suc i = omega arith in s) (level_at body all levels (l + 1) i level are.1 e)
+
+ties_kept : (keys : List ℕ) (k l x : ℕ) (Q : ℕ → Type 0) (ties : List ℕ) → l ≤ length keys → AllByRecursion (λ m. (m < l) × Q m) ties → AllByRecursion (λ m. at keys m ≡ x) ties → AllByRecursion (λ m. at (keys ++ k ∷ []) m ≡ x) ties
+ties_kept keys k l x Q [] le are h = tt
+ties_kept keys k l x Q (m ∷ ties) le are h = (at_push_below keys k m (let a : m < l = are.0.0 in omega arith) ∙ h.0, ties_kept keys k l x Q ties le are.1 h.1)
+
+All_push : {X : Type 0} (P : X → Type 0) (xs : List X) (x : X) → AllByRecursion P xs → P x → AllByRecursion P (xs ++ x ∷ [])
+All_push P [] x h p = (p, tt)
+All_push P (y ∷ xs) x h p = (h.0, All_push P xs x h.1 p)
+
+-- one key deeper
+pub IsReached-child : (body : Body) (plan : Plan) (s t : Sense) (keys : List ℕ) (k : ℕ) (level : Level) → IsPlanOf body plan → IsReached plan s keys → slice_get plan.levels (length keys) ≡ Some level → length keys < length plan.levels → is_cell k ≡ true → Fits level (at keys) k → HitsAbove t plan.guides (keys ++ k ∷ []) → IsReached plan t (keys ++ k ∷ [])
+IsReached-child body plan s t keys k level of_body reached here deeper cell fits hits = record {
+  within = rw (length_push keys k) (omega arith);
+  cells = All_push (λ x. is_cell x ≡ true) keys k reached.cells cell;
+  fit = λ l lv below is.
+      elim (cases_order l (length keys)) [
+        | inl e ↦
+            let same : lv ≡ level = let q : slice_get plan.levels l ≡ Some level = ap (slice_get plan.levels) e ∙ here in cc in
+            let is_level = level_at body plan.levels plan.levels 0 (length keys) level of_body.levels here in
+            let last : at (keys ++ k ∷ []) l ≡ k = ap (at (keys ++ k ∷ [])) e ∙ at_push_last keys k in
+            subst (λ (w : Level). Fits w (at (keys ++ k ∷ [])) (at (keys ++ k ∷ []) l)) (sym same)
+            (subst (Fits level (at (keys ++ k ∷ []))) (sym last)
+            (fits.0, ties_kept keys k (0 + length keys) k (λ m. term_at plan.levels m ≡ level.term) level.ties (omega arith) is_level.ties fits.1))
+        | inr r ↦ elim r [
+          | inl lt ↦
+              let before = reached.fit l lv lt is in
+              let is_level = level_at body plan.levels plan.levels 0 l lv of_body.levels is in
+              subst (Fits lv (at (keys ++ k ∷ []))) (sym (at_push_below keys k l lt))
+              (before.0, ties_kept keys k (0 + l) (at keys l) (λ m. term_at plan.levels m ≡ lv.term) lv.ties (omega arith) is_level.ties before.1)
+          | inr gt ↦ let n = length_push keys k in absurd (omega arith)
+        ]
+      ];
+  hits = hits;
+}
+
+pub drop_at : (levels : List Level) (n : ℕ) (level : Level) → slice_get levels n ≡ Some level → drop n levels ≡ level ∷ drop (n + 1) levels
+drop_at [] n level e = cc
+drop_at (x ∷ levels) zero level e = let same : x ≡ level = cc in ap (λ w. w ∷ levels) same
+drop_at (x ∷ levels) (suc n) level e = drop_at levels n level e ∙ (let s : suc (n + 1) ≡ suc n + 1 = omega arith in ap (λ m. level ∷ drop m (x ∷ levels)) s)
+
+-- the loop begins
+pub IsUnderWay-begun : (body : Body) (plan : Plan) (terms : List Term) (state : State) (begun : Found) (keys : List ℕ) (level : Level) (sense : Sense) (key : ℕ) → IsRight body terms state begun → StandsAt plan state begun.sense sense keys level 0 key → IsUnderWay body plan terms state begun keys level (record { sense = sense; rows = begun.rows }) keys key
+IsUnderWay-begun body plan terms state begun keys level sense key right stands = record {
+  same = refl;
+  grows = record { sense = stands.grows; rows = λ row h. h };
+  right = record { tight = stands.tight; answers = witnesses_grow begun.sense sense stands.grows terms body state begun.rows right.answers };
+  done = λ k cell lt. inl (stands.skipped k cell (omega arith) lt);
+  at_key = stands.found;
+}
+
+-- one key was explored, and the level went to its next
+pub IsUnderWay-more : (body : Body) (plan : Plan) (terms : List Term) (state : State) (begun f h g : Found) (keys0 keys back : List ℕ) (level : Level) (key : ℕ) (sense : Sense) (key' : ℕ) → IsUnderWay body plan terms state begun keys0 level f keys key → FoundGrows f h → FoundGrows h g → IsRight body terms state g → IsExploredBelow body plan terms g (keys0 ++ key ∷ []) → back ≡ keys0 → StandsAt plan state g.sense sense keys0 level (key + 1) key' → IsUnderWay body plan terms state begun keys0 level (record { sense = sense; rows = g.rows }) back key'
+IsUnderWay-more body plan terms state begun f h g keys0 keys back level key sense key' way first second right explored is_back stands =
+    let last : FoundGrows g (record { sense = sense; rows = g.rows }) = record { sense = stands.grows; rows = λ row r. r } in
+    let whole : FoundGrows f (record { sense = sense; rows = g.rows }) = FoundGrows-chain f h (record { sense = sense; rows = g.rows }) first (FoundGrows-chain h g (record { sense = sense; rows = g.rows }) second last) in
+    record {
+      same = is_back;
+      grows = FoundGrows-chain begun f (record { sense = sense; rows = g.rows }) way.grows whole;
+      right = record { tight = stands.tight; answers = witnesses_grow g.sense sense stands.grows terms body state g.rows right.answers };
+      done = λ k cell lt.
+          elim (cases_order k key) [
+            | inl e ↦ inr (IsDone-grows body plan terms g (record { sense = sense; rows = g.rows }) last keys0 k
+                (subst (λ n. IsDone body plan terms g keys0 n) (sym e) (IsDone-of_child body plan terms g keys0 key explored)))
+            | inr r ↦ elim r [
+              | inl below ↦ elim (way.done k cell below) [
+                | inl skipped ↦ inl (IsSkipped-grows plan f.sense sense whole.sense keys0 level k skipped)
+                | inr done ↦ inr (IsDone-grows body plan terms f (record { sense = sense; rows = g.rows }) whole keys0 k done)
+              ]
+              | inr above ↦ inl (stands.skipped k cell (omega arith) lt)
+            ]
+          ];
+      at_key = stands.found;
+    }
+
+-- all keys of the level are done
+pub IsExploredBelow-all : (body : Body) (plan : Plan) (terms : List Term) (state : State) (begun found : Found) (keys0 keys : List ℕ) (level : Level) (key : ℕ) → IsUnderWay body plan terms state begun keys0 level found keys key → slice_get plan.levels (length keys0) ≡ Some level → 2 ^ 128 - 1 ≤ key → IsExploredBelow body plan terms found keys0
+IsExploredBelow-all body plan terms state begun found keys0 keys level key way here ended =
+    rw (drop_at plan.levels (length keys0) level here) (λ k cell.
+    let small : k < 2 ^ 120 = ltb-true k (2 ^ 120) (and_parts (nat_lt 0 k) (nat_lt k (2 ^ 120)) cell).1 in
+    elim (way.done k cell (omega arith)) [
+      | inl skipped ↦ elim skipped [ inl p ↦ inl p | inr u ↦ inr (inl u) ]
+      | inr done ↦ inr (inr (unfold IsDone in done))
+    ])
+
+fit_from : (rest : List Level) (l : ℕ) (keys : Keys) → ((i : ℕ) (level : Level) → slice_get rest i ≡ Some level → Fits level keys (keys (l + i))) → FitFrom l rest keys
+fit_from [] l keys f = tt
+fit_from (level ∷ rest) l keys f = (
+  (let h = f 0 level refl in rw add-zero at h),
+  fit_from rest (l + 1) keys (λ i lv e. subst (λ n. Fits lv keys (keys n)) (let s : l + suc i ≡ (l + 1) + i = omega arith in s) (f (suc i) lv e)),
+)
+
+slice_get_below : {X : Type 0} (xs : List X) (i : ℕ) (x : X) → slice_get xs i ≡ Some x → i < length xs
+slice_get_below [] i x e = cc
+slice_get_below (y ∷ xs) zero x e = omega arith
+slice_get_below (y ∷ xs) (suc i) x e = let h = slice_get_below xs i x e in omega arith
+
+leaf_hits : (levels : List Level) (sense : Sense) (keys : List ℕ) → length keys ≡ length levels → (atoms : List Atom) (guides : List Guide) → AllZip (IsGuideOf levels) atoms guides → HitsAbove sense guides keys → AreHits sense guides (at keys)
+leaf_hits levels sense keys e [] [] z h = tt
+leaf_hits levels sense keys e [] (guide ∷ guides) z h = absurd z
+leaf_hits levels sense keys e (atom ∷ atoms) [] z h = absurd z
+leaf_hits levels sense keys e (atom ∷ atoms) (guide ∷ guides) z h =
+    (h.0 (subst (λ n. AllByRecursion (λ l. l < n) guide.places) (sym e) z.0.places), leaf_hits levels sense keys e atoms guides z.1 h.1)
+
+hits_there : (state : State) (sense : Sense) (tight : IsTight sense state) (keys : Keys) (guides : List Guide) → AreHits sense guides keys → AllByRecursion (λ (guide : Guide). Has state guide.relation (map keys guide.places)) guides
+hits_there state sense tight keys [] h = tt
+hits_there state sense tight keys (guide ∷ guides) h =
+    (All_at (λ (hit : Hit). Has state hit.relation hit.row) sense.hits (hit_of keys guide) tight.hits h.0, hits_there state sense tight keys guides h.1)
+
+drop_all : (levels : List Level) (n : ℕ) → n ≡ length levels → drop n levels ≡ []
+drop_all [] zero e = refl
+drop_all [] (suc n) e = refl
+drop_all (x ∷ levels) zero e = absurd (omega arith)
+drop_all (x ∷ levels) (suc n) e = drop_all levels n (omega arith)
+
+some_when : {X : Type 0} (b : Bool) (x y : X) → Some y ≡ cond b (Some x) None → (b ≡ true) × (x ≡ y)
+some_when true x y e = (refl, let p = e in cc)
+some_when false x y e = cc
+
+none_when : {X : Type 0} (b : Bool) (x : X) → None ≡ cond b (Some x) None → b ≡ true → ⊥
+none_when true x e h = cc
+none_when false x e h = cc
+
+all_at_cell : (keys : List ℕ) (l : ℕ) → l < length keys → AllByRecursion (λ k. is_cell k ≡ true) keys → is_cell (at keys l) ≡ true
+all_at_cell [] l lt h = absurd (omega arith)
+all_at_cell (k ∷ keys) zero lt h = h.0
+all_at_cell (k ∷ keys) (suc l) lt h = all_at_cell keys l (omega arith) h.1
+
+-- at a leaf
+module _ (body : Body) (plan : Plan) (terms : List Term) (state : State) (keys : List ℕ) (of_body : IsPlanOf body plan) (full : length keys ≡ length plan.levels) where
+  leaf_fits : (sense : Sense) → IsReached plan sense keys → FitFrom 0 plan.levels (at keys)
+  leaf_fits sense reached =
+      fit_from plan.levels 0 (at keys) (λ i level at_i. let lt : i < length plan.levels = slice_get_below plan.levels i level at_i in subst (λ n. Fits level (at keys) (at keys n)) (let s : i ≡ 0 + i = omega arith in s) (reached.fit i level (omega arith) at_i))
+
+  -- only the tests are left
+  leaf_holds : (sense : Sense) → IsReached plan sense keys → list_all (passes (leaf_assignment body plan.levels (at keys))) body.tests ≡ holds (leaf_assignment body plan.levels (at keys)) body
+  leaf_holds sense reached = holds_at_leaf body plan of_body (at keys) (leaf_fits sense reached) (λ l lt. all_at_cell keys l (omega arith) reached.cells)
+
+  leaf_collected : (found : Found) → IsReached plan found.sense keys → (holds (leaf_assignment body plan.levels (at keys)) body ≡ true → IsIn (cells_of (leaf_assignment body plan.levels (at keys)) terms) found.rows) → IsExploredBelow body plan terms found keys
+  leaf_collected found reached answer =
+      rw (drop_all plan.levels (length keys) full) (record { hits = leaf_hits plan.levels found.sense keys full body.atoms plan.guides of_body.guides reached.hits; answer = answer })
+
+  pub leaf_without : (found : Found) → IsReached plan found.sense keys → None ≡ (if list_all (passes (leaf_assignment body plan.levels (at keys))) body.tests then Some (cells_of (leaf_assignment body plan.levels (at keys)) terms) else None) → IsExploredBelow body plan terms found keys
+  leaf_without found reached e = leaf_collected found reached (λ held. absurd (none_when (list_all (passes (leaf_assignment body plan.levels (at keys))) body.tests) (cells_of (leaf_assignment body plan.levels (at keys)) terms) e (leaf_holds found.sense reached ∙ held)))
+
+  pub leaf_with : (found : Found) (row : Row) (rows : List Row) → IsReached plan found.sense keys → IsRight body terms state found → Some row ≡ (if list_all (passes (leaf_assignment body plan.levels (at keys))) body.tests then Some (cells_of (leaf_assignment body plan.levels (at keys)) terms) else None) → rows ≡ found.rows ++ row ∷ [] → FoundGrows found (record { sense = found.sense; rows = rows }) × IsRight body terms state (record { sense = found.sense; rows = rows }) × IsExploredBelow body plan terms (record { sense = found.sense; rows = rows }) keys
+  leaf_with found row rows reached right e is =
+      let leaf = leaf_assignment body plan.levels (at keys) in
+      let parts = some_when (list_all (passes leaf) body.tests) (cells_of leaf terms) row e in
+      let held : holds leaf body ≡ true = sym (leaf_holds found.sense reached) ∙ parts.0 in
+      let fit : FitFrom 0 plan.levels (at keys) = leaf_fits found.sense reached in
+      let hits = leaf_hits plan.levels found.sense keys full body.atoms plan.guides of_body.guides reached.hits in
+      let answer : IsWitness found.sense terms body state row = subst (IsWitness found.sense terms body state) parts.1 (IsWitness-at_leaf body plan of_body terms state found.sense right.tight (at keys) fit hits held) in (
+        record { sense = record { gaps = λ gap h. h; hits = λ hit h. h }; rows = λ r h. rw is (IsIn-append_left r found.rows (row ∷ []) h) },
+        record { tight = right.tight; answers = rw is (All_push (IsWitness found.sense terms body state) found.rows row right.answers answer) },
+        leaf_collected (record { sense = found.sense; rows = rows }) reached (λ held. rw (is, parts.1) (IsIn-append_right row found.rows (row ∷ []) (inl refl))),
+      )
+
+pub slice_get_is : {X : Type 0} (xs : List X) (i : ℕ) (x : X) → i < length xs → x ≡ get_or xs i x → slice_get xs i ≡ Some x
+slice_get_is [] i x lt e = absurd (omega arith)
+slice_get_is (y ∷ xs) zero x lt e = ap Some (sym e)
+slice_get_is (y ∷ xs) (suc i) x lt e = slice_get_is xs i x (omega arith) e
+
+take_front : (keys : List ℕ) (k : ℕ) → take (length keys) (keys ++ k ∷ []) ≡ keys
+take_front [] k = refl
+take_front (x ∷ keys) k = ap (λ w. x ∷ w) (take_front keys k)
+
+-- a pop after a push
+pub popped : (keys : List ℕ) (k : ℕ) (full rest : List ℕ) → full ≡ keys ++ k ∷ [] → rest ≡ take (length full - 1) full → rest ≡ keys
+popped keys k full rest e f =
+    let n : length full - 1 ≡ length keys = let l = ap length e ∙ length_push keys k in omega arith in
+    f ∙ (ap (λ m. take m full) n ∙ (ap (take (length keys)) e ∙ take_front keys k))
+
+no_hits : (sense : Sense) (guides : List Guide) → AllByRecursion (λ (guide : Guide). 0 < length guide.places) guides → HitsAbove sense guides []
+no_hits sense [] h = tt
+no_hits sense (guide ∷ guides) h = ((λ above. absurd (none_above guide.places h.0 above)), no_hits sense guides h.1)
+  where
+    none_above : (places : List ℕ) → 0 < length places → AllByRecursion (λ l. l < 0) places → ⊥
+    none_above [] lt above = omega arith
+    none_above (l ∷ places) lt above = let k = above.0 in omega arith
+
+-- a walk begins with nothing found
+pub IsReached-none : (plan : Plan) (sense : Sense) → AllByRecursion (λ (guide : Guide). 0 < length guide.places) plan.guides → IsReached plan sense []
+IsReached-none plan sense h = record { within = omega arith; cells = tt; fit = λ l level below is. absurd (omega arith); hits = no_hits sense plan.guides h }
+
+pub IsRight-none : (body : Body) (terms : List Term) (state : State) → IsRight body terms state (record { sense = record { gaps = []; hits = [] }; rows = [] })
+IsRight-none body terms state = record { tight = record { gaps = tt; hits = tt }; answers = tt }
+
+-- what a whole walk has found
+pub found_all : (body : Body) (plan : Plan) (terms : List Term) (state : State) (found : Found) → IsPlanOf body plan → AreTestsBound body → are_bound body terms ≡ true → IsRight body terms state found → IsExploredBelow body plan terms found [] → (ascending found.rows ≡ answers terms body state) × Certifies found.sense body state
+found_all body plan terms state found of_body whole heads right explored = (
+  answers_are body plan of_body terms state found (at []) whole heads right.tight explored (λ row there. IsAnswer-from_witness found.sense terms body state row (All_at (IsWitness found.sense terms body state) found.rows row right.answers there)),
+  Certifies-from_explored body plan found.sense state (at []) of_body right.tight
+      (Explored-grows found.sense found.sense (record { gaps = λ gap h. h; hits = λ hit h. h }) plan.guides (IsCollected body plan terms found) (AreHits found.sense plan.guides) (λ keys h. h.hits) plan.levels 0 (at []) explored),
+)
+
+-- a flag that is true only where false is
+pub stays_false : (b : Bool) → (b ≡ true → false ≡ true) → b ≡ false
+stays_false true h = sym (h refl)
+stays_false false h = refl

@@ -1,0 +1,10 @@
+pub mod Certify
+pub mod Cost
+pub mod Explored
+pub mod Holders
+pub mod Lone
+pub mod Seat
+pub mod Values
+pub mod Walked
+pub mod Queries
+pub mod Tables

@@ -1,0 +1,89 @@
+-- What a walk below some keys leaves.
+use Rattle.std.specs.Prelude.{◌≡◌, ℕ, ◌+◌, ◌-◌, ◌^◌, ◌<◌, ◌≤◌, true, List, [], ◌∷◌, length, slice_index, slice_get, drop, ◌⊎◌, if◌then◌else◌, Some, None, unwrap_or}
+use Rattle.std.specs.List.{AllByRecursion}
+use Rattle.lt_model.specs.declared.normal.Term.{Term}
+use Rattle.lt_model.specs.declared.normal.Body.{Body}
+use Rattle.lt_query.specs.declared.plans.Level.{Level}
+use Rattle.lt_query.specs.declared.plans.Guide.{Guide}
+use Rattle.lt_query.specs.declared.plans.Plan.{Plan}
+use Rattle.lt_sense.specs.declared.covering.KeptGap.{KeptGap}
+use Rattle.lt_sense.specs.declared.covering.Hit.{Hit}
+use Rattle.lt_sense.specs.declared.sense.Sense.{Sense}
+use Rattle.lt_join.specs.declared.Found.{Found}
+use Rattle.lt_face.specs.Lists.{IsIn}
+use Rattle.lt_face.specs.State.{Row, State}
+use Rattle.lt_model.specs.Answers.{Assignment, Values, cells_of, holds, give_all}
+use Rattle.lt_model.specs.Cells.{is_cell}
+use Rattle.lt_model.specs.Bound.{is_var}
+use Rattle.lt_sense.specs.Sense.{IsTight}
+use Rattle.lt_join.specs.Certify.{IsWitness}
+use Rattle.lt_face.specs.Lists.{AnyByRecursion}
+use Rattle.lt_query.specs.Plan.{Keys}
+use Rattle.lt_leap.specs.Common.{common_keys}
+use Rattle.lt_join.specs.Cost.{iterators_at}
+use Rattle.lt_join.specs.Explored.{Fits, IsPassed, Explored, hit_of, AreHits}
+
+abbrev pub at : List ℕ → Keys
+at keys l = slice_index keys l
+
+-- the key at a variable's first level
+abbrev pub value_from : List Level → ℕ → Keys → Values
+value_from [] l keys v = None
+value_from (level ∷ levels) l keys v = if is_var v level.term then Some (keys l) else value_from levels (l + 1) keys v
+
+-- the assignment that the keys give
+abbrev pub leaf_assignment : Body → List Level → Keys → Assignment
+leaf_assignment body levels keys v = unwrap_or (give_all (value_from levels 0 keys) body.tests v) 0
+
+-- a leaf's rows are hits, and the answer that its keys give was collected
+pub record IsCollected (body : Body) (plan : Plan) (terms : List Term) (found : Found) (keys : Keys) : Type 0 where
+  pub hits : AreHits found.sense plan.guides keys
+  pub answer : holds (leaf_assignment body plan.levels keys) body ≡ true → IsIn (cells_of (leaf_assignment body plan.levels keys) terms) found.rows
+
+-- what was there still is
+pub record Grows (old new : Sense) : Type 0 where
+  pub gaps : (gap : KeptGap) → IsIn gap old.gaps → IsIn gap new.gaps
+  pub hits : (hit : Hit) → IsIn hit old.hits → IsIn hit new.hits
+
+pub record FoundGrows (old new : Found) : Type 0 where
+  pub sense : Grows old.sense new.sense
+  pub rows : (row : Row) → IsIn row old.rows → IsIn row new.rows
+
+-- what was found is right for the state
+pub record IsRight (body : Body) (terms : List Term) (state : State) (found : Found) : Type 0 where
+  pub tight : IsTight found.sense state
+  pub answers : AllByRecursion (IsWitness found.sense terms body state) found.rows
+
+-- the atoms whose columns are all above the level have their rows among the hits
+abbrev pub HitsAbove : Sense → List Guide → List ℕ → Type 0
+HitsAbove sense guides keys =
+    AllByRecursion (λ (guide : Guide). AllByRecursion (λ l. l < length keys) guide.places → IsIn (hit_of (at keys) guide) sense.hits) guides
+
+-- keys down which a walk may go
+pub record IsReached (plan : Plan) (sense : Sense) (keys : List ℕ) : Type 0 where
+  pub within : length keys ≤ length plan.levels
+  pub cells : AllByRecursion (λ k. is_cell k ≡ true) keys
+  pub fit : (l : ℕ) (level : Level) → l < length keys → slice_get plan.levels l ≡ Some level → Fits level (at keys) (at keys l)
+  pub hits : HitsAbove sense plan.guides keys
+
+-- the levels below these keys are explored
+abbrev pub IsExploredBelow : Body → Plan → List Term → Found → List ℕ → Type 0
+IsExploredBelow body plan terms found keys =
+    Explored found.sense plan.guides (IsCollected body plan terms found) (drop (length keys) plan.levels) (length keys) (at keys)
+
+-- the key lies in a gap of an atom, or a pin or tie forbids it
+abbrev pub IsSkipped : Plan → Sense → List ℕ → Level → ℕ → Type 0
+IsSkipped plan sense keys level k =
+    AnyByRecursion (IsPassed sense (length keys) (at keys) k) plan.guides ⊎ (Fits level (at keys) k → ⊥)
+
+-- the level below the keys stands at a key that fits, or at its end, and what it went past is skipped
+pub record StandsAt (plan : Plan) (state : State) (old new : Sense) (keys : List ℕ) (level : Level) (from key : ℕ) : Type 0 where
+  pub grows : Grows old new
+  pub tight : IsTight new state
+  pub skipped : (k : ℕ) → is_cell k ≡ true → from ≤ k → k < key → IsSkipped plan new keys level k
+  pub found : key < 2 ^ 128 - 1 → (is_cell key ≡ true) × Fits level (at keys) key
+
+-- the moves so far and those that the level may still make are within what was given, and the key is one of all iterators
+pub record CostsAt (plan : Plan) (state : State) (keys : List ℕ) (level : Level) (given now left key : ℕ) : Type 0 where
+  pub kept : now + left ≤ given
+  pub is_common : key < 2 ^ 128 - 1 → IsIn key (common_keys (iterators_at state plan.guides level (length keys) (at keys)))

@@ -1,0 +1,91 @@
+//! The answers of a body, and whether it has one.
+ghost use Rattle.std.specs.Prelude.{◌≡◌, ◌+◌, ◌≤◌, true, length, IfOk, IsTrue};
+ghost use Rattle.std.specs.List.{AllByRecursion};
+ghost use Rattle.lt_model.specs.Answers.{answers as answers_of, some_answer};
+ghost use Rattle.lt_model.specs.Bound.{are_bound};
+ghost use Rattle.lt_model.specs.Fits.{IsBodyOf};
+ghost use Rattle.lt_query.specs.Plan.{IsPlanOf};
+ghost use Rattle.lt_query.specs.Runnable.{IsRunnable};
+ghost use Rattle.lt_sense.specs.Sense.{IsTight};
+ghost use Rattle.lt_join.specs.Certify.{Certifies, Vouches};
+ghost use Rattle.lt_join.specs.Cost.{bound};
+
+use crate::Found;
+use crate::ascending::ascending;
+use crate::walk::{descend, roots_of};
+use lt_face::indexes::Indexes;
+use lt_face::items::{Items, RowList};
+use lt_face::memory::NoMemory;
+use lt_face::moves::Moves;
+use lt_query::{Body, Plan, TermList};
+use lt_sense::Sense;
+use std::alloc::Global;
+
+/// The answers of a body, ascending and each once: the terms' cells under the assignments that hold and whose rows are in
+/// the indexes' state; and what they were sensitive to. The plan is any of the body's, and each index that it goes through
+/// is there.
+pub fn answers<I: Indexes, L>(
+    alloc: Global,
+    body: &Body,
+    plan: &Plan,
+    terms: &TermList,
+    indexes: &I,
+    moves: &mut Moves<L>,
+) -> Result<(RowList, Sense), NoMemory>
+    requires of_body { IsPlanOf body.now plan.now }
+    requires runnable { IsRunnable body.now plan.now }
+    requires fits { IsBodyOf (I.state indexes.now) body.now }
+    requires has_indexes { AllByRecursion (λ guide. I.has_index indexes.now guide.relation guide.columns ≡ true) plan.now.guides }
+    requires are_bound { IsTrue (are_bound body.now terms.now) }
+    requires narrow { length terms.now ≤ 8 }
+    ensures rows { IfOk result (λ found. found.0 ≡ answers_of terms.now body.now (I.state indexes.now)) }
+    ensures certified { IfOk result (λ found. Certifies found.1 body.now (I.state indexes.now)) }
+    ensures tight { IfOk result (λ found. IsTight found.1 (I.state indexes.now)) }
+    ensures gaps { IfOk result (λ found. moves.old + length found.1.gaps ≤ moves.new) }
+    ensures hits { IfOk result (λ found. moves.old + length found.1.hits ≤ moves.new) }
+    ensures cost { IfOk result (λ _. moves.new ≤ moves.old + bound plan.now (I.state indexes.now)) }
+{
+    let mut keys = Items::new(alloc);
+    let roots = roots_of(alloc, indexes, plan)?;
+    let mut found = Found {
+        sense: Sense::new(alloc),
+        rows: Items::new(alloc),
+    };
+    descend(
+        alloc, indexes, &roots, body, plan, terms, &mut keys, &mut found, moves, false,
+    )?;
+    let rows = ascending(found.rows.into_vec())?;
+    Ok((rows, found.sense))
+}
+
+/// Whether the body has an answer, and what that was sensitive to. It stops at the first.
+pub fn some<I: Indexes, L>(
+    alloc: Global,
+    body: &Body,
+    plan: &Plan,
+    indexes: &I,
+    moves: &mut Moves<L>,
+) -> Result<(bool, Sense), NoMemory>
+    requires of_body { IsPlanOf body.now plan.now }
+    requires runnable { IsRunnable body.now plan.now }
+    requires fits { IsBodyOf (I.state indexes.now) body.now }
+    requires has_indexes { AllByRecursion (λ guide. I.has_index indexes.now guide.relation guide.columns ≡ true) plan.now.guides }
+    ensures truth { IfOk result (λ found. found.0 ≡ some_answer body.now (I.state indexes.now)) }
+    ensures vouched { IfOk result (λ found. Vouches found.1 body.now (I.state indexes.now)) }
+    ensures tight { IfOk result (λ found. IsTight found.1 (I.state indexes.now)) }
+    ensures gaps { IfOk result (λ found. moves.old + length found.1.gaps ≤ moves.new) }
+    ensures hits { IfOk result (λ found. moves.old + length found.1.hits ≤ moves.new) }
+    ensures cost { IfOk result (λ _. moves.new ≤ moves.old + bound plan.now (I.state indexes.now)) }
+{
+    let mut keys = Items::new(alloc);
+    let roots = roots_of(alloc, indexes, plan)?;
+    let terms = Items::new(alloc);
+    let mut found = Found {
+        sense: Sense::new(alloc),
+        rows: Items::new(alloc),
+    };
+    let truth = descend(
+        alloc, indexes, &roots, body, plan, &terms, &mut keys, &mut found, moves, true,
+    )?;
+    Ok((truth, found.sense))
+}

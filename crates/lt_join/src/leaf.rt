@@ -1,0 +1,68 @@
+//! What the keys of all levels give.
+ghost use Rattle.std.specs.Prelude.{◌≡◌, ℕ, ◌≤◌, true, length, Some, None, if◌then◌else◌};
+ghost use Rattle.std.specs.List.{AllByRecursion, list_all};
+ghost use Rattle.lt_model.specs.Answers.{cells_of, passes};
+ghost use Rattle.lt_model.specs.Fits.{IsTermOf};
+ghost use Rattle.lt_join.specs.Values.{values_in, assigned, IsTest};
+ghost use Rattle.lt_join.specs.Walked.{at, value_from, leaf_assignment};
+
+use crate::conditions::{all_pass, give_all, give_value};
+use crate::values::Values;
+use lt_face::items::Items;
+use lt_face::key::Key;
+use lt_face::row::Row;
+use lt_query::{Body, Level, Plan, Term};
+use std::alloc::Global;
+
+/// The key at the first level of each variable.
+fn level_values(levels: &[Level], keys: &[Key]) -> Values
+    requires as_long { length levels.now ≤ length keys.now }
+    requires variables { AllByRecursion (λ level. IsTermOf 16 level.term) levels.now }
+    ensures { values_in result.cells ≡ value_from levels.now 0 (at keys.now) }
+{
+    let mut values = Values::none();
+    for i in 0..levels.len() {
+        let level = &levels[i];
+        match level.term {
+            Term::Var(v) => give_value(&mut values, v, keys[i]),
+            Term::Cell(_) => {}
+        }
+    }
+    values
+}
+
+/// The terms' cells.
+fn cells(alloc: Global, values: &Values, terms: &[Term]) -> Row
+    requires { length terms.now ≤ 8 }
+    ensures { result ≡ cells_of (assigned (values_in values.now.cells)) terms.now }
+{
+    let mut row = Row::from_cells(alloc, &[]);
+    for term in terms {
+        row.push(values.cell(*term));
+    }
+    row
+}
+
+/// The answer that the keys of all levels give, where the tests hold.
+pub(crate) fn leaf_answer(
+    alloc: Global,
+    body: &Body,
+    plan: &Plan,
+    terms: &Items<Term>,
+    keys: &Items<Key>,
+) -> Option<Row>
+    requires as_long { length plan.now.levels ≤ length keys.now }
+    requires variables { AllByRecursion (λ level. IsTermOf 16 level.term) plan.now.levels }
+    requires tests { AllByRecursion IsTest body.now.tests }
+    requires narrow { length terms.now ≤ 8 }
+    ensures { let a = leaf_assignment body.now plan.now.levels (at keys.now) in result ≡ (if list_all (passes a) body.now.tests then Some (cells_of a terms.now) else None) }
+{
+    let tests = body.tests.as_slice();
+    let first = level_values(plan.levels.as_slice(), keys.as_slice());
+    let values = give_all(&first, tests);
+    if all_pass(&values, tests) {
+        Some(cells(alloc, &values, terms.as_slice()))
+    } else {
+        None
+    }
+}

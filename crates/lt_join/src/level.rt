@@ -1,0 +1,191 @@
+//! One level of a walk: its iterators are opened, and joined by a leapfrog.
+ghost use Rattle.std.specs.Prelude.{◌≡◌, ℕ, ◌+◌, ◌<◌, ◌≤◌, ◌++◌, ◌-◌, ◌^◌, length, map, IfOk, OnOk};
+ghost use Rattle.std.specs.List.{AllByRecursion, AllZip};
+ghost use Rattle.lt_face.specs.Keys.{end_key};
+ghost use Rattle.lt_sense.specs.Sense.{IsTight};
+ghost use Rattle.lt_leap.specs.Common.{has_key};
+ghost use Rattle.lt_leap.specs.Potential.{join_cost};
+ghost use Rattle.lt_join.specs.Cost.{iterators_at, LevelGains};
+ghost use Rattle.lt_join.specs.Walked.{at};
+ghost use Rattle.lt_join.specs.Holders.{IsUsable, IsOpen, IsJoined, left_of, IsWalkable, IsTrieOf, AreOpened, IsSeatOf, AreKept, atoms_at, holders_at, alone};
+ghost use Rattle.lt_join.specs.Seat.{seat_keys};
+ghost use Rattle.lt_leap.specs.Search.{IsGapOf};
+
+use crate::noted::NotedGaps;
+use crate::seat::{LoneKey, Seat, Walk};
+use lt_face::indexes::Indexes;
+use lt_face::items::Items;
+use lt_face::key::{END, Key};
+use lt_face::memory::NoMemory;
+use lt_face::moves::Moves;
+use lt_face::row_set::RowReads;
+use lt_leap::Leap;
+use lt_query::{Guide, Level, Plan};
+use lt_sense::Sense;
+use lt_trie::TrieIter;
+use std::alloc::Global;
+
+/// Whether one of an atom's columns is at the level.
+pub(crate) fn holds(guide: &Guide, level: usize) -> bool
+    ensures { result ≡ has_key guide.now.places level }
+{
+    guide.places.as_slice().contains(&level)
+}
+
+/// Opens the iterators of the atoms that hold the level below the keys, each at its first key, and keeps the gaps of these moves.
+pub(crate) fn open_walks<'a, I: Indexes, L>(
+    alloc: Global,
+    _tables: &'a I,
+    iters: &[TrieIter<'a, I::Rows>],
+    plan: &Plan,
+    keys: &Items<Key>,
+    sense: &mut Sense,
+    moves: &mut Moves<L>,
+) -> Result<Vec<Seat<'a, I::Rows>>, NoMemory>
+    requires walkable { AllByRecursion IsWalkable plan.now.guides }
+    requires iters { AllZip (IsTrieOf (I.state _tables.now) (length keys.now) (at keys.now)) plan.now.guides iters.now }
+    requires tight { IsTight sense.old (I.state _tables.now) }
+    ensures { IfOk result (λ seats. AreOpened plan.now (I.state _tables.now) keys.now plan.now.guides sense.old sense.new seats.items moves.old moves.new) }
+{
+    let depth = keys.len();
+    let guides = plan.guides.as_slice();
+    let mut seats = Vec::new(alloc);
+    for i in 0..iters.len() {
+        let guide = &guides[i];
+        if holds(guide, depth) {
+            let mut trie = iters[i].copy();
+            let gap = trie.open_level(moves);
+            sense.add_gap(
+                guide.relation,
+                &guide.columns,
+                trie.prefix(),
+                gap.lo,
+                gap.hi,
+            )?;
+            seats.push(Seat::Walks(Walk { guide: i, trie }))?;
+        }
+    }
+    Ok(seats)
+}
+
+/// Seats a key alone for each pin and for each tie.
+pub(crate) fn add_keys<'a, R: RowReads>(
+    seats: &mut Vec<Seat<'a, R>>,
+    level: &Level,
+    keys: &Items<Key>,
+) -> Result<(), NoMemory>
+    requires pins { AllByRecursion (λ pin. pin < 2 ^ 120) level.now.pins }
+    requires ties { AllByRecursion (λ m. m < length keys.now) level.now.ties }
+    requires keys { AllByRecursion (λ k. k < 2 ^ 120) keys.now }
+    ensures { OnOk result (seats.new.items ≡ seats.old.items ++ (map alone level.now.pins ++ map (λ m. alone (at keys.now m)) level.now.ties)) }
+{
+    for pin in level.pins.as_slice() {
+        seats.push(Seat::Single(LoneKey::at(*pin)))?;
+    }
+    for tie in level.ties.as_slice() {
+        let key = keys.as_slice()[*tie];
+        seats.push(Seat::Single(LoneKey::at(key)))?;
+    }
+    Ok(())
+}
+
+/// Keeps the gaps that the atoms' iterators of a level noted.
+pub(crate) fn keep_gaps<'a, I: Indexes>(
+    _tables: &'a I,
+    leap: &Leap<Seat<'a, I::Rows>>,
+    noted: &NotedGaps,
+    plan: &Plan,
+    _level: &Level,
+    _keys: &Items<Key>,
+    sense: &mut Sense,
+) -> Result<(), NoMemory>
+    requires seats { AllZip (IsSeatOf plan.now (I.state _tables.now) (length _keys.now) (at _keys.now)) (holders_at plan.now.guides _level.now (length _keys.now) (at _keys.now)) leap.now.iters }
+    requires gaps { AllByRecursion (IsGapOf (map seat_keys leap.now.iters)) noted.now.gaps.items }
+    requires tight { IsTight sense.old (I.state _tables.now) }
+    ensures { OnOk result (AreKept plan.now (I.state _tables.now) _keys.now _level.now sense.old sense.new noted.now.gaps.items) }
+{
+    let guides = plan.guides.as_slice();
+    for item in &noted.gaps {
+        let (place, passed) = *item;
+        match leap.iter(place as usize) {
+            Seat::Walks(walk) => {
+                let guide = &guides[walk.guide];
+                sense.add_gap(
+                    guide.relation,
+                    &guide.columns,
+                    walk.trie.prefix(),
+                    passed.lo,
+                    passed.hi,
+                )?;
+            }
+            Seat::Single(_) => {}
+        }
+    }
+    Ok(())
+}
+
+/// A level that was opened, and the key where it stands: one that all its seats have, or `END`.
+#[derive(Drop)]
+pub(crate) struct Joined<'a, R: RowReads> {
+    pub(crate) leap: Leap<Seat<'a, R>>,
+    pub(crate) key: Key,
+}
+
+/// Opens the level below the keys.
+pub(crate) fn open_level<'a, I: Indexes, L>(
+    alloc: Global,
+    tables: &'a I,
+    iters: &[TrieIter<'a, I::Rows>],
+    plan: &Plan,
+    level: &Level,
+    keys: &Items<Key>,
+    sense: &mut Sense,
+    moves: &mut Moves<L>,
+) -> Result<Joined<'a, I::Rows>, NoMemory>
+    requires walkable { AllByRecursion IsWalkable plan.now.guides }
+    requires iters { AllZip (IsTrieOf (I.state tables.now) (length keys.now) (at keys.now)) plan.now.guides iters.now }
+    requires usable { IsUsable plan.now.guides level.now keys.now }
+    requires tight { IsTight sense.old (I.state tables.now) }
+    ensures gains { IfOk result (λ joined. LevelGains (length (atoms_at plan.now.guides (length keys.now))) sense.old sense.new moves.old moves.new joined.key) }
+    ensures stands { IfOk result (λ joined. IsJoined plan.now (I.state tables.now) sense.old sense.new keys.now level.now 0
+        (moves.old + join_cost (iterators_at (I.state tables.now) plan.now.guides level.now (length keys.now) (at keys.now))) moves.new joined.leap joined.key) }
+{
+    let mut seats = open_walks(alloc, tables, iters, plan, keys, sense, moves)?;
+    add_keys(&mut seats, level, keys)?;
+    let mut noted = NotedGaps::new(alloc);
+    let leap = Leap::init(alloc, seats, &mut noted, moves)?;
+    keep_gaps(tables, &leap, &noted, plan, level, keys, sense)?;
+    let key = leap.key();
+    Ok(Joined { leap, key })
+}
+
+/// Goes to the level's next key. Where a pin or a tie sits, none can follow.
+pub(crate) fn next_key<'a, I: Indexes, L>(
+    alloc: Global,
+    tables: &'a I,
+    joined: &mut Joined<'a, I::Rows>,
+    plan: &Plan,
+    level: &Level,
+    keys: &Items<Key>,
+    sense: &mut Sense,
+    moves: &mut Moves<L>,
+) -> Result<(), NoMemory>
+    requires is_open { IsOpen plan.now (I.state tables.now) keys.now level.now joined.old.leap joined.old.key }
+    requires at_key { joined.old.key < 2 ^ 128 - 1 }
+    requires usable { IsUsable plan.now.guides level.now keys.now }
+    requires tight { IsTight sense.old (I.state tables.now) }
+    ensures gains { OnOk result (LevelGains (length (atoms_at plan.now.guides (length keys.now))) sense.old sense.new moves.old moves.new joined.new.key) }
+    ensures stands { OnOk result (IsJoined plan.now (I.state tables.now) sense.old sense.new keys.now level.now (joined.old.key + 1) (moves.old + left_of joined.old.leap) moves.new joined.new.leap joined.new.key) }
+    ensures rises { OnOk result (joined.old.key < joined.new.key) }
+    ensures ends { OnOk result (0 < length level.now.pins + length level.now.ties → (joined.new.key ≡ end_key) × (moves.new ≡ moves.old)) }
+{
+    if level.pins.len() > 0 || level.ties.len() > 0 {
+        joined.key = END;
+        return Ok(());
+    }
+    let mut noted = NotedGaps::new(alloc);
+    joined.leap.next(&mut noted, moves)?;
+    keep_gaps(tables, &joined.leap, &noted, plan, level, keys, sense)?;
+    joined.key = joined.leap.key();
+    Ok(())
+}

@@ -1,0 +1,194 @@
+//! The walk over the levels of a plan.
+ghost use Rattle.std.specs.Prelude.{◌≡◌, ℕ, ◌+◌, ◌<◌, ◌≤◌, ◌-◌, ◌++◌, ◌^◌, [], true, false, length, map, take, drop, IfOk, OnOk};
+ghost use Rattle.std.specs.List.{AllByRecursion, AllZip};
+ghost use Rattle.lt_sense.specs.Sense.{IsTight};
+ghost use Rattle.lt_join.specs.Explored.{with_key};
+ghost use Rattle.lt_query.specs.Plan.{IsPlanOf};
+ghost use Rattle.lt_join.specs.Cost.{cost_from, GainsFewer};
+ghost use Rattle.lt_join.specs.Walked.{at, Grows, HitsAbove, FoundGrows, IsRight, IsReached, IsExploredBelow};
+ghost use Rattle.lt_join.specs.Holders.{IsPrepared, IsWalkable, IsTrieOf, IsOpen, atoms_at};
+
+use crate::Found;
+use crate::leaf::leaf_answer;
+use crate::level::{Joined, holds, next_key, open_level};
+use crate::seat::Seat;
+use lt_face::indexes::Indexes;
+use lt_face::items::Items;
+use lt_face::key::{END, Key};
+use lt_face::memory::NoMemory;
+use lt_face::moves::Moves;
+use lt_face::row::Row;
+use lt_query::{Body, Guide, Level, Plan, Term};
+use lt_sense::Sense;
+use lt_trie::TrieIter;
+use std::alloc::Global;
+
+/// The atoms' iterators below the level's key: copies of those that sit at the level, and the others as they are.
+fn deeper<'a, I: Indexes>(
+    alloc: Global,
+    _tables: &'a I,
+    iters: &[TrieIter<'a, I::Rows>],
+    joined: &Joined<'a, I::Rows>,
+    plan: &Plan,
+    _level: &Level,
+    keys: &Items<Key>,
+) -> Result<Vec<TrieIter<'a, I::Rows>>, NoMemory>
+    requires walkable { AllByRecursion IsWalkable plan.now.guides }
+    requires iters { AllZip (IsTrieOf (I.state _tables.now) (length keys.now) (at keys.now)) plan.now.guides iters.now }
+    requires is_open { IsOpen plan.now (I.state _tables.now) keys.now _level.now joined.now.leap joined.now.key }
+    requires at_key { joined.now.key < 2 ^ 128 - 1 }
+    ensures { IfOk result (λ next. AllZip (IsTrieOf (I.state _tables.now) (length keys.now + 1) (with_key (at keys.now) (length keys.now) joined.now.key)) plan.now.guides next.items) }
+{
+    let depth = keys.len();
+    let guides = plan.guides.as_slice();
+    let mut next = Vec::new(alloc);
+    let mut seat = 0;
+    for i in 0..iters.len() {
+        if holds(&guides[i], depth) {
+            match joined.leap.iter(seat) {
+                Seat::Walks(walk) => next.push(walk.trie.copy())?,
+                Seat::Single(_) => {}
+            }
+            seat += 1;
+        } else {
+            next.push(iters[i].copy())?;
+        }
+    }
+    Ok(next)
+}
+
+/// The row of an atom under the keys.
+fn row_of(alloc: Global, guide: &Guide, keys: &Items<Key>) -> Row
+    requires narrow { length guide.now.places ≤ 8 }
+    requires places { AllByRecursion (λ l. l < length keys.now) guide.now.places }
+    ensures { result ≡ map (at keys.now) guide.now.places }
+{
+    let mut row = Row::from_cells(alloc, &[]);
+    for place in guide.places.as_slice() {
+        row.push(keys.as_slice()[*place]);
+    }
+    row
+}
+
+/// Makes hits of the rows of the atoms that end at the last key.
+fn add_hits<'a, I: Indexes>(
+    alloc: Global,
+    _tables: &'a I,
+    iters: &[TrieIter<'a, I::Rows>],
+    plan: &Plan,
+    keys: &Items<Key>,
+    sense: &mut Sense,
+) -> Result<(), NoMemory>
+    requires some { 0 < length keys.now }
+    requires walkable { AllByRecursion IsWalkable plan.now.guides }
+    requires iters { AllZip (IsTrieOf (I.state _tables.now) (length keys.now) (at keys.now)) plan.now.guides iters.now }
+    requires hits { HitsAbove sense.old plan.now.guides (take (length keys.now - 1) keys.now) }
+    requires tight { IsTight sense.old (I.state _tables.now) }
+    ensures grows { OnOk result (Grows sense.old sense.new) }
+    ensures tight { OnOk result (IsTight sense.new (I.state _tables.now)) }
+    ensures hits { OnOk result (HitsAbove sense.new plan.now.guides keys.now) }
+    ensures gaps { OnOk result (sense.new.gaps ≡ sense.old.gaps) }
+    ensures few { OnOk result (length sense.new.hits ≤ length sense.old.hits + length (atoms_at plan.now.guides (length keys.now - 1))) }
+{
+    let last = keys.len() - 1;
+    let guides = plan.guides.as_slice();
+    for i in 0..iters.len() {
+        let guide = &guides[i];
+        let level = iters[i].level() as usize;
+        if level == guide.columns.len() && holds(guide, last) {
+            let row = row_of(alloc, guide, keys);
+            sense.add_hit(guide.relation, &row)?;
+        }
+    }
+    Ok(())
+}
+
+/// The atoms' iterators at their roots.
+pub(crate) fn roots_of<'a, I: Indexes>(
+    alloc: Global,
+    tables: &'a I,
+    plan: &Plan,
+) -> Result<Vec<TrieIter<'a, I::Rows>>, NoMemory>
+    requires { AllByRecursion (λ guide. I.has_index tables.now guide.relation guide.columns ≡ true) plan.now.guides }
+    ensures { IfOk result (λ roots. AllZip (IsTrieOf (I.state tables.now) 0 (at [])) plan.now.guides roots.items) }
+{
+    let mut roots = Vec::new(alloc);
+    for guide in plan.guides.as_slice() {
+        let rows = tables.index(guide.relation, &guide.columns).unwrap();
+        roots.push(TrieIter::new(alloc, rows))?;
+    }
+    Ok(roots)
+}
+
+/// Explores the levels below the keys. Where the first answer suffices, it stops there.
+pub(crate) fn descend<'a, I: Indexes, L>(
+    alloc: Global,
+    tables: &'a I,
+    iters: &[TrieIter<'a, I::Rows>],
+    body: &Body,
+    plan: &Plan,
+    terms: &Items<Term>,
+    keys: &mut Items<Key>,
+    found: &mut Found,
+    moves: &mut Moves<L>,
+    first: bool,
+) -> Result<bool, NoMemory>
+    requires of_body { IsPlanOf body.now plan.now }
+    requires prepared { IsPrepared body.now plan.now terms.now }
+    requires iters { AllZip (IsTrieOf (I.state tables.now) (length keys.old) (at keys.old)) plan.now.guides iters.now }
+    requires reached { IsReached plan.now found.old.sense keys.old }
+    requires right { IsRight body.now terms.now (I.state tables.now) found.old }
+    ensures cost { IfOk result (λ _. moves.new ≤ moves.old + cost_from (I.state tables.now) plan.now.guides (drop (length keys.old) plan.now.levels) (length keys.old) (at keys.old)) }
+    ensures gains { IfOk result (λ _. GainsFewer found.old.sense found.new.sense moves.old moves.new) }
+    ensures back { IfOk result (λ _. keys.new ≡ keys.old) }
+    ensures grows { IfOk result (λ _. FoundGrows found.old found.new) }
+    ensures right { IfOk result (λ _. IsRight body.now terms.now (I.state tables.now) found.new) }
+    // it stops only at an answer, and only where the first suffices
+    ensures explored { IfOk result (λ stopped. stopped ≡ false → IsExploredBelow body.now plan.now terms.now found.new keys.old) }
+    ensures stopped { IfOk result (λ stopped. stopped ≡ true → 0 < length found.new.rows) }
+    ensures asked { IfOk result (λ stopped. stopped ≡ true → first ≡ true) }
+    ensures unfound { IfOk result (λ stopped. first ≡ true → stopped ≡ false → found.new.rows ≡ found.old.rows) }
+{
+    let depth = keys.len();
+    if depth == plan.levels.len() {
+        if let Some(row) = leaf_answer(alloc, body, plan, terms, keys) {
+            found.rows.push(row)?;
+            return Ok(first);
+        }
+        return Ok(false);
+    }
+    let level = &plan.levels.as_slice()[depth];
+    let mut joined = open_level(
+        alloc,
+        tables,
+        iters,
+        plan,
+        level,
+        keys,
+        &mut found.sense,
+        moves,
+    )?;
+    while joined.key < END {
+        let next = deeper(alloc, tables, iters, &joined, plan, level, keys)?;
+        keys.push(joined.key)?;
+        add_hits(alloc, tables, &next, plan, keys, &mut found.sense)?;
+        let stopped = descend(
+            alloc, tables, &next, body, plan, terms, keys, found, moves, first,
+        )?;
+        keys.pop();
+        if stopped {
+            return Ok(true);
+        }
+        next_key(
+            alloc,
+            tables,
+            &mut joined,
+            plan,
+            level,
+            keys,
+            &mut found.sense,
+            moves,
+        )?;
+    }
+    Ok(false)
+}

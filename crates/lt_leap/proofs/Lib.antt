@@ -1,0 +1,13 @@
+pub mod Changed
+pub mod Left
+pub mod Shortest
+pub mod Turned
+pub mod Exact
+pub mod Gaps
+pub mod Leading
+pub mod Searched
+pub mod Advanced
+pub mod Made
+pub mod Paid
+pub mod Finding
+pub mod Standing

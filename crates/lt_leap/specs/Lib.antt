@@ -1,0 +1,6 @@
+pub mod Common
+pub mod Ring
+pub mod Potential
+pub mod Moves
+pub mod Search
+pub mod View

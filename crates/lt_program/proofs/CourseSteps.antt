@@ -1,0 +1,104 @@
+-- What one more statement does to a course.
+use Rattle.std.proofs.Common.{◌≡◌, ℕ, ◌+◌, ◌≤◌, Bool, true, false, List, [], ◌∷◌, ◌++◌, length, Option, Some, None, refl, sym, ap, ◌∙◌, subst}
+use Rattle.std.specs.Prelude.{if◌then◌else◌}
+use Rattle.std.specs.List.{AllByRecursion}
+use Rattle.lt_face.specs.State.{State}
+use Rattle.lt_face.proofs.RowLemmas.{each_weaker}
+use Rattle.lt_model.specs.declared.normal.Body.{Body}
+use Rattle.lt_model.specs.declared.normal.Stmt.{Stmt}
+use Rattle.lt_model.specs.declared.reply.Reply.{Reply}
+use Rattle.lt_model.specs.declared.reply.Reply.TheVariants.{Done, Refused}
+use Rattle.lt_model.specs.Effect.{Effect, Writes, Needs, Prints, effect}
+use Rattle.lt_model.specs.Fits.{FitsStatement}
+use Rattle.lt_model.specs.Marks.{Marks, laid}
+use Rattle.lt_base.specs.Tables.{Table, state_of, has_index}
+use Rattle.lt_query.specs.declared.plans.Guide.{Guide}
+use Rattle.lt_query.specs.Needs.{body_of}
+use Rattle.lt_query.specs.Runnable.{AreWide}
+use Rattle.lt_query.specs.Stated.{stated_plan}
+use Rattle.lt_program.specs.declared.course.Course.{Course}
+use Rattle.lt_program.specs.declared.part.Part.{Part}
+use Rattle.lt_program.specs.Tally.{IsPartOn, HasIndexesOf, IsLaid, IsLaidOn, Grows, is_refused, is_still, next, statement_cost}
+use Rattle.lt_program.proofs.NoAtoms.{nothing, part_same, effect_same, cost_same}
+use Rattle.lt_program.proofs.Widths.{AreWide-laid, FitsStatement-laid}
+
+still_marks : (number : ℕ) (e : Effect) (reply : Reply) (marks : Marks) → is_refused reply ≡ false → is_still e ≡ true → (next number e (reply, marks)).1 ≡ marks
+still_marks number (Writes []) (Done prints) marks going still = refl
+still_marks number (Writes (m ∷ more)) (Done prints) marks going still = cc
+still_marks number (Needs true) (Done prints) marks going still = refl
+still_marks number (Needs false) (Done prints) marks going still = cc
+still_marks number (Prints kinds rows) (Done prints) marks going still = refl
+still_marks number e (Refused j) marks going still = refl
+
+-- the marks stay, and so does what is laid
+pub IsLaid-still : (base : List Table) (number : ℕ) (e : Effect) (reply : Reply) (marks new : Marks) (laid : Option (List Table)) → is_refused reply ≡ false → is_still e ≡ true → new ≡ (next number e (reply, marks)).1 → IsLaid base marks laid → IsLaid base new laid
+IsLaid-still base number e reply marks new laid going still is h = subst (λ (m : Marks). IsLaid base m laid) (sym (is ∙ still_marks number e reply marks going still)) h
+
+pub laid_settled : (base : List Table) (number : ℕ) (e : Effect) (reply : Reply) (marks new : Marks) (laid : Option (List Table)) (quiet : Bool) → is_refused reply ≡ false → quiet ≡ is_still e → new ≡ (next number e (reply, marks)).1 → IsLaid base marks laid → IsLaid base new (if quiet then laid else None)
+laid_settled base number e reply marks new laid true going same is h = IsLaid-still base number e reply marks new laid going (sym same) is h
+laid_settled base number e reply marks new laid false going same is h = tt
+
+module _ (base : List Table) (marks : Marks) (tables : List Table) (on : IsLaidOn base marks tables) where
+  pub wide_on : AreWide (state_of base) → AreWide (state_of tables)
+  wide_on wide = subst AreWide (sym on.state) (AreWide-laid (state_of base) marks wide)
+
+  pub fits_on : (stmt : Stmt) → FitsStatement (state_of base) stmt → FitsStatement (state_of tables) stmt
+  fits_on stmt fits = subst (λ (s : State). FitsStatement s stmt) (sym on.state) (FitsStatement-laid (state_of base) marks stmt fits)
+
+  pub indexes_on : (body : Body) → HasIndexesOf base body → HasIndexesOf tables body
+  indexes_on body has =
+      each_weaker (λ (guide : Guide). has_index base guide.relation guide.columns ≡ true) (λ (guide : Guide). has_index tables guide.relation guide.columns ≡ true) (λ guide h. on.indexes guide.relation guide.columns ∙ h) (stated_plan body).guides has
+
+  pub cost_on : (stmt : Stmt) (old new : ℕ) → new ≤ old + statement_cost stmt (state_of tables) → new ≤ old + statement_cost stmt (laid (state_of base) marks)
+  cost_on stmt old new h = subst (λ (s : State). new ≤ old + statement_cost stmt s) on.state h
+
+  -- the part is that on the database with the marks laid on it
+  pub grows_on : (number : ℕ) (stmt : Stmt) (part : Part) (e : Effect) (old new : Course) → old.marks ≡ marks → IsPartOn stmt (state_of tables) part → e ≡ effect stmt (state_of tables)
+      → new.parts ≡ old.parts ++ part ∷ [] → new.reply ≡ (next number e (old.reply, old.marks)).0 → new.marks ≡ (next number e (old.reply, old.marks)).1 → Grows number stmt (state_of base) old new
+  grows_on number stmt part e old new same is is_effect parts reply marks_are =
+      let there : state_of tables ≡ laid (state_of base) old.marks = on.state ∙ ap (laid (state_of base)) (sym same) in
+      let told : e ≡ effect stmt (laid (state_of base) old.marks) = is_effect ∙ ap (effect stmt) there in
+      record {
+        part = part;
+        is_part = subst (λ (s : State). IsPartOn stmt s part) there is;
+        parts = parts;
+        reply = reply ∙ ap (λ f. (next number f (old.reply, old.marks)).0) told;
+        marks = marks_are ∙ ap (λ f. (next number f (old.reply, old.marks)).1) told;
+      }
+
+-- the part of a statement that reads no relation is that on any state
+pub grows_alone : (base : State) (number : ℕ) (stmt : Stmt) (part own : Part) (e : Effect) (old new : Course) → (body_of stmt).atoms ≡ [] → IsPartOn stmt base part → e ≡ effect stmt base → own ≡ record { outcome = part.outcome; sense = nothing }
+    → new.parts ≡ old.parts ++ own ∷ [] → new.reply ≡ (next number e (old.reply, old.marks)).0 → new.marks ≡ (next number e (old.reply, old.marks)).1 → Grows number stmt base old new
+grows_alone base number stmt part own e old new none is is_effect is_own parts reply marks_are =
+    let told : e ≡ effect stmt (laid base old.marks) = is_effect ∙ effect_same base (laid base old.marks) stmt none in
+    record {
+      part = own;
+      is_part = subst (λ (p : Part). IsPartOn stmt (laid base old.marks) p) (sym is_own) (part_same base (laid base old.marks) stmt part none is);
+      parts = parts;
+      reply = reply ∙ ap (λ f. (next number f (old.reply, old.marks)).0) told;
+      marks = marks_are ∙ ap (λ f. (next number f (old.reply, old.marks)).1) told;
+    }
+
+pub cost_alone : (base : State) (marks : Marks) (stmt : Stmt) (old new : ℕ) → (body_of stmt).atoms ≡ [] → new ≤ old + statement_cost stmt base → new ≤ old + statement_cost stmt (laid base marks)
+cost_alone base marks stmt old new none h = subst (λ n. new ≤ old + n) (cost_same base (laid base marks) stmt none) h
+
+-- what is laid is of no account
+pub grows_settled : (number : ℕ) (stmt : Stmt) (base : State) (old mid new : Course) (l : Option (List Table)) → new ≡ record mid { laid = l } → Grows number stmt base old mid → Grows number stmt base old new
+grows_settled number stmt base old mid new l e g = record {
+  part = g.part;
+  is_part = g.is_part;
+  parts = ap (λ (x : Course). x.parts) e ∙ g.parts;
+  reply = ap (λ (x : Course). x.reply) e ∙ g.reply;
+  marks = ap (λ (x : Course). x.marks) e ∙ g.marks;
+}
+
+pub grows_taken : (number : ℕ) (stmt : Stmt) (base : State) (old mid new : Course) (l : Option (List Table)) → mid ≡ record old { laid = l } → Grows number stmt base mid new → Grows number stmt base old new
+grows_taken number stmt base old mid new l e g =
+    let h : Grows number stmt base (record old { laid = l }) new = subst (λ (x : Course). Grows number stmt base x new) e g in
+    record { part = h.part; is_part = h.is_part; parts = h.parts; reply = h.reply; marks = h.marks }
+
+-- what is laid after a statement
+pub laid_after : (base : List Table) (number : ℕ) (e : Effect) (mid new : Course) (reply : Reply) (marks : Marks) (laid : Option (List Table)) (quiet : Bool) → is_refused reply ≡ false → quiet ≡ is_still e → mid.marks ≡ (next number e (reply, marks)).1 → IsLaid base marks laid
+    → new ≡ record mid { laid = (if quiet then laid else None) } → IsLaid base new.marks new.laid
+laid_after base number e mid new reply marks laid quiet going same is h made =
+    subst (λ (x : Course). IsLaid base x.marks x.laid) (sym made) (laid_settled base number e reply marks mid.marks laid quiet going same is h)

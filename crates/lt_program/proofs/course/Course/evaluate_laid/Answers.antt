@@ -1,0 +1,34 @@
+use Rattle.std.proofs.Common.{Some, None, sym, ap, ◌∙◌, subst}
+use Rattle.lt_base.specs.Tables.{state_of}
+use Rattle.lt_model.specs.Marks.{Marks}
+use Rattle.lt_query.specs.Needs.{body_of}
+use Rattle.lt_program.specs.declared.course.Course.{Course}
+use Rattle.lt_program.specs.Effect.{view}
+use Rattle.lt_program.specs.Tally.{IsLaidOn, is_refused}
+use Rattle.lt_program.proofs.CourseSteps.{wide_on, fits_on, indexes_on, grows_on, cost_on, grows_settled, grows_taken, laid_after}
+use Rattle.lt_program.proofs.course.Course.evaluate_laid.Goals as goal
+
+pub evaluated-requires-clause-wide : goal.evaluated-requires-clause-wide
+evaluated-requires-clause-wide g c = wide_on c.args.base.now c.args.self.now.marks c.in_ok-laid.laid c.in_ok-laid.ensures.laid c.requires.wide
+
+pub evaluated-requires-clause-indexes : goal.evaluated-requires-clause-indexes
+evaluated-requires-clause-indexes g c = indexes_on c.args.base.now c.args.self.now.marks c.in_ok-laid.laid c.in_ok-laid.ensures.laid (body_of c.args.stmt.now) c.requires.indexes
+
+pub evaluated-requires-clause-fits : goal.evaluated-requires-clause-fits
+evaluated-requires-clause-fits g c = fits_on c.args.base.now c.args.self.now.marks c.in_ok-laid.laid c.in_ok-laid.ensures.laid c.args.stmt.now c.requires.fits
+
+pub returns-clause-ok : goal.returns-clause-ok
+returns-clause-ok g c =
+    grows_settled c.args.number c.args.stmt.now (state_of c.args.base.now) c.args.self.now c.accept.new.self c.settle.new.self _ c.settle.ensures
+    (grows_taken c.args.number c.args.stmt.now (state_of c.args.base.now) c.args.self.now c.take_laid.new.self c.accept.new.self None c.in_ok-laid.ensures.rest
+    (grows_on c.args.base.now c.args.self.now.marks c.in_ok-laid.laid c.in_ok-laid.ensures.laid c.args.number c.args.stmt.now c.in_ok-step.step.part (view c.in_ok-step.step.effect) c.take_laid.new.self c.accept.new.self
+    (ap (λ (x : Course). x.marks) c.in_ok-laid.ensures.rest) c.in_ok-step.ensures.part c.in_ok-step.ensures.effect c.in_ok-accept.ensures.parts c.in_ok-accept.ensures.reply c.in_ok-accept.ensures.marks))
+
+pub returns-clause-cost : goal.returns-clause-cost
+returns-clause-cost g c = cost_on c.args.base.now c.args.self.now.marks c.in_ok-laid.laid c.in_ok-laid.ensures.laid c.args.stmt.now c.args.moves.now c.evaluated.new.moves c.in_ok-step.ensures.cost
+
+pub returns-clause-laid : goal.returns-clause-laid
+returns-clause-laid g c =
+    laid_after c.args.base.now c.args.number (view c.in_ok-step.step.effect) c.accept.new.self c.settle.new.self c.take_laid.new.self.reply c.take_laid.new.self.marks (Some c.in_ok-laid.laid) c.is_quiet-quiet.result
+    (ap (λ (x : Course). is_refused x.reply) c.in_ok-laid.ensures.rest ∙ c.requires.going) c.is_quiet-quiet.ensures c.in_ok-accept.ensures.marks
+    (subst (λ (m : Marks). IsLaidOn c.args.base.now m c.in_ok-laid.laid) (sym (ap (λ (x : Course). x.marks) c.in_ok-laid.ensures.rest)) c.in_ok-laid.ensures.laid) c.settle.ensures

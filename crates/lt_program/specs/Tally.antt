@@ -1,0 +1,158 @@
+-- What a tally keeps of the run of a program.
+use Rattle.std.specs.Prelude.{◌≡◌, ℕ, zero, suc, ◌+◌, ◌<◌, ◌≤◌, ◌==◌, ◌||◌, Bool, true, false, List, [], ◌∷◌, ◌++◌, length, take, slice_get, Option, Some, None, ◌⊎◌}
+use Rattle.std.specs.List.{AllByRecursion}
+use Rattle.lt_face.specs.State.{State}
+use Rattle.lt_model.specs.declared.normal.Body.{Body}
+use Rattle.lt_model.specs.declared.normal.Stmt.{Stmt}
+use Rattle.lt_model.specs.declared.normal.Stmt.TheVariants.{Insert, Delete, Replace, Need, Print}
+use Rattle.lt_model.specs.declared.reply.Printed.{Printed}
+use Rattle.lt_model.specs.declared.reply.Reply.{Reply}
+use Rattle.lt_model.specs.declared.reply.Reply.TheVariants.{Done, Refused}
+use Rattle.lt_model.specs.Answers.{answers, some_answer}
+use Rattle.lt_model.specs.Marks.{Marks, laid}
+use Rattle.lt_model.specs.Effect.{Effect, Writes, Needs, Prints, effect}
+use Rattle.lt_model.specs.Run.{run, run_on}
+use Rattle.lt_base.specs.Tables.{Table, state_of, has_index}
+use Rattle.lt_query.specs.declared.plans.Guide.{Guide}
+use Rattle.lt_query.specs.Needs.{body_of}
+use Rattle.lt_query.specs.Stated.{stated_plan}
+use Rattle.lt_sense.specs.declared.sense.Sense.{Sense}
+use Rattle.lt_sense.specs.Sense.{IsTight}
+use Rattle.lt_join.specs.Certify.{Certifies, Vouches}
+use Rattle.lt_join.specs.Cost.{bound}
+use Rattle.lt_program.specs.declared.course.Course.{Course}
+use Rattle.lt_program.specs.declared.part.Outcome.{Outcome}
+use Rattle.lt_program.specs.declared.part.Outcome.TheVariants.{Rows, Both, Truth}
+use Rattle.lt_program.specs.declared.part.Part.{Part}
+
+-- ---- one statement
+
+-- what the evaluation of a statement on a state gives
+abbrev pub outcome_on : Stmt → State → Outcome
+outcome_on (Insert head body) state = Rows (answers head.terms body state)
+outcome_on (Delete head body) state = Rows (answers head.terms body state)
+outcome_on (Replace gone come body) state = Both (answers gone.terms body state) (answers come.terms body state)
+outcome_on (Need some body) state = Truth (some_answer body state)
+outcome_on (Print terms kinds body) state = Rows (answers terms body state)
+
+-- what the outcome was sensitive to, on this state
+abbrev pub VouchesFor : Sense → Stmt → State → Type 0
+VouchesFor sense (Insert head body) state = Certifies sense body state
+VouchesFor sense (Delete head body) state = Certifies sense body state
+VouchesFor sense (Replace gone come body) state = Certifies sense body state
+VouchesFor sense (Need some body) state = Vouches sense body state
+VouchesFor sense (Print terms kinds body) state = Certifies sense body state
+
+-- the part is the statement's on this state
+pub record IsPartOn (stmt : Stmt) (state : State) (part : Part) : Type 0 where
+  pub outcome : part.outcome ≡ outcome_on stmt state
+  pub vouches : VouchesFor part.sense stmt state
+  pub tight : IsTight part.sense state
+
+-- so many moves its evaluation may take: what the join of its body may take, of a `replace` once for each head
+abbrev pub statement_cost : Stmt → State → ℕ
+statement_cost (Replace gone come body) state = bound (stated_plan body) state + bound (stated_plan body) state
+statement_cost stmt state = bound (stated_plan (body_of stmt)) state
+
+-- ---- the statements of a program
+
+-- the reply and the marks of the first n statements
+abbrev pub run_of_first : ℕ → List Stmt → State → Reply × Marks
+run_of_first n program state = run (take n program) state
+
+-- the state before the statement with j before it: their marks are laid on it
+abbrev pub state_before : ℕ → List Stmt → State → State
+state_before j program state = laid state (run_of_first j program state).1
+
+abbrev pub is_refused : Reply → Bool
+is_refused (Done prints) = false
+is_refused (Refused j) = true
+
+abbrev pub cost_on : Option Stmt → State → ℕ
+cost_on None state = 0
+cost_on (Some stmt) state = statement_cost stmt state
+
+-- the moves that the first n statements may take, each on the state before it
+abbrev pub cost_of_first : ℕ → List Stmt → State → ℕ
+cost_of_first zero program state = 0
+cost_of_first (suc n) program state = cost_of_first n program state + cost_on (slice_get program n) (state_before n program state)
+
+-- the database has each index through which the plan of the body goes
+abbrev pub HasIndexesOf : List Table → Body → Type 0
+HasIndexesOf tables body = AllByRecursion (λ (guide : Guide). has_index tables guide.relation guide.columns ≡ true) (stated_plan body).guides
+
+-- the database has each index that the plans of the program need
+abbrev pub HasIndexes : List Table → List Stmt → Type 0
+HasIndexes tables program = AllByRecursion (λ stmt. HasIndexesOf tables (body_of stmt)) program
+
+-- ---- tallies
+
+-- the program, the database that it runs on, a part for each statement evaluated, and what these answered and wrote
+pub record TallyView : Type 0 where
+  pub program : List Stmt
+  pub base : List Table
+  pub parts : List Part
+  pub reply : Reply
+  pub marks : Marks
+
+-- every statement was evaluated, or a requirement was false
+abbrev pub has_ended : TallyView → Bool
+has_ended t = is_refused t.reply || length t.parts == length t.program
+
+-- each part is its statement's, on the state before it
+abbrev pub ArePartsOf : TallyView → Type 0
+ArePartsOf t =
+    (j : ℕ) (stmt : Stmt) (part : Part) → slice_get t.program j ≡ Some stmt → slice_get t.parts j ≡ Some part →
+    IsPartOn stmt (state_before j t.program (state_of t.base)) part
+
+-- The tally is the run of the statements evaluated. Only the last of them can be a requirement that was false.
+pub record IsRun (t : TallyView) : Type 0 where
+  pub evaluated : length t.parts ≤ length t.program
+  pub reply : t.reply ≡ (run_of_first (length t.parts) t.program (state_of t.base)).0
+  pub marks : t.marks ≡ (run_of_first (length t.parts) t.program (state_of t.base)).1
+  pub parts : ArePartsOf t
+  pub went_on : (j : ℕ) → j < length t.parts → is_refused (run_of_first j t.program (state_of t.base)).0 ≡ false
+
+-- ---- one more statement
+
+-- a statement of this number has this effect, after these replies and marks
+abbrev pub next : ℕ → Effect → Reply × Marks → Reply × Marks
+next number e (Done prints, marks) = run_on number (record { marks = marks; prints = prints }) e (λ p. (Done p.prints, p.marks))
+next number e (Refused j, marks) = (Refused j, marks)
+
+-- the reply with one more printed list, unless the program was refused
+abbrev pub with_print : Reply → Printed → Reply
+with_print (Done prints) printed = Done (prints ++ printed ∷ [])
+with_print (Refused j) printed = Refused j
+
+-- the effect leaves the marks as they are
+abbrev pub is_still : Effect → Bool
+is_still (Writes []) = true
+is_still (Writes (m ∷ marks)) = false
+is_still (Needs holds) = holds
+is_still (Prints kinds rows) = true
+
+-- the database with the marks laid on it, and its indexes
+pub record IsLaidOn (base : List Table) (marks : Marks) (tables : List Table) : Type 0 where
+  pub state : state_of tables ≡ laid (state_of base) marks
+  pub indexes : (relation : ℕ) (columns : List ℕ) → has_index tables relation columns ≡ has_index base relation columns
+
+abbrev pub IsLaid : List Table → Marks → Option (List Table) → Type 0
+IsLaid base marks None = Unit {0}
+IsLaid base marks (Some tables) = IsLaidOn base marks tables
+
+-- one more part, and what comes of the statement's effect
+pub record Grows (number : ℕ) (stmt : Stmt) (base : State) (old new : Course) : Type 0 where
+  pub part : Part
+  pub is_part : IsPartOn stmt (laid base old.marks) part
+  pub parts : new.parts ≡ old.parts ++ part ∷ []
+  pub reply : new.reply ≡ (next number (effect stmt (laid base old.marks)) (old.reply, old.marks)).0
+  pub marks : new.marks ≡ (next number (effect stmt (laid base old.marks)) (old.reply, old.marks)).1
+
+-- the tally with one more statement evaluated
+pub record IsOneMore (old new : TallyView) : Type 0 where
+  pub program : new.program ≡ old.program
+  pub base : new.base ≡ old.base
+  pub part : Part
+  pub parts : new.parts ≡ old.parts ++ part ∷ []
+  pub run : IsRun new

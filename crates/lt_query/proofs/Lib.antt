@@ -1,0 +1,18 @@
+pub mod Ascending
+pub mod Counting
+pub mod Distinct
+pub mod Elements
+pub mod Given
+pub mod LevelSteps
+pub mod Needed
+pub mod Orders
+pub mod Origins
+pub mod Picks
+pub mod PlaceSteps
+pub mod Precedence
+pub mod Running
+pub mod Standing
+pub mod StatedPlan
+pub mod Text
+mod NeedsExamples
+mod OrderExamples

@@ -1,0 +1,9 @@
+pub mod Answering
+pub mod Laws
+pub mod Lists
+pub mod LevelsOf
+pub mod Needs
+pub mod Order
+pub mod Plan
+pub mod Runnable
+pub mod Stated

@@ -1,0 +1,19 @@
+//! Laws of the plans of a body, in whatever order of its variables, and of its answers.
+ghost use Rattle.lt_query.specs.Laws.{FittingHasWidths, PlansAreRunnable, OneStatedPlan, AnswersAscend, AnswersAreCells, SomeIsSatisfied, OneAscending};
+
+/// The atoms of a body that fits a state are as wide as the relations. A join can follow each plan of the body. One plan
+/// has the stated order.
+pub fn plans_of_bodies()
+    ensures widths { FittingHasWidths }
+    ensures runnable { PlansAreRunnable }
+    ensures one { OneStatedPlan }
+{}
+
+/// The answers of a body ascend, and they are the terms' cells under the assignments that hold and whose rows the state
+/// has. There is one exactly where there is such an assignment. So answers with the same rows are equal.
+pub fn answers_of_bodies()
+    ensures ascend { AnswersAscend }
+    ensures cells { AnswersAreCells }
+    ensures some { SomeIsSatisfied }
+    ensures one { OneAscending }
+{}

@@ -1,0 +1,74 @@
+//! The two kinds of thing that cover rows: gaps and hits.
+ghost use Rattle.std.specs.Prelude.{◌≡◌, ◌≤◌, slice_index};
+ghost use Rattle.lt_face.specs.State.{permuted};
+ghost use Rattle.lt_sense.specs.Sense.{lies_in as lies_within, gap_covers, hit_covers};
+
+use lt_face::items::Perm;
+use lt_face::key::Key;
+use lt_face::row::Row;
+
+/// A gap that a move left: in the relation, with its columns in this order, no row began with the prefix and had a next
+/// cell from `lo` to below `hi`.
+#[derive(Drop)]
+pub struct KeptGap {
+    pub relation: u32,
+    pub columns: Perm,
+    pub prefix: Row,
+    pub lo: Key,
+    pub hi: Key,
+}
+
+/// A row that was met.
+#[derive(Drop)]
+pub struct Hit {
+    pub relation: u32,
+    pub row: Row,
+}
+
+/// The cell in a column, 0 past the last.
+fn cell_at(row: &Row, column: u32) -> Key
+    ensures { result ≡ slice_index row.now column }
+{
+    let column = column as usize;
+    if column < row.width() {
+        row.cell(column)
+    } else {
+        0
+    }
+}
+
+impl KeptGap {
+    /// Whether the row's cells, in the gap's order of columns, begin with its prefix and the next lies within its bounds.
+    fn lies_in(&self, row: &Row) -> bool
+        ensures { result ≡ lies_within self.now.prefix self.now.lo self.now.hi (permuted self.now.columns row.now) }
+    {
+        let prefix = self.prefix.cells();
+        let columns = self.columns.as_slice();
+        if columns.len() <= prefix.len() {
+            return false;
+        }
+        for i in 0..prefix.len() {
+            if cell_at(row, columns[i]) != prefix[i] {
+                return false;
+            }
+        }
+        let next = cell_at(row, columns[prefix.len()]);
+        self.lo <= next && next < self.hi
+    }
+
+    /// Whether a row of the relation lies in the gap.
+    pub fn covers(&self, relation: u32, row: &Row) -> bool
+        ensures { result ≡ gap_covers self.now relation row.now }
+    {
+        self.relation == relation && self.lies_in(row)
+    }
+}
+
+impl Hit {
+    /// Whether this is the row of the relation.
+    pub fn covers(&self, relation: u32, row: &Row) -> bool
+        ensures { result ≡ hit_covers self.now relation row.now }
+    {
+        self.relation == relation && self.row == *row
+    }
+}

@@ -1,0 +1,14 @@
+//! What an evaluation was sensitive to: gaps between keys that its moves passed, and rows that it met.
+#![tactic(auto)]
+
+mod covering;
+mod sense;
+mod spot;
+
+pub use covering::{Hit, KeptGap};
+pub use lt_face::items::Changes;
+pub use sense::Sense;
+pub use spot::Spot;
+
+#[cfg(test)]
+mod tests;
