@@ -1,0 +1,13 @@
+pub mod Cells
+pub mod Runs
+pub mod Spans
+pub mod Ranks
+pub mod Sweeps
+pub mod Rounds
+pub mod Counts
+pub mod Reached
+pub mod Example
+pub mod Steps
+pub mod Turns
+pub mod Ways
+pub mod Ends

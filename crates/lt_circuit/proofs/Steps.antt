@@ -1,0 +1,236 @@
+-- What each event keeps of a circuit's fields.
+use Rattle.std.proofs.Common.{◌≡◌, ◌≢◌, ℕ, ◌+◌, ◌-◌, ◌*◌, ◌/◌, ◌%◌, ◌<◌, ◌≤◌, inl, inr, true, false, List, [], ◌∷◌, ◌++◌, Option, Some, None, map, length, get_or, set, refl, sym, ap, ◌∙◌, subst, arith, length-set}
+use Rattle.std.specs.Prelude.{◌==◌}
+use Rattle.std.specs.Option.{option_map}
+use Rattle.std.proofs.lemmas.List.{map-append}
+use Rattle.lt_model.specs.declared.mark.Mark.{Mark}
+use Rattle.lt_model.specs.Marks.{and_then}
+use Rattle.lt_net.specs.declared.job.JobState.TheVariants.{Clean, Pending}
+use Rattle.lt_net.specs.declared.job.JobName.{JobName}
+use Rattle.lt_net.specs.declared.job.JobName.TheVariants.{Leaf, Merge, Correct}
+use Rattle.lt_net.specs.declared.cells.Held.{Held}
+use Rattle.lt_net.specs.Kept.{IsKept}
+use Rattle.lt_net.specs.Net.{Net, State, Claim, Claims, Finishes, Abandons, is_held, update, claim_of, claimed, finished, abandoned, step, replay, opening}
+use Rattle.lt_net.specs.Tree.{tree_of, leaves_in, inputs_of, code_of, circuit_net}
+use Rattle.lt_net.specs.Board.{BoardView, state_of, claim_from, standing, table}
+use Rattle.lt_net.proofs.Fitting.{AllFit, reached_fit}
+use Rattle.lt_net.proofs.Inside.{replay_more, replay_end, job_inside, leaf_inside, leaves_are}
+use Rattle.lt_net.proofs.Jobs.{job_of-code}
+use Rattle.lt_net.proofs.Kept.{at_update}
+use Rattle.lt_net.proofs.Opening.{get_same, length-table}
+use Rattle.lt_net.proofs.Serial.{reached_kept}
+use Rattle.lt_net.proofs.Shape.{eq_true, eq_false, lt_true}
+use Rattle.lt_net.proofs.Standing.{one_less, at_most_one_more}
+use Rattle.lt_circuit.specs.declared.entry.Entry.{Entry}
+use Rattle.lt_circuit.specs.declared.task.Prior.{Prior}
+use Rattle.lt_circuit.specs.declared.task.Task.{Task}
+use Rattle.lt_circuit.specs.declared.task.Task.TheVariants.{Run, Join, PassOn}
+use Rattle.lt_circuit.specs.declared.task.Done.{Done}
+use Rattle.lt_circuit.specs.declared.task.Done.TheVariants.{Ran, Joined, PassedOn}
+use Rattle.lt_circuit.specs.Circuit.{event_of, IsReplay, IsCircuit, AreTallies}
+use Rattle.lt_circuit.specs.Job.{task_name, task_inputs, task_prior, prior_correction, tallies_left, tallies_back, tallies_done, done_name, done_inputs, done_prior, IsTask, IsPrior, IsOutput}
+use Rattle.lt_circuit.proofs.Tallies.{claim_tallies, abandon_tallies, finish_tallies}
+
+abbrev pub claim_of_task : {T : Type 0} → Task T → Claim
+claim_of_task task = record { job = code_of (task_name task); inputs = task_inputs task; prior = prior_correction (task_prior task) }
+
+abbrev pub claim_of_done : {T : Type 0} → Done T → Claim
+claim_of_done did = record { job = code_of (done_name did); inputs = done_inputs did; prior = done_prior did }
+
+-- ---- entries as events
+
+claim_event : (w j : ℕ) → event_of (record { worker = w; code = 3 * j }) ≡ Claims w j
+claim_event w j =
+    let a : (3 * j % 3 == 0) ≡ true = ap (λ n. n == 0) (let z : 3 * j % 3 ≡ 0 = omega arith in z) in
+    let d : 3 * j / 3 ≡ j = omega arith in
+    rw (a, d)
+
+finish_event : (w j : ℕ) → event_of (record { worker = w; code = 3 * j + 1 }) ≡ Finishes w j
+finish_event w j =
+    let a : ((3 * j + 1) % 3 == 0) ≡ false = eq_false ((3 * j + 1) % 3) 0 (omega arith) in
+    let b : ((3 * j + 1) % 3 == 1) ≡ true = ap (λ n. n == 1) (let z : (3 * j + 1) % 3 ≡ 1 = omega arith in z) in
+    let d : (3 * j + 1) / 3 ≡ j = omega arith in
+    rw (a, b, d)
+
+abandon_event : (w j : ℕ) → event_of (record { worker = w; code = 3 * j + 2 }) ≡ Abandons w j
+abandon_event w j =
+    let a : ((3 * j + 2) % 3 == 0) ≡ false = eq_false ((3 * j + 2) % 3) 0 (omega arith) in
+    let b : ((3 * j + 2) % 3 == 1) ≡ false = eq_false ((3 * j + 2) % 3) 1 (omega arith) in
+    let d : (3 * j + 2) / 3 ≡ j = omega arith in
+    rw (a, b, d)
+
+-- a claim of another worker
+pub other_claim : {X : Type 0} (f : ℕ → X) (w : ℕ) (x : X) (v : ℕ) → v ≢ w → update f w x v ≡ f v
+other_claim f w x v ne = elim (at_update f w x v) [ inl h ↦ absurd (ne h.0) | inr h ↦ h.1 ]
+
+was_some : {X Y : Type 0} (f : X → Y) (o : Option X) (y : Y) → option_map f o ≡ Some y → (x : X) × (o ≡ Some x)
+was_some f None y e = cc
+was_some f (Some x) y e = (x, refl)
+
+module _ {T : Type 0} (does : ℕ → List Mark → List Mark) (stands_for : T → ℕ → List Mark → Type 0) (fits : List Mark → Type 0) (has : ℕ → Type 0)
+    (board : BoardView) (journal : List Entry) (tallies : List (Option (Prior T))) (used capacity : ℕ)
+    (h : IsCircuit does stands_for fits has board journal tallies used capacity) where
+  abbrev net : Net
+  net = circuit_net does (tree_of board.leaves)
+
+  pub kept : IsKept (circuit_net does (tree_of board.leaves)) (state_of board)
+  kept = reached_kept does board.leaves (map event_of journal) (state_of board) h.replayed
+
+  pub all_fit : fits [] → ((a b : List Mark) → fits a → fits b → fits (and_then a b)) → ((i : ℕ) (c : List Mark) → has i → fits c → fits (does i c)) → AllFit fits (state_of board)
+  all_fit none both gives = reached_fit fits does board.leaves none both (λ i c lt f. gives i c (h.leaves_there i lt) f) (map event_of journal) (state_of board) h.replayed
+
+  pub roomier : (more : ℕ) → capacity ≤ more → IsCircuit does stands_for fits has board journal tallies used more
+  roomier more le = record {
+    replayed = h.replayed;
+    few = h.few;
+    leaves_there = h.leaves_there;
+    tallies_long = h.tallies_long;
+    are_tallies = h.are_tallies;
+    room = omega (arith, h.room);
+  }
+
+  one_event : (board' : BoardView) (e : Entry) → board'.leaves ≡ board.leaves → step net (state_of board) (event_of e) ≡ Some (state_of board') → IsReplay does board' (journal ++ e ∷ [])
+  one_event board' e same stepped =
+      let es : map event_of (journal ++ e ∷ []) ≡ map event_of journal ++ event_of e ∷ [] = map-append event_of journal (e ∷ []) in
+      let all : replay net (Some (opening net)) (map event_of (journal ++ e ∷ [])) ≡ Some (state_of board') =
+      ap (replay net (Some (opening net))) es ∙ replay_more net (map event_of journal) (opening net) (state_of board) (event_of e) h.replayed ∙ replay_end net (step net (state_of board) (event_of e)) (state_of board') stepped in
+      subst (λ n. replay (circuit_net does (tree_of n)) (Some (opening (circuit_net does (tree_of n)))) (map event_of (journal ++ e ∷ [])) ≡ Some (state_of board')) (sym same) all
+
+  -- ---- jobs that aren't Clean are jobs of the tree
+
+  module _ (name : JobName) (busy : (state_of board).status (code_of name) ≢ Clean) where
+    pub is_there : inputs_of (tree_of board.leaves) name ≢ []
+    is_there e = busy (kept.idle (code_of name) (ap (inputs_of (tree_of board.leaves)) (job_of-code name) ∙ e))
+
+    pub is_inside : code_of name < 3 * (2 * board.leaves - 1)
+    is_inside = job_inside board.leaves name is_there
+
+    pub is_small : code_of name < 1533
+    is_small = omega (arith, is_inside, h.few)
+
+    pub leaf_there : (leaf : ℕ) → name ≡ Leaf leaf → leaf < length tallies
+    leaf_there leaf e = omega (arith, h.tallies_long, leaf_inside board.leaves leaf (λ f. is_there (ap (inputs_of (tree_of board.leaves)) e ∙ f)))
+
+  held_busy : (w : ℕ) (c : Claim) → (state_of board).claim w ≡ Some c → (state_of board).status c.job ≢ Clean
+  held_busy w c cl e = let a : false ≡ true = sym (ap is_held e) ∙ kept.held w c cl in cc
+
+  -- ---- a claim
+
+  module _ (w : ℕ) (name : JobName) (free : (state_of board).claim w ≡ None) (pending : (state_of board).status (code_of name) ≡ Pending) where
+    pub pending_busy : (state_of board).status (code_of name) ≢ Clean
+    pending_busy e = let a : Pending ≡ Clean = sym pending ∙ e in cc
+
+    pub claim_circuit : (board' : BoardView) (held : Held) (more : ℕ) → board'.leaves ≡ board.leaves → state_of board' ≡ claimed (circuit_net does (tree_of board.leaves)) (state_of board) w (code_of name)
+        → board'.claims ≡ set board.claims w (Some held) → used + standing board.claims + 2 ≤ more
+        → IsCircuit does stands_for fits has board' (journal ++ record { worker = w; code = 3 * code_of name } ∷ []) (tallies_left name tallies) (used + 1) more
+    claim_circuit board' held more same st claims le =
+        let stepped : step net (state_of board) (event_of (record { worker = w; code = 3 * code_of name })) ≡ Some (state_of board') = rw (claim_event w (code_of name), free, pending) (ap Some (sym st)) in
+        record {
+          replayed = one_event board' (record { worker = w; code = 3 * code_of name }) same stepped;
+          few = omega (arith, same, h.few);
+          leaves_there = λ i lt. h.leaves_there i (omega (arith, same));
+          tallies_long = long name ∙ h.tallies_long ∙ sym same;
+          are_tallies = subst (λ s. AreTallies stands_for fits s (tallies_left name tallies)) (sym st)
+              (claim_tallies stands_for fits (state_of board) tallies h.are_tallies w net name (leaf_there name pending_busy));
+          room = omega (arith, ap standing claims, at_most_one_more board.claims w held, le);
+        }
+      where
+        long : (name : JobName) → length (tallies_left name tallies) ≡ length tallies
+        long (Leaf l) = length-set tallies l None
+        long (Merge v) = refl
+        long (Correct v) = refl
+
+  -- ---- the ends of a claim
+
+  module _ (w : ℕ) (c : Claim) (cl : (state_of board).claim w ≡ Some c) where
+    pub end_fits : used < capacity
+    end_fits =
+        let held = was_some claim_from (get_or board.claims w None) c cl in
+        omega (arith, one_less board.claims w held.0 held.1, h.room)
+
+    room_left : (board' : BoardView) → board'.claims ≡ set board.claims w None → used + 1 + standing board'.claims ≤ capacity
+    room_left board' fewer =
+        let held = was_some claim_from (get_or board.claims w None) c cl in
+        omega (arith, ap standing fewer, one_less board.claims w held.0 held.1, h.room)
+
+    own_claim : claim_of ((state_of board).claim w) c.job ≡ Some c
+    own_claim = ap (λ o. claim_of o c.job) cl ∙ (rw (eq_true c.job))
+
+  pub task_busy : (w : ℕ) (task : Task T) → (state_of board).claim w ≡ Some (claim_of_task task) → (state_of board).status (code_of (task_name task)) ≢ Clean
+  task_busy w task cl = held_busy w (claim_of_task task) cl
+
+  pub done_busy : (w : ℕ) (did : Done T) → (state_of board).claim w ≡ Some (claim_of_done did) → (state_of board).status (code_of (done_name did)) ≢ Clean
+  done_busy w did cl = held_busy w (claim_of_done did) cl
+
+  task_prior_fits : (task : Task T) → IsTask stands_for fits has task → (l : ℕ) → task_name task ≡ Leaf l → IsPrior stands_for fits l (task_prior task)
+  task_prior_fits (Run leaf correction prior) ok l e = let f : leaf ≡ l = cc in subst (λ n. IsPrior stands_for fits n prior) f ok.2
+  task_prior_fits (Join node left right) ok l e = cc
+  task_prior_fits (PassOn node correction left) ok l e = cc
+
+  back_long : (task : Task T) → length (tallies_back task tallies) ≡ length tallies
+  back_long (Run leaf correction prior) = length-set tallies leaf prior
+  back_long (Join node left right) = refl
+  back_long (PassOn node correction left) = refl
+
+  done_long : (did : Done T) → length (tallies_done did tallies) ≡ length tallies
+  done_long (Ran leaf tally again prior effect) = length-set tallies leaf (Some tally)
+  done_long (Joined node left right effect) = refl
+  done_long (PassedOn node correction left to_right) = refl
+
+  pub abandon_circuit : (w : ℕ) (task : Task T) (board' : BoardView) → (state_of board).claim w ≡ Some (claim_of_task task) → board'.leaves ≡ board.leaves
+      → state_of board' ≡ abandoned (state_of board) w (claim_of_task task) → board'.claims ≡ set board.claims w None → IsTask stands_for fits has task
+      → IsCircuit does stands_for fits has board' (journal ++ record { worker = w; code = 3 * code_of (task_name task) + 2 } ∷ []) (tallies_back task tallies) (used + 1) capacity
+  abandon_circuit w task board' cl same st fewer ok =
+      let e : Entry = record { worker = w; code = 3 * code_of (task_name task) + 2 } in
+      let stepped : step net (state_of board) (event_of e) ≡ Some (state_of board') = rw (abandon_event w (code_of (task_name task)), own_claim w (claim_of_task task) cl) (ap Some (sym st)) in
+      record {
+        replayed = one_event board' e same stepped;
+        few = omega (arith, same, h.few);
+        leaves_there = λ i lt. h.leaves_there i (omega (arith, same));
+        tallies_long = back_long task ∙ h.tallies_long ∙ sym same;
+        are_tallies = subst (λ s. AreTallies stands_for fits s (tallies_back task tallies)) (sym st)
+            (abandon_tallies stands_for fits (state_of board) tallies h.are_tallies w task (claim_of_task task) refl (kept.captured w (claim_of_task task) cl)
+            (λ l f. (leaf_there (task_name task) (task_busy w task cl) l f, task_prior_fits task ok l f)));
+        room = room_left w (claim_of_task task) cl board' fewer;
+      }
+
+  leaf_is_leaf : (name : JobName) (l : ℕ) → (state_of board).status (code_of name) ≢ Clean → name ≡ Leaf l → net.is_leaf (code_of name) ≡ true
+  leaf_is_leaf name l busy e =
+      let inside : l < leaves_in (tree_of board.leaves) = omega (arith, leaf_there name busy l e, h.tallies_long, leaves_are board.leaves) in
+      ap (λ n. net.is_leaf (code_of n)) e ∙ (rw (job_of-code (Leaf l)) (lt_true l (leaves_in (tree_of board.leaves)) inside))
+
+  pub finish_circuit : (w : ℕ) (did : Done T) (board' : BoardView) → (state_of board).claim w ≡ Some (claim_of_done did) → board'.leaves ≡ board.leaves
+      → state_of board' ≡ finished (circuit_net does (tree_of board.leaves)) (state_of board) w (claim_of_done did) → board'.claims ≡ set board.claims w None → IsOutput does stands_for fits did
+      → IsCircuit does stands_for fits has board' (journal ++ record { worker = w; code = 3 * code_of (done_name did) + 1 } ∷ []) (tallies_done did tallies) (used + 1) capacity
+  finish_circuit w did board' cl same st fewer ok =
+      let e : Entry = record { worker = w; code = 3 * code_of (done_name did) + 1 } in
+      let stepped : step net (state_of board) (event_of e) ≡ Some (state_of board') = rw (finish_event w (code_of (done_name did)), own_claim w (claim_of_done did) cl) (ap Some (sym st)) in
+      let busy = done_busy w did cl in
+      record {
+        replayed = one_event board' e same stepped;
+        few = omega (arith, same, h.few);
+        leaves_there = λ i lt. h.leaves_there i (omega (arith, same));
+        tallies_long = done_long did ∙ h.tallies_long ∙ sym same;
+        are_tallies = subst (λ s. AreTallies stands_for fits s (tallies_done did tallies)) (sym st)
+            (finish_tallies stands_for fits (state_of board) tallies h.are_tallies w net (claim_of_done did) did refl refl ok.has_tally
+            (λ l f. (leaf_there (done_name did) busy l f, leaf_is_leaf (done_name did) l busy f)));
+        room = room_left w (claim_of_done did) cl board' fewer;
+      }
+
+-- ---- the opening
+
+pub start_circuit : {T : Type 0} (does : ℕ → List Mark → List Mark) (stands_for : T → ℕ → List Mark → Type 0) (fits : List Mark → Type 0) (has : ℕ → Type 0)
+    (board : BoardView) (tallies : List (Option (Prior T))) (n used capacity : ℕ) → board.leaves ≡ n → n ≤ 256 → ((i : ℕ) → i < n → has i)
+    → state_of board ≡ opening (circuit_net does (tree_of n)) → tallies ≡ table (λ k. None) n → standing board.claims ≡ 0 → used ≡ 0
+    → IsCircuit does stands_for fits has board [] tallies used capacity
+start_circuit does stands_for fits has board tallies n used capacity same few there st none free unused = record {
+  replayed = ap Some (ap (λ k. opening (circuit_net does (tree_of k))) same ∙ sym st);
+  few = omega arith;
+  leaves_there = λ i lt. there i (omega arith);
+  tallies_long = ap length none ∙ length-table (λ k. None) n ∙ sym same;
+  are_tallies = record {
+    each = λ i p e. absurd (let g : None ≡ Some p = sym (ap (λ l. get_or l i None) none ∙ get_same None n i) ∙ e in cc);
+    there = λ i c d e. absurd (let g : None ≡ Some c = sym (ap (λ (s : State). s.done (code_of (Leaf i))) st) ∙ d in cc);
+  };
+  room = omega arith;
+}

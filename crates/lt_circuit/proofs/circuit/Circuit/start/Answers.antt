@@ -1,0 +1,19 @@
+use Rattle.std.proofs.Common.{ap}
+use Rattle.lt_net.specs.Net.{State}
+use Rattle.std.specs.Arc.{arc_value}
+use Rattle.std.specs.Vec.{vec_len, vec_capacity}
+use Rattle.lt_circuit.proofs.Steps.{start_circuit}
+use Rattle.lt_circuit.proofs.circuit.Circuit.start.Goals as goal
+
+pub invariant_of-result : goal.invariant_of-result
+invariant_of-result g c =
+    let w = arc_value c.args.work in
+    rw c.new-journal.ensures.items
+    (start_circuit (g.W.LeafWork.does w) (g.W.LeafWork.stands_for w) (g.W.LeafWork.fits w) (g.W.LeafWork.has w) c.in_ok-board.board c.in_ok-tallies.tallies.items c.args.leaves (vec_len c.new-journal.result) (vec_capacity c.new-journal.result)
+    c.in_ok-board.ensures.leaves c.requires.few c.requires.has (c.in_ok-board.ensures.state (g.W.LeafWork.does w)) c.in_ok-tallies.ensures c.in_ok-board.ensures.free c.new-journal.ensures.len)
+
+pub returns-clause-state : goal.returns-clause-state
+returns-clause-state g c = c.in_ok-board.ensures.state (g.W.LeafWork.does (arc_value c.args.work))
+
+pub returns-clause-free : goal.returns-clause-free
+returns-clause-free g c = λ w. ap (λ (s : State). s.claim w) (c.in_ok-board.ensures.state (g.W.LeafWork.does (arc_value c.args.work)))

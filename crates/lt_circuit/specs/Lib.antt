@@ -1,0 +1,4 @@
+pub mod Job
+pub mod Circuit
+pub mod Claiming
+pub mod Hands

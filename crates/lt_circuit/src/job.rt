@@ -1,0 +1,35 @@
+//! A job that a worker holds.
+ghost use Rattle.std.specs.Prelude.{◌≡◌};
+ghost use Rattle.std.specs.Arc.{arc_value};
+ghost use Rattle.lt_circuit.specs.Job.{JobView, IsTask, name_of_job};
+
+use crate::task::Task;
+use crate::work::LeafWork;
+use lt_net::JobName;
+use std::alloc::Global;
+use std::marker::Model;
+use std::sync::Arc;
+
+/// A job, claimed from a circuit of this work.
+#[derive(Drop)]
+pub struct Job<W: LeafWork> {
+    pub(crate) work: Arc<W, Global>,
+    pub(crate) task: Task<W::Tally>,
+}
+
+impl<W: LeafWork> Model for Job<W> {
+    ghost Value = { JobView W W.Tally };
+
+    ghost view = { λ j. record { work = arc_value j.work; task = j.task } };
+
+    ghost invariant = { λ j. IsTask (W.stands_for (arc_value j.work)) (W.fits (arc_value j.work)) (W.has (arc_value j.work)) j.task };
+}
+
+impl<W: LeafWork> Job<W> {
+    /// Which job it is.
+    pub fn name(&self) -> JobName
+        ensures { result ≡ name_of_job self.now }
+    {
+        self.task.name()
+    }
+}

@@ -1,0 +1,26 @@
+//! The repair circuit over the leaves of a work: which jobs there are to do, who does them, and what they gave. After
+//! Veldhuizen, "Transaction Repair: Full Serializability Without Locks", 2014.
+#![tactic(auto)]
+
+mod alone;
+mod answers;
+mod circuit;
+mod claim;
+mod claims;
+mod ends;
+mod entry;
+mod job;
+mod output;
+mod run;
+mod task;
+#[cfg(test)]
+mod tests;
+mod work;
+
+pub use circuit::Circuit;
+pub use claim::{Claim, This};
+pub use entry::Entry;
+pub use job::Job;
+pub use lt_net::{JobName, every_event_keeps, settled_is_serial};
+pub use output::Output;
+pub use work::LeafWork;

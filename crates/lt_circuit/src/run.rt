@@ -1,0 +1,136 @@
+//! Doing a job.
+ghost use Rattle.std.specs.Prelude.{◌≡◌, ◌+◌, ◌≤◌, List, IfOk, IfErr, IfSome};
+ghost use Rattle.std.specs.Option.{option_map};
+ghost use Rattle.lt_model.specs.declared.mark.Mark.{Mark};
+ghost use Rattle.lt_circuit.specs.Job.{claim_of_job, claim_of_output, task_bound};
+
+use crate::job::Job;
+use crate::output::Output;
+use crate::task::{Done, Prior, Task};
+use crate::work::LeafWork;
+use lt_delta::Marks;
+use lt_face::{Moves, NoMemory};
+
+/// A leaf's tally, its correction once more, and its effect.
+#[derive(Drop)]
+struct Ran<T> {
+    tally: T,
+    kept: Marks,
+    effect: Marks,
+}
+
+/// Runs a leaf.
+fn run_leaf<W: LeafWork, L>(
+    work: &W,
+    leaf: u32,
+    prior: Option<&W::Tally>,
+    correction: &Marks,
+    moves: &mut Moves<L>,
+) -> Result<Ran<W::Tally>, NoMemory>
+    requires leaf { W.has work.now leaf }
+    requires correction { W.fits work.now correction.now }
+    requires prior { IfSome prior (λ old. (c : List Mark) × W.fits work.now c × W.stands_for work.now old.now leaf c) }
+    ensures stands { IfOk result (λ ran. W.stands_for work.now ran.tally leaf correction.now) }
+    ensures kept { IfOk result (λ ran. ran.kept ≡ correction.now) }
+    ensures effect { IfOk result (λ ran. ran.effect ≡ W.does work.now leaf correction.now) }
+    ensures moves { IfSome (W.bound work.now (option_map (λ old. old.now) prior.entry) leaf correction.now) (λ most. moves.new ≤ moves.old + most) }
+{
+    let tally = work.work(leaf, prior, correction, moves)?;
+    let kept = correction.share()?;
+    let effect = work.effect(&tally).share()?;
+    Ok(Ran {
+        tally,
+        kept,
+        effect,
+    })
+}
+
+impl<W: LeafWork> Job<W> {
+    /// Does the job. Where memory is refused the job is given back. A leaf's job keeps the bound of its work on moves, with
+    /// the tally that was captured as prior; the others make none.
+    pub fn work<L>(self, moves: &mut Moves<L>) -> Result<Output<W>, Job<W>>
+        ensures work { IfOk result (λ output. output.work ≡ self.work) }
+        ensures claim { IfOk result (λ output. claim_of_output output ≡ claim_of_job self) }
+        ensures err { IfErr result (λ job. job ≡ self) }
+        ensures moves { IfSome (task_bound (W.bound self.work) self.task) (λ most. moves.new ≤ moves.old + most) }
+    {
+        let Job { work, task } = self;
+        match task {
+            Task::Run {
+                leaf,
+                correction,
+                prior,
+            } => {
+                let old = match &prior {
+                    Some(prior) => Some(&prior.tally),
+                    None => None,
+                };
+                let made = run_leaf(&*work, leaf, old, &correction, moves);
+                match made {
+                    Ok(ran) => {
+                        let Ran {
+                            tally,
+                            kept,
+                            effect,
+                        } = ran;
+                        let tally = Prior { tally, correction };
+                        let did = Done::Ran {
+                            leaf,
+                            tally,
+                            kept,
+                            prior,
+                            effect,
+                        };
+                        Ok(Output { work, did })
+                    }
+                    Err(_refused) => {
+                        let task = Task::Run {
+                            leaf,
+                            correction,
+                            prior,
+                        };
+                        Err(Job { work, task })
+                    }
+                }
+            }
+            Task::Join { node, left, right } => match Marks::and_then(&left, &right) {
+                Ok(effect) => {
+                    let did = Done::Joined {
+                        node,
+                        left,
+                        right,
+                        effect,
+                    };
+                    Ok(Output { work, did })
+                }
+                Err(_refused) => {
+                    let task = Task::Join { node, left, right };
+                    Err(Job { work, task })
+                }
+            },
+            Task::PassOn {
+                node,
+                correction,
+                left,
+            } => match Marks::and_then(&correction, &left) {
+                Ok(to_right) => {
+                    let did = Done::PassedOn {
+                        node,
+                        correction,
+                        left,
+                        to_right,
+                    };
+                    Ok(Output { work, did })
+                }
+                Err(_refused) => {
+                    let task = Task::PassOn {
+                        node,
+                        correction,
+                        left,
+                    };
+                    Err(Job { work, task })
+                }
+            },
+        }
+    }
+}

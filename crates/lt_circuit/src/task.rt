@@ -1,0 +1,156 @@
+//! What a job is to do, and what it did, with the inputs that it captured.
+ghost use Rattle.std.specs.Prelude.{◌≡◌, ◌<◌, ℕ, length};
+ghost use Rattle.lt_net.specs.declared.job.JobName.TheVariants.{Leaf};
+ghost use Rattle.lt_net.specs.Board.{inputs_list};
+ghost use Rattle.lt_circuit.specs.Job.{arity, done_name, tallies_back, tallies_left, task_from, task_name};
+
+use lt_delta::Marks;
+use lt_net::JobName;
+use lt_net::cells::Inputs;
+
+/// A leaf's tally, and the correction that it is of.
+#[derive(Drop)]
+pub struct Prior<T> {
+    pub tally: T,
+    pub correction: Marks,
+}
+
+/// What is to be done.
+#[derive(Drop)]
+pub enum Task<T> {
+    /// The leaf on its correction.
+    Run {
+        leaf: u32,
+        correction: Marks,
+        prior: Option<Prior<T>>,
+    },
+    /// The effects of both children, one after the other.
+    Join {
+        node: u32,
+        left: Marks,
+        right: Marks,
+    },
+    /// The children's corrections.
+    PassOn {
+        node: u32,
+        correction: Marks,
+        left: Marks,
+    },
+}
+
+/// What was done.
+#[derive(Drop)]
+pub enum Done<T> {
+    /// The leaf's tally on its correction, that correction once more, and the tally's marks.
+    Ran {
+        leaf: u32,
+        tally: Prior<T>,
+        kept: Marks,
+        prior: Option<Prior<T>>,
+        effect: Marks,
+    },
+    /// The effects joined.
+    Joined {
+        node: u32,
+        left: Marks,
+        right: Marks,
+        effect: Marks,
+    },
+    /// The right child's correction. The left child has the node's.
+    PassedOn {
+        node: u32,
+        correction: Marks,
+        left: Marks,
+        to_right: Marks,
+    },
+}
+
+impl<T> Task<T> {
+    /// The job that the task is of.
+    pub fn name(&self) -> JobName
+        ensures { result ≡ task_name self.now }
+    {
+        match self {
+            Task::Run { leaf, .. } => JobName::Leaf(*leaf),
+            Task::Join { node, .. } => JobName::Merge(*node),
+            Task::PassOn { node, .. } => JobName::Correct(*node),
+        }
+    }
+}
+
+impl<T> Done<T> {
+    /// The job that was done.
+    pub fn name(&self) -> JobName
+        ensures { result ≡ done_name self.now }
+    {
+        match self {
+            Done::Ran { leaf, .. } => JobName::Leaf(*leaf),
+            Done::Joined { node, .. } => JobName::Merge(*node),
+            Done::PassedOn { node, .. } => JobName::Correct(*node),
+        }
+    }
+}
+
+/// The task of a job on these inputs. A leaf's tally leaves its place.
+pub fn take_task<T: Drop>(
+    tallies: &mut Vec<Option<Prior<T>>>,
+    name: JobName,
+    inputs: Inputs,
+) -> Task<T>
+    requires leaf { (leaf : ℕ) → name ≡ Leaf leaf → leaf < length tallies.old.items }
+    requires inputs { length (inputs_list inputs) ≡ arity name }
+    ensures task { result ≡ task_from name inputs tallies.old.items }
+    ensures tallies { tallies.new.items ≡ tallies_left name tallies.old.items }
+{
+    match name {
+        JobName::Leaf(leaf) => match inputs {
+            Inputs::One(correction) => {
+                let prior = tallies[leaf as usize].take();
+                Task::Run {
+                    leaf,
+                    correction,
+                    prior,
+                }
+            }
+            Inputs::Two(_first, _second) => unreachable!(),
+        },
+        JobName::Merge(node) => match inputs {
+            Inputs::Two(left, right) => Task::Join { node, left, right },
+            Inputs::One(_first) => unreachable!(),
+        },
+        JobName::Correct(node) => match inputs {
+            Inputs::Two(correction, left) => Task::PassOn {
+                node,
+                correction,
+                left,
+            },
+            Inputs::One(_first) => unreachable!(),
+        },
+    }
+}
+
+/// A leaf's tally goes back to its place.
+pub fn give_back<T: Drop>(tallies: &mut Vec<Option<Prior<T>>>, task: Task<T>)
+    requires { (leaf : ℕ) → task_name task ≡ Leaf leaf → leaf < length tallies.old.items }
+    ensures { tallies.new.items ≡ tallies_back task tallies.old.items }
+{
+    match task {
+        Task::Run {
+            leaf,
+            correction: _correction,
+            prior,
+        } => {
+            tallies[leaf as usize] = prior;
+        }
+        Task::Join {
+            node: _node,
+            left: _left,
+            right: _right,
+        } => {}
+        Task::PassOn {
+            node: _node,
+            correction: _correction,
+            left: _left,
+        } => {}
+    }
+}

@@ -1,0 +1,17 @@
+pub mod Equal
+pub mod Kept
+pub mod Fitting
+pub mod Shape
+pub mod Inside
+pub mod Opening
+pub mod Standing
+pub mod Walk
+pub mod Tables
+pub mod Solve
+pub mod Jobs
+pub mod Serial
+pub mod Stores
+pub mod Readers
+pub mod Waking
+pub mod Finishes
+pub mod Example

@@ -1,0 +1,6 @@
+pub mod Same
+pub mod Net
+pub mod Kept
+pub mod Tree
+pub mod Store
+pub mod Board

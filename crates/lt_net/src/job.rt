@@ -1,0 +1,55 @@
+//! Jobs: their names and states.
+ghost use Rattle.std.specs.Prelude.{◌≡◌, ◌+◌, ◌*◌, ◌<◌, ◌^◌};
+ghost use Rattle.lt_net.specs.Tree.{code_of, job_of};
+
+/// What a job waits for.
+#[derive(Clone, Copy, PartialEq, Eq)]
+pub enum JobState {
+    /// Its outputs are its function of the inputs that stand now.
+    Clean,
+    /// It is to be done.
+    Pending,
+    /// A worker does it, on inputs that stand now.
+    Running,
+    /// A worker does it, on inputs of which one has changed since.
+    Dirty,
+}
+
+/// A job by its leaf or its inner node.
+#[derive(Clone, Copy, PartialEq, Eq)]
+pub enum JobName {
+    /// Runs the leaf on the correction of its node, and gives the node's effect.
+    Leaf(u32),
+    /// Gives the node's effect: those of both children, one after the other.
+    Merge(u32),
+    /// Gives the children's corrections: the node's for the left one, for the right one with the left one's effect.
+    Correct(u32),
+}
+
+impl JobName {
+    /// The job's code: three times the leaf or the node, plus 1 for a Merge and 2 for a Correct.
+    pub fn code(self) -> u32
+        requires { code_of self < 2 ^ 32 }
+        ensures { result ≡ code_of self }
+    {
+        match self {
+            JobName::Leaf(leaf) => 3 * leaf,
+            JobName::Merge(node) => 3 * node + 1,
+            JobName::Correct(node) => 3 * node + 2,
+        }
+    }
+
+    /// The job that a code names.
+    pub fn of(code: u32) -> JobName
+        ensures name { result ≡ job_of code }
+        ensures code { code_of result ≡ code }
+    {
+        if code % 3 == 0 {
+            JobName::Leaf(code / 3)
+        } else if code % 3 == 1 {
+            JobName::Merge(code / 3)
+        } else {
+            JobName::Correct(code / 3)
+        }
+    }
+}
