@@ -7,7 +7,7 @@ use lt_face::memory::NoMemory;
 use lt_face::row::Row;
 
 /// The rows in ascending order, each once.
-pub(crate) fn ascending(mut rows: Vec<Row>) -> Result<RowList, NoMemory>
+pub fn ascending(mut rows: Vec<Row>) -> Result<RowList, NoMemory>
     ensures { IfOk result (λ sorted. sorted ≡ ascending_rows rows.items) }
 {
     rows.sort()?;

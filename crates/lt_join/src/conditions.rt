@@ -68,7 +68,7 @@ fn give(values: &mut Values, test: Test)
 }
 
 /// The values with those that the literals with `=` give, in their order.
-pub(crate) fn give_all(values: &Values, tests: &[Test]) -> Values
+pub fn give_all(values: &Values, tests: &[Test]) -> Values
     requires { AllByRecursion IsTest tests.now }
     ensures { values_in result.cells ≡ all_given (values_in values.now.cells) tests.now }
 {
@@ -94,7 +94,7 @@ fn passes(values: &Values, test: Test) -> bool
 }
 
 /// Whether all conditions hold.
-pub(crate) fn all_pass(values: &Values, tests: &[Test]) -> bool
+pub fn all_pass(values: &Values, tests: &[Test]) -> bool
     requires { AllByRecursion IsTest tests.now }
     ensures { result ≡ list_all (test_passes (assigned (values_in values.now.cells))) tests.now }
 {

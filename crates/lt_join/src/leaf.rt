@@ -31,18 +31,6 @@ fn level_values(levels: &[Level], keys: &[Key]) -> Values
     values
 }
 
-/// The terms' cells.
-fn cells(alloc: Global, values: &Values, terms: &[Term]) -> Row
-    requires { length terms.now ≤ 8 }
-    ensures { result ≡ cells_of (assigned (values_in values.now.cells)) terms.now }
-{
-    let mut row = Row::from_cells(alloc, &[]);
-    for term in terms {
-        row.push(values.cell(*term));
-    }
-    row
-}
-
 /// The answer that the keys of all levels give, where the tests hold.
 pub(crate) fn leaf_answer(
     alloc: Global,
@@ -61,7 +49,7 @@ pub(crate) fn leaf_answer(
     let first = level_values(plan.levels.as_slice(), keys.as_slice());
     let values = give_all(&first, tests);
     if all_pass(&values, tests) {
-        Some(cells(alloc, &values, terms.as_slice()))
+        Some(values.row(alloc, terms.as_slice()))
     } else {
         None
     }

@@ -2,14 +2,14 @@
 #![tactic(auto)]
 
 mod answer;
-mod ascending;
-mod conditions;
+pub mod ascending;
+pub mod conditions;
 mod covering;
 mod leaf;
 mod level;
 mod noted;
 mod seat;
-mod values;
+pub mod values;
 mod walk;
 
 pub use answer::{answers, some};

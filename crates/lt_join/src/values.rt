@@ -1,23 +1,25 @@
 //! What the variables of a body are known to be.
-ghost use Rattle.std.specs.Prelude.{◌≡◌, ◌<◌, None};
-ghost use Rattle.lt_model.specs.Answers.{term_value, cell_of};
+ghost use Rattle.std.specs.Prelude.{◌≡◌, ◌<◌, ◌≤◌, None, length};
+ghost use Rattle.lt_model.specs.Answers.{term_value, cell_of, cells_of};
 ghost use Rattle.lt_join.specs.Values.{values_in, assigned, with_value};
 
 use lt_face::key::Key;
+use lt_face::row::Row;
 use lt_model::normal::Term;
+use std::alloc::Global;
 
 /// How many variables a statement has at most.
 const MOST_VARIABLES: usize = 16;
 
 /// For each variable its value, if it has one.
 #[derive(Clone, Copy)]
-pub(crate) struct Values {
-    cells: [Option<Key>; MOST_VARIABLES],
+pub struct Values {
+    pub cells: [Option<Key>; MOST_VARIABLES],
 }
 
 impl Values {
     /// No variable has a value.
-    pub(crate) fn none() -> Values
+    pub fn none() -> Values
         ensures { values_in result.cells ≡ (λ _. None) }
     {
         Values {
@@ -26,14 +28,14 @@ impl Values {
     }
 
     /// The value of a variable.
-    pub(crate) fn get(&self, v: u32) -> Option<Key>
+    pub fn get(&self, v: u32) -> Option<Key>
         ensures { result ≡ values_in self.now.cells v }
     {
         *self.cells.get(v as usize)?
     }
 
     /// Gives a variable this value.
-    pub(crate) fn set(&mut self, v: u32, cell: Key)
+    pub fn set(&mut self, v: u32, cell: Key)
         requires { v < 16 }
         ensures { values_in self.new.cells ≡ with_value (values_in self.old.cells) v cell }
     {
@@ -41,7 +43,7 @@ impl Values {
     }
 
     /// What a term stands for, if that is known.
-    pub(crate) fn value(&self, term: Term) -> Option<Key>
+    pub fn value(&self, term: Term) -> Option<Key>
         ensures { result ≡ term_value (values_in self.now.cells) term }
     {
         match term {
@@ -51,9 +53,21 @@ impl Values {
     }
 
     /// A term's cell, 0 where its variable has no value.
-    pub(crate) fn cell(&self, term: Term) -> Key
+    pub fn cell(&self, term: Term) -> Key
         ensures { result ≡ cell_of (assigned (values_in self.now.cells)) term }
     {
         self.value(term).unwrap_or(0)
+    }
+
+    /// The row of the terms' cells.
+    pub fn row(&self, alloc: Global, terms: &[Term]) -> Row
+        requires { length terms.now ≤ 8 }
+        ensures { result ≡ cells_of (assigned (values_in self.now.cells)) terms.now }
+    {
+        let mut row = Row::from_cells(alloc, &[]);
+        for term in terms {
+            row.push(self.cell(*term));
+        }
+        row
     }
 }

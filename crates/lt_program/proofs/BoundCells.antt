@@ -1,43 +1,30 @@
 -- Where a body holds its bound variables have cells, so the rows of its answers are of cells.
-use Rattle.std.proofs.Common.{◌≡◌, ℕ, ◌+◌, ◌-◌, ◌<◌, ◌≤◌, Bool, true, false, cond, ◌&&◌, ◌||◌, List, [], ◌∷◌, ◌++◌, Option, Some, None, ◌⊎◌, inl, inr, refl, sym, ap, ◌∙◌, subst, arith}
+use Rattle.std.proofs.Common.{◌≡◌, ℕ, ◌+◌, ◌-◌, ◌<◌, ◌≤◌, Bool, true, false, cond, ◌&&◌, List, [], ◌∷◌, ◌++◌, Option, Some, None, refl, sym, ap, ◌∙◌, subst, arith}
 use Rattle.std.specs.Prelude.{◌==◌, if◌then◌else◌, nat_lt, nat_le, filter_map, flat_map, option_and_then}
 use Rattle.std.specs.List.{AllByRecursion, list_all, cons_option}
-use Rattle.std.proofs.lemmas.Bool.{and_parts, or_cases, eqb-true, eqb-false}
+use Rattle.std.proofs.lemmas.Bool.{and_parts}
 use Rattle.std.proofs.lemmas.Bool.Decides.{nat_tests}
 use Rattle.lt_face.specs.Rows.{IsCell}
 use Rattle.lt_face.specs.State.{Row}
 use Rattle.lt_face.proofs.RowLemmas.{each_with_row}
 use Rattle.lt_model.specs.declared.normal.Term.{Term}
 use Rattle.lt_model.specs.declared.normal.Term.TheVariants.{Var, Cell}
-use Rattle.lt_model.specs.declared.normal.Atom.{Atom}
 use Rattle.lt_model.specs.declared.normal.Body.{Body}
 use Rattle.lt_model.specs.declared.normal.Test.{Test}
 use Rattle.lt_model.specs.declared.normal.Test.TheVariants.{Cmp, Sum}
 use Rattle.lt_model.specs.declared.syntax.Op.TheVariants.{Eq}
 use Rattle.lt_model.specs.Cells.{is_cell, sum_of, int_or_none, zero_cell, last_int}
-use Rattle.lt_model.specs.Answers.{Assignment, Values, cell_of, cells_of, rows_under, passes, is_value, holds, or_else, value_at, term_value, terms_of, give_value, give, give_all, picks, rows_eq, fits_pick, assignment_of, answer_of, answers, ascending}
-use Rattle.lt_model.specs.Bound.{stands, is_known, know, know_all, is_bound}
+use Rattle.lt_model.specs.Answers.{Assignment, Values, cells_of, rows_under, passes, holds, or_else, value_at, term_value, terms_of, give_value, give, give_all, picks, rows_eq, fits_pick, assignment_of, answer_of, answers, ascending}
+use Rattle.lt_model.specs.Bound.{stands, is_known, is_bound}
 use Rattle.lt_model.specs.Fits.{IsTermOf}
-use Rattle.lt_program.specs.Values.{IsTest}
+use Rattle.lt_join.specs.Values.{IsTest}
+use Rattle.lt_query.proofs.Given.{Agrees, given_all, value_at_told, flat_rows}
 use Rattle.lt_program.specs.Walk.{bare, AreCells}
 use Rattle.lt_program.specs.Effect.{IsBody, AreTerms}
 use Rattle.lt_program.proofs.WholePicks.{AreRows, picks_cells, rows_eq_is}
 use Rattle.lt_program.proofs.Walking.{assigned_has}
 
--- ---- bound variables have the assignment's values
-
--- a value that is there is the assignment's, and each known variable has one
-record Agrees (known : ℕ → Bool) (values : Values) (a : Assignment) : Type 0 where
-  sound : (u y : ℕ) → values u ≡ Some y → y ≡ a u
-  told : (u : ℕ) → known u ≡ true → values u ≡ Some (a u)
-
-known_value : (known : ℕ → Bool) (values : Values) (a : Assignment) (t : Term) → Agrees known values a → is_known known t ≡ true → term_value values t ≡ Some (cell_of a t)
-known_value known values a (Var v) agrees h = agrees.told v h
-known_value known values a (Cell c) agrees h = refl
-
-value_sound : (known : ℕ → Bool) (values : Values) (a : Assignment) (t : Term) (y : ℕ) → Agrees known values a → term_value values t ≡ Some y → y ≡ cell_of a t
-value_sound known values a (Var v) y agrees e = agrees.sound v y e
-value_sound known values a (Cell c) y agrees e = cc
+-- ---- values are cells
 
 abbrev sum_value : Bool → Option ℕ → Option ℕ → Option ℕ
 sum_value minus x y = option_and_then (λ p. option_and_then (λ q. sum_of minus p q) y) x
@@ -46,89 +33,6 @@ sum_parts : (minus : Bool) (x y : Option ℕ) (z : ℕ) → sum_value minus x y 
 sum_parts minus None y z e = cc
 sum_parts minus (Some p) None z e = cc
 sum_parts minus (Some p) (Some q) z e = (p, q, refl, refl, e)
-
-is_value_at : (o : Option ℕ) (x : ℕ) → is_value o x ≡ true → o ≡ Some x
-is_value_at None x h = cc
-is_value_at (Some y) x h = ap Some (eqb-true y x h)
-
-or_else_sound : (o p : Option ℕ) (x y : ℕ) → ((z : ℕ) → o ≡ Some z → z ≡ x) → ((z : ℕ) → p ≡ Some z → z ≡ x) → or_else o p ≡ Some y → y ≡ x
-or_else_sound None p x y f g e = g y e
-or_else_sound (Some z) p x y f g e = f y e
-
-or_else_told : (o : Option ℕ) (x : ℕ) → ((z : ℕ) → o ≡ Some z → z ≡ x) → or_else o (Some x) ≡ Some x
-or_else_told None x f = refl
-or_else_told (Some z) x f = ap Some (f z refl)
-
--- one variable gets a value
-given_value : (known known' : ℕ → Bool) (values : Values) (a : Assignment) (v : ℕ) (x : Option ℕ) → Agrees known values a → ((y : ℕ) → x ≡ Some y → y ≡ a v) → ((u : ℕ) → known' u ≡ true → (known u ≡ true) ⊎ ((u ≡ v) × (x ≡ Some (a v)))) → Agrees known' (give_value values v x) a
-given_value known known' values a v x agrees sound more = record {
-  sound = λ u y e.
-      elim (u == v) as (λ b. (u == v) ≡ b → cond b (or_else (values u) x) (values u) ≡ Some y → y ≡ a u) [
-        | true ↦ λ same e. or_else_sound (values u) x (a u) y (agrees.sound u) (λ z q. sound z q ∙ ap a (sym (eqb-true u v same))) e
-        | false ↦ λ other e. agrees.sound u y e
-      ] refl e;
-  told = λ u h.
-      elim (u == v) as (λ b. (u == v) ≡ b → cond b (or_else (values u) x) (values u) ≡ Some (a u)) [
-        | true ↦ λ same. elim (more u h) [
-          | inl k ↦ ap (λ o. or_else o x) (agrees.told u k)
-          | inr n ↦ ap (or_else (values u)) (n.1 ∙ ap (λ w. Some (a w)) (sym n.0)) ∙ or_else_told (values u) (a u) (agrees.sound u)
-        ]
-        | false ↦ λ other. elim (more u h) [ inl k ↦ agrees.told u k | inr n ↦ absurd (eqb-false u v other n.0) ]
-      ] refl;
-}
-
--- a literal that holds gives a value of the assignment
-given_one : (known : ℕ → Bool) (values : Values) (a : Assignment) (test : Test) → Agrees known values a → passes a test ≡ true → Agrees (know known test) (give values test) a
-given_one known values a (Cmp (Var v) Eq right) agrees h =
-    let same : a v ≡ cell_of a right = eqb-true (a v) (cell_of a right) h in
-    given_value known (know known (Cmp (Var v) Eq right)) values a v (term_value values right) agrees
-    (λ y e. value_sound known values a right y agrees e ∙ sym same)
-    (λ u k. elim (or_cases (known u) (u == v && is_known known right) k) [
-      | inl l ↦ inl l
-      | inr r ↦ let both = and_parts (u == v) (is_known known right) r in inr (eqb-true u v both.0, known_value known values a right agrees both.1 ∙ ap Some (sym same))
-    ])
-given_one known values a (Sum v x minus y) agrees h =
-    let value : sum_of minus (cell_of a x) (cell_of a y) ≡ Some (a v) = is_value_at (sum_of minus (cell_of a x) (cell_of a y)) (a v) h in
-    given_value known (know known (Sum v x minus y)) values a v (sum_value minus (term_value values x) (term_value values y)) agrees
-    (λ z e.
-    let parts = sum_parts minus (term_value values x) (term_value values y) z e in
-    let p : parts.0 ≡ cell_of a x = value_sound known values a x parts.0 agrees parts.2 in
-    let q : parts.1 ≡ cell_of a y = value_sound known values a y parts.1 agrees parts.3 in
-    let s : Some z ≡ Some (a v) = sym parts.4 ∙ (ap (λ n. sum_of minus n parts.1) p ∙ (ap (sum_of minus (cell_of a x)) q ∙ value)) in cc)
-    (λ u k. elim (or_cases (known u) (u == v && (is_known known x && is_known known y)) k) [
-      | inl l ↦ inl l
-      | inr r ↦
-          let both = and_parts (u == v) (is_known known x && is_known known y) r in
-          let terms = and_parts (is_known known x) (is_known known y) both.1 in
-          inr (eqb-true u v both.0, ap (λ o. sum_value minus o (term_value values y)) (known_value known values a x agrees terms.0) ∙ (ap (sum_value minus (Some (cell_of a x))) (known_value known values a y agrees terms.1) ∙ value))
-    ])
-given_one known values a (Cmp left op right) agrees h = agrees
-
-given_all : (known : ℕ → Bool) (values : Values) (a : Assignment) (tests : List Test) → Agrees known values a → list_all (passes a) tests ≡ true → Agrees (know_all known tests) (give_all values tests) a
-given_all known values a [] agrees h = agrees
-given_all known values a (test ∷ tests) agrees h =
-    let both = and_parts (passes a test) (list_all (passes a) tests) h in
-    given_all (know known test) (give values test) a tests (given_one known values a test agrees both.0) both.1
-
--- a row under an assignment gives its variables their values
-value_at_told : (a : Assignment) (ts : List Term) (u : ℕ) → stands ts u ≡ true → value_at ts (cells_of a ts) u ≡ Some (a u)
-value_at_told a [] u h = cc
-value_at_told a (Cell c ∷ ts) u h = value_at_told a ts u h
-value_at_told a (Var v ∷ ts) u h =
-    elim (v == u) as (λ b. (v == u) ≡ b → (b || stands ts u) ≡ true → cond b (Some (a v)) (value_at ts (cells_of a ts) u) ≡ Some (a u)) [
-      | true ↦ λ same h. ap (λ w. Some (a w)) (eqb-true v u same)
-      | false ↦ λ other h. value_at_told a ts u h
-    ] refl h
-
-cells_of-append : (a : Assignment) (xs ys : List Term) → cells_of a (xs ++ ys) ≡ cells_of a xs ++ cells_of a ys
-cells_of-append a [] ys = refl
-cells_of-append a (x ∷ xs) ys = ap (λ row. cell_of a x ∷ row) (cells_of-append a xs ys)
-
-flat_rows : (a : Assignment) (atoms : List Atom) → flat_map (λ row. row) (rows_under a atoms) ≡ cells_of a (terms_of atoms)
-flat_rows a [] = refl
-flat_rows a (atom ∷ atoms) = ap (λ row. cells_of a atom.terms ++ row) (flat_rows a atoms) ∙ sym (cells_of-append a atom.terms (terms_of atoms))
-
--- ---- values are cells
 
 AreValues : Values → Type 0
 AreValues values = (u y : ℕ) → values u ≡ Some y → IsCell y

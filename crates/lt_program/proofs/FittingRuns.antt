@@ -1,22 +1,21 @@
 -- What a program that fits a state writes and prints fits too.
-use Rattle.std.proofs.Common.{◌≡◌, ℕ, ◌+◌, Bool, true, false, cond, List, [], ◌∷◌, ◌++◌, map, length, Option, Some, None, refl, sym, ap, subst, ◌∙◌}
+use Rattle.std.proofs.Common.{◌≡◌, ℕ, ◌+◌, Bool, true, false, cond, List, [], ◌∷◌, ◌++◌, map, length, Option, Some, None, sym, subst, ◌∙◌}
 use Rattle.std.specs.List.{AllByRecursion}
 use Rattle.std.specs.Prelude.{filter_map, not}
 use Rattle.std.proofs.lemmas.List.{length-map}
-use Rattle.lt_face.specs.Rows.{IsCell, IsRow, IsRowSet}
-use Rattle.lt_face.specs.State.{Row, Relation, State}
+use Rattle.lt_face.specs.Rows.{IsCell, IsRow}
+use Rattle.lt_face.specs.State.{Row, State}
 use Rattle.lt_face.proofs.RowLemmas.{each_weaker, each_with_row}
 use Rattle.lt_delta.proofs.Composes.{each_after}
 use Rattle.lt_model.specs.declared.mark.Mark.{Mark}
 use Rattle.lt_model.specs.declared.reply.Reply.{Reply}
-use Rattle.lt_model.specs.declared.reply.Printed.{Printed}
 use Rattle.lt_model.specs.declared.normal.Term.{Term}
 use Rattle.lt_model.specs.declared.normal.Atom.{Atom}
 use Rattle.lt_model.specs.declared.normal.Body.{Body}
 use Rattle.lt_model.specs.declared.normal.Stmt.{Stmt}
 use Rattle.lt_model.specs.declared.normal.Stmt.TheVariants.{Insert, Delete, Replace, Need, Print}
-use Rattle.lt_model.specs.Answers.{Assignment, assignment_of, cells_of, cell_of, fits_pick, picks, answer_of, ascending, answers, some_answer}
-use Rattle.lt_model.specs.Effect.{Effect, Writes, Needs, Prints, marks_of, effect}
+use Rattle.lt_model.specs.Answers.{assignment_of, cells_of, cell_of, fits_pick, picks, answer_of, ascending, answers, some_answer}
+use Rattle.lt_model.specs.Effect.{Needs, marks_of, effect}
 use Rattle.lt_model.specs.Fits.{IsWide, IsBodyOf, IsHeadOf, FitsStatement, Fits, IsMarkOf, FitMarks}
 use Rattle.lt_model.specs.Marks.{Marks, and_then, laid}
 use Rattle.lt_model.specs.Run.{Progress, run_on, run_from, run}

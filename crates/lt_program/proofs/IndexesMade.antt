@@ -1,32 +1,30 @@
 -- The indexes that a program needs, made one after another.
-use Rattle.std.proofs.Common.{◌≡◌, ℕ, zero, suc, ◌+◌, ◌<◌, ◌≤◌, ◌==◌, ◌||◌, ◌&&◌, Bool, true, false, List, [], ◌∷◌, ◌++◌, length, map, take, get_or, Some, None, refl, sym, ap, ◌∙◌, subst, inl, inr, arith}
-use Rattle.std.specs.Prelude.{◌⊎◌, slice_get, option_map}
+use Rattle.std.proofs.Common.{◌≡◌, ℕ, zero, suc, ◌+◌, ◌<◌, ◌==◌, ◌||◌, ◌&&◌, Bool, true, List, [], ◌∷◌, ◌++◌, length, take, get_or, Some, refl, sym, ap, ◌∙◌, subst, inl, inr, arith}
+use Rattle.std.specs.Prelude.{◌⊎◌}
 use Rattle.std.specs.List.{AllByRecursion, AllZip, list_any}
 use Rattle.std.proofs.Math.Bool.{or_assoc, or-false}
-use Rattle.std.proofs.lemmas.Bool.{or_cases, or_left, or_right, and_parts, and_from, eqb-true, eq-eqb, false≢true, true≢false}
-use Rattle.std.proofs.lemmas.List.{take_more, take_all, length-map}
+use Rattle.std.proofs.lemmas.Bool.{or_cases, or_left, or_right, and_parts, and_from, eqb-true, eq-eqb}
+use Rattle.std.proofs.lemmas.List.{take_more, length-map}
 use Rattle.std.proofs.lemmas.List.Folds.{list_any-append}
 use Rattle.lt_face.specs.Lists.{IsIn}
-use Rattle.lt_face.specs.State.{State, Relation, row_eq}
+use Rattle.lt_face.specs.State.{State, row_eq}
 use Rattle.lt_model.specs.declared.normal.Atom.{Atom}
-use Rattle.lt_model.specs.declared.normal.Body.{Body}
 use Rattle.lt_model.specs.declared.normal.Stmt.{Stmt}
 use Rattle.lt_model.specs.declared.normal.Stmt.TheVariants.{Insert, Delete, Replace, Need, Print}
 use Rattle.lt_model.specs.Fits.{IsWide, IsAtomOf, IsBodyOf, FitsStatement, Fits}
 use Rattle.lt_base.specs.Columns.{IsPermOf}
-use Rattle.lt_base.specs.Tables.{Table, state_of, has_index}
+use Rattle.lt_base.specs.Tables.{Table, has_index}
 use Rattle.lt_base.proofs.OwnOrder.{row_eq-true, row_eq-itself}
 use Rattle.lt_query.specs.declared.plans.Guide.{Guide}
 use Rattle.lt_query.specs.declared.plans.Level.{Level}
-use Rattle.lt_query.specs.declared.plans.Plan.{Plan}
 use Rattle.lt_query.specs.declared.plans.IndexName.{IndexName}
 use Rattle.lt_query.specs.Needs.{body_of, index_of, IsNeeded, AreNamed}
-use Rattle.lt_query.specs.Plan.{IsGuideOf, IsPlanOf, term_at}
+use Rattle.lt_query.specs.Plan.{IsGuideOf, term_at}
 use Rattle.lt_query.specs.Laws.{FittingHasWidths}
 use Rattle.lt_query.specs.Runnable.{AreWide, HasWidths}
 use Rattle.lt_query.specs.Stated.{stated_plan}
 use Rattle.lt_face.proofs.RowLemmas.{each_weaker}
-use Rattle.lt_program.specs.Tally.{HasIndexes, HasIndexesOf}
+use Rattle.lt_program.specs.Tally.{HasIndexes}
 
 -- whether the index is the relation's on these columns
 abbrev pub is_named : ℕ → List ℕ → IndexName → Bool

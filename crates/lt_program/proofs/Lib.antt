@@ -1,6 +1,4 @@
 pub mod RowTerms
-pub mod KnownValues
-pub mod SortedRows
 pub mod Walking
 pub mod WholePicks
 pub mod Loops
@@ -19,6 +17,6 @@ pub mod CourseSteps
 pub mod IndexesMade
 pub mod Widths
 pub mod Sounds
-pub mod FittingShapes
+pub mod FittingSampled
 pub mod Picked
 pub mod TallyCosts

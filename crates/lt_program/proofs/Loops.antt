@@ -9,7 +9,8 @@ use Rattle.lt_model.specs.declared.normal.Term.{Term}
 use Rattle.lt_model.specs.declared.normal.Atom.{Atom}
 use Rattle.lt_model.specs.declared.normal.Test.{Test}
 use Rattle.lt_model.specs.Answers.{Values, passes, give_all}
-use Rattle.lt_program.specs.Values.{assigned, matched}
+use Rattle.lt_join.specs.Values.{assigned}
+use Rattle.lt_program.specs.Values.{matched}
 use Rattle.lt_program.specs.Walk.{found_from, some_from, leaf}
 use Rattle.lt_program.proofs.WholePicks.{row_found, row_some, found_rows, some_rows, row_found-missed, row_found-met, row_some-missed, row_some-met, found_end, some_end}
 

@@ -1,23 +1,22 @@
 -- A statement that reads no relation does the same on all states.
-use Rattle.std.proofs.Common.{◌≡◌, ℕ, ◌+◌, Bool, true, false, List, [], refl, sym, ap, ◌∙◌, subst, inl}
+use Rattle.std.proofs.Common.{◌≡◌, Bool, true, false, List, [], sym, ap, ◌∙◌, subst, inl}
 use Rattle.std.specs.Prelude.{filter_map, not}
 use Rattle.std.specs.List.{AllByRecursion, list_any}
-use Rattle.lt_face.specs.State.{Row, State}
+use Rattle.lt_face.specs.State.{State}
 use Rattle.lt_model.specs.declared.normal.Term.{Term}
 use Rattle.lt_model.specs.declared.normal.Atom.{Atom}
 use Rattle.lt_model.specs.declared.normal.Body.{Body}
 use Rattle.lt_model.specs.declared.normal.Stmt.{Stmt}
 use Rattle.lt_model.specs.declared.normal.Stmt.TheVariants.{Insert, Delete, Replace, Need, Print}
 use Rattle.lt_model.specs.Answers.{picks, answer_of, ascending, answers, fits_pick, assignment_of, some_answer}
-use Rattle.lt_model.specs.Effect.{Effect, Writes, Needs, Prints, marks_of, effect}
+use Rattle.lt_model.specs.Effect.{Writes, Needs, Prints, marks_of, effect}
 use Rattle.lt_query.specs.Needs.{body_of}
 use Rattle.lt_query.specs.Stated.{stated_plan}
 use Rattle.lt_sense.specs.declared.sense.Sense.{Sense}
-use Rattle.lt_join.specs.Certify.{IsMet, IsMissed, Certifies, Witnesses, Vouches}
+use Rattle.lt_join.specs.Certify.{IsMet, Certifies}
 use Rattle.lt_join.specs.Cost.{bound}
 use Rattle.lt_program.specs.declared.part.Part.{Part}
-use Rattle.lt_program.specs.declared.part.Outcome.{Outcome}
-use Rattle.lt_program.specs.declared.part.Outcome.TheVariants.{Rows, Both, Truth}
+use Rattle.lt_program.specs.declared.part.Outcome.TheVariants.{Rows, Truth}
 use Rattle.lt_program.specs.Tally.{outcome_on, VouchesFor, IsPartOn, statement_cost}
 
 -- sensitive to nothing

@@ -1,5 +1,5 @@
 -- The terms that a join answers.
-use Rattle.std.proofs.Common.{◌≡◌, ℕ, ◌≤◌, true, false, List, length, map, sym, ap, ◌∙◌, subst, arith}
+use Rattle.std.proofs.Common.{◌≡◌, ℕ, true, false, List, map, sym, ap, ◌∙◌, subst, arith}
 use Rattle.std.specs.Prelude.{filter_map}
 use Rattle.lt_face.specs.Rows.{IsAscending}
 use Rattle.lt_face.specs.State.{Row, State}
@@ -14,7 +14,7 @@ use Rattle.lt_model.specs.Fits.{IsBodyOf, IsHeadOf, ArePrintedOf}
 use Rattle.lt_query.specs.Runnable.{AreWide}
 use Rattle.lt_program.specs.Planned.{ArePicked}
 use Rattle.lt_program.proofs.Ready.{head_of}
-use Rattle.lt_program.proofs.SortedRows.{IsAscending-ascending}
+use Rattle.lt_query.proofs.Ascending.{IsAscending-ascending}
 use Rattle.lt_program.proofs.Widths.{narrow}
 
 pub head_picked : (state : State) (body : Body) (head : Atom) → AreWide state → IsBodyOf state body → IsHeadOf state body head → ArePicked body head.terms

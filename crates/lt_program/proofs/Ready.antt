@@ -14,7 +14,7 @@ use Rattle.lt_model.specs.Fits.{IsWide, IsTermOf, IsAtomOf, IsBodyOf, IsHeadOf, 
 use Rattle.lt_model.specs.Laws.{Rises}
 use Rattle.lt_program.specs.Effect.{IsBody, AreTerms, IsReady}
 use Rattle.lt_program.specs.Run.{lists, IsFitting}
-use Rattle.lt_program.specs.Values.{IsTest}
+use Rattle.lt_join.specs.Values.{IsTest}
 use Rattle.lt_program.specs.Walk.{IsAtom, AreCells, bare}
 use Rattle.lt_program.proofs.LaidRows.{bare_each}
 

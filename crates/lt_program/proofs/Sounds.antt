@@ -1,5 +1,5 @@
 -- What is always so of a tally stays so.
-use Rattle.std.proofs.Common.{◌≡◌, ℕ, zero, suc, ◌+◌, ◌<◌, ◌≤◌, Bool, true, false, List, [], ◌∷◌, ◌++◌, length, Some, get_or, refl, sym, ap, ◌∙◌, subst, arith}
+use Rattle.std.proofs.Common.{◌≡◌, ℕ, zero, suc, ◌+◌, ◌≤◌, false, List, [], ◌∷◌, ◌++◌, length, Some, get_or, refl, sym, ap, ◌∙◌, subst, arith}
 use Rattle.std.specs.Prelude.{slice_get}
 use Rattle.std.specs.List.{AllByRecursion}
 use Rattle.std.proofs.lemmas.Option.{slice_get-get_or}
@@ -8,16 +8,15 @@ use Rattle.lt_model.specs.declared.normal.Stmt.{Stmt}
 use Rattle.lt_model.specs.declared.reply.Reply.TheVariants.{Done}
 use Rattle.lt_model.specs.Fits.{Fits, FitsStatement, FitMarks}
 use Rattle.lt_model.specs.Marks.{laid}
-use Rattle.lt_model.specs.Run.{run}
 use Rattle.lt_model.specs.State.{IsState}
 use Rattle.lt_base.specs.Tables.{Table, state_of}
 use Rattle.lt_query.specs.Needs.{body_of}
 use Rattle.lt_query.specs.Runnable.{AreWide}
 use Rattle.lt_program.specs.declared.course.Course.{Course}
 use Rattle.lt_program.specs.Run.{AreReplied}
-use Rattle.lt_program.specs.Tally.{TallyView, HasIndexes, HasIndexesOf, IsLaid, IsRun, Grows, is_refused, has_ended, run_of_first, state_before, statement_cost, cost_on, IsOneMore}
+use Rattle.lt_program.specs.Tally.{TallyView, HasIndexes, HasIndexesOf, IsLaid, IsRun, Grows, has_ended, state_before, statement_cost, cost_on, IsOneMore}
 use Rattle.lt_program.specs.Sound.{tally_of, IsSound}
-use Rattle.lt_program.proofs.TallyGrows.{IsRun-one_more, going_on, ended_run, first_fits}
+use Rattle.lt_program.proofs.TallyGrows.{IsRun-one_more, going_on, first_fits}
 use Rattle.lt_program.proofs.Widths.{narrow}
 
 module _ (program : List Stmt) (base : List Table) (course : Course) (sound : IsSound program base course) where

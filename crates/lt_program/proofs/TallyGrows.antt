@@ -1,5 +1,5 @@
 -- A tally with one more statement evaluated, and one that has ended.
-use Rattle.std.proofs.Common.{◌≡◌, ℕ, zero, suc, ◌+◌, ◌<◌, ◌≤◌, ◌==◌, Bool, true, false, List, [], ◌∷◌, ◌++◌, length, take, Option, Some, None, refl, sym, ap, ◌∙◌, subst, inl, inr, arith}
+use Rattle.std.proofs.Common.{◌≡◌, ℕ, zero, suc, ◌+◌, ◌<◌, ◌≤◌, ◌==◌, Bool, true, false, List, [], ◌∷◌, ◌++◌, length, take, Some, refl, sym, ap, ◌∙◌, subst, inl, inr, arith}
 use Rattle.std.specs.Prelude.{slice_get, ◌||◌}
 use Rattle.std.specs.List.{AllByRecursion}
 use Rattle.std.proofs.lemmas.Bool.{or_parts, or_cases, eqb-true, eq-eqb, true≢false, cases_lt}
@@ -8,7 +8,7 @@ use Rattle.std.proofs.lemmas.Option.{slice_get_within}
 use Rattle.lt_face.specs.State.{State}
 use Rattle.lt_model.specs.declared.normal.Stmt.{Stmt}
 use Rattle.lt_model.specs.declared.reply.Reply.{Reply}
-use Rattle.lt_model.specs.Effect.{Effect, effect}
+use Rattle.lt_model.specs.Effect.{effect}
 use Rattle.lt_model.specs.Fits.{Fits, FitsStatement, FitMarks}
 use Rattle.lt_model.specs.Marks.{Marks, laid}
 use Rattle.lt_model.specs.Run.{run}

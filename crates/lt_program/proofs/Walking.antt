@@ -15,9 +15,10 @@ use Rattle.lt_model.specs.declared.normal.Test.{Test}
 use Rattle.lt_model.specs.declared.normal.Test.TheVariants.{Cmp, Sum}
 use Rattle.lt_model.specs.Answers.{Assignment, Values, cell_of, cells_of, rows_under, passes, or_else, value_at, terms_of, term_value, give_value, give, give_all, rows_eq}
 use Rattle.lt_model.specs.Cells.{sum_of}
-use Rattle.lt_program.specs.Values.{assigned, with_value, with_cell, accept, matched}
+use Rattle.lt_join.specs.Values.{assigned, with_value}
+use Rattle.lt_program.specs.Values.{with_cell, accept, matched}
 use Rattle.lt_program.specs.Walk.{begun, assignment_from, fits_from, answer_from}
-use Rattle.lt_program.proofs.SortedRows.{eq_nat, eq_then}
+use Rattle.lt_join.proofs.SortedRows.{eq_nat, eq_then}
 
 -- ---- literals with `=` leave the values that are there
 

@@ -16,7 +16,8 @@ use Rattle.lt_model.specs.declared.normal.Body.{Body}
 use Rattle.lt_model.specs.Cells.{is_cell}
 use Rattle.lt_model.specs.Answers.{Assignment, Values, or_else, cells_of, rows_under, passes, give_all, picks, rows_eq, fits_pick, assignment_of, answer_of, answers, some_answer, ascending}
 use Rattle.lt_model.proofs.Laws.{same_is}
-use Rattle.lt_program.specs.Values.{assigned, matched}
+use Rattle.lt_join.specs.Values.{assigned}
+use Rattle.lt_program.specs.Values.{matched}
 use Rattle.lt_program.specs.Walk.{bare, AreCells, begun, fits_from, answer_from, found_from, some_from, leaf}
 use Rattle.lt_program.proofs.Walking.{fits_missed, fits_met, answer_missed, answer_met}
 

@@ -13,7 +13,7 @@ use Rattle.lt_model.specs.Marks.{Marks}
 use Rattle.lt_model.specs.Effect as model
 use Rattle.lt_program.specs.declared.effect.Effect.{Effect}
 use Rattle.lt_program.specs.declared.effect.Effect.TheVariants.{Writes, Needs, Prints}
-use Rattle.lt_program.specs.Values.{IsTest}
+use Rattle.lt_join.specs.Values.{IsTest}
 use Rattle.lt_program.specs.Walk.{IsAtom}
 
 pub record IsBody (body : Body) : Type 0 where

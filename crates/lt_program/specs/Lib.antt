@@ -3,7 +3,7 @@ pub mod Walk
 pub mod Effect
 pub mod Run
 pub mod Samples
-pub mod Shapes
+pub mod Sampled
 pub mod Planned
 pub mod Tally
 pub mod Sound

@@ -1,23 +1,10 @@
--- What the variables of a body are known to be.
-use Rattle.std.specs.Prelude.{ℕ, ◌==◌, if◌then◌else◌, List, [], ◌∷◌, Option, Some, None, unwrap_or, option_and_then, slice_index_or}
-use Rattle.std.specs.List.{AllByRecursion}
+-- Values of variables that meet a row.
+use Rattle.std.specs.Prelude.{ℕ, ◌==◌, if◌then◌else◌, List, [], ◌∷◌, Option, Some, None, option_and_then}
 use Rattle.lt_face.specs.State.{Row}
 use Rattle.lt_model.specs.declared.normal.Term.{Term}
 use Rattle.lt_model.specs.declared.normal.Term.TheVariants.{Var, Cell}
-use Rattle.lt_model.specs.declared.normal.Test.{Test}
-use Rattle.lt_model.specs.Answers.{Assignment, Values}
-use Rattle.lt_model.specs.Fits.{IsTermOf, test_terms}
-
--- the values that a list has by the variables' numbers
-abbrev pub at : List (Option ℕ) → Values
-at cells v = slice_index_or cells v None
-
--- 0 for a variable without a value
-abbrev pub assigned : Values → Assignment
-assigned values v = unwrap_or (values v) 0
-
-abbrev pub with_value : Values → ℕ → ℕ → Values
-with_value values v x u = if u == v then Some x else values u
+use Rattle.lt_model.specs.Answers.{Values}
+use Rattle.lt_join.specs.Values.{with_value}
 
 -- the values where the variable has this cell, if it had no other
 abbrev pub with_cell : Values → ℕ → ℕ → Option ℕ → Option Values
@@ -35,7 +22,3 @@ matched values [] [] = Some values
 matched values [] (x ∷ xs) = None
 matched values (t ∷ ts) [] = None
 matched values (t ∷ ts) (x ∷ xs) = option_and_then (λ next. matched next ts xs) (accept values t x)
-
--- a literal that is no atom: its variables' numbers are below 16, and its constants are cells
-abbrev pub IsTest : Test → Type 0
-IsTest test = AllByRecursion (IsTermOf 16) (test_terms test)

@@ -7,7 +7,7 @@ use Rattle.lt_model.specs.declared.normal.Term.{Term}
 use Rattle.lt_model.specs.declared.normal.Atom.{Atom}
 use Rattle.lt_model.specs.declared.normal.Test.{Test}
 use Rattle.lt_model.specs.Fits.{IsTermOf}
-use Rattle.lt_program.specs.Values.{assigned}
+use Rattle.lt_join.specs.Values.{assigned}
 use Rattle.lt_model.specs.Answers.{Assignment, Values, cells_of, rows_under, passes, or_else, value_at, terms_of, give_all, picks, rows_eq}
 
 -- ---- what is read

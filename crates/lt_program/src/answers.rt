@@ -1,18 +1,18 @@
 //! The answers of a body by nested loops: one atom after another, leaving a row as soon as it can't match.
 ghost use Rattle.std.specs.Prelude.{◌≡◌, ◌≤◌, ◌++◌, length, OnOk, IfOk};
 ghost use Rattle.std.specs.List.{AllByRecursion};
-ghost use Rattle.lt_model.specs.Answers.{cells_of, answers as answers_of, some_answer as some_answer_of};
+ghost use Rattle.lt_model.specs.Answers.{answers as answers_of, some_answer as some_answer_of};
 ghost use Rattle.lt_face.specs.State.{rows_in};
-ghost use Rattle.lt_program.specs.Values.{at, assigned, IsTest};
+ghost use Rattle.lt_join.specs.Values.{values_in, IsTest};
 ghost use Rattle.lt_program.specs.Walk.{IsAtom, AreCells, bare, found_from, some_from, leaf};
 
-use crate::ascending::ascending;
-use crate::conditions::{all_pass, give_all};
 use crate::matching::matched;
-use crate::values::Values;
 use lt_face::items::RowList;
 use lt_face::memory::NoMemory;
 use lt_face::row::Row;
+use lt_join::ascending::ascending;
+use lt_join::conditions::{all_pass, give_all};
+use lt_join::values::Values;
 use lt_model::normal::{Atom, Body, Term, Test};
 use std::alloc::Global;
 
@@ -26,27 +26,15 @@ fn rows_of(relations: &[RowList], relation: u32) -> &[Row]
     }
 }
 
-/// The terms' cells.
-fn cells(alloc: Global, values: &Values, terms: &[Term]) -> Row
-    requires { length terms.now ≤ 8 }
-    ensures { result ≡ cells_of (assigned (at values.now.cells)) terms.now }
-{
-    let mut row = Row::from_cells(alloc, &[]);
-    for term in terms {
-        row.push(values.cell(*term));
-    }
-    row
-}
-
 /// The answer where the atoms have given their values, if the conditions hold.
 fn answer(alloc: Global, terms: &[Term], values: &Values, tests: &[Test]) -> Option<Row>
     requires narrow { length terms.now ≤ 8 }
     requires tests { AllByRecursion IsTest tests.now }
-    ensures { result ≡ leaf terms.now (at values.now.cells) tests.now }
+    ensures { result ≡ leaf terms.now (values_in values.now.cells) tests.now }
 {
     let values = give_all(values, tests);
     if all_pass(&values, tests) {
-        Some(cells(alloc, &values, terms))
+        Some(values.row(alloc, terms))
     } else {
         None
     }
@@ -65,7 +53,7 @@ fn find_answers(
     requires narrow { length terms.now ≤ 8 }
     requires tests { AllByRecursion IsTest tests.now }
     requires atoms { AllByRecursion IsAtom atoms.now }
-    ensures { OnOk result (found.new.items ≡ found.old.items ++ found_from terms.now (at values.now.cells) atoms.now tests.now (bare relations.now)) }
+    ensures { OnOk result (found.new.items ≡ found.old.items ++ found_from terms.now (values_in values.now.cells) atoms.now tests.now (bare relations.now)) }
 {
     let Some((atom, rest)) = atoms.split_first() else {
         if let Some(row) = answer(alloc, terms, values, tests) {
@@ -85,7 +73,7 @@ fn find_answers(
 fn find_some(relations: &[RowList], tests: &[Test], atoms: &[Atom], values: &Values) -> bool
     requires tests { AllByRecursion IsTest tests.now }
     requires atoms { AllByRecursion IsAtom atoms.now }
-    ensures { result ≡ some_from (at values.now.cells) atoms.now tests.now (bare relations.now) }
+    ensures { result ≡ some_from (values_in values.now.cells) atoms.now tests.now (bare relations.now) }
 {
     let Some((atom, rest)) = atoms.split_first() else {
         return all_pass(&give_all(values, tests), tests);

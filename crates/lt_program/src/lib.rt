@@ -2,8 +2,6 @@
 #![tactic(auto)]
 
 mod answers;
-mod ascending;
-mod conditions;
 mod course;
 mod effect;
 mod evaluation;
@@ -16,7 +14,6 @@ mod progress;
 mod tally;
 #[cfg(test)]
 mod tests;
-mod values;
 
 pub use indexing::indexed;
 pub use laying::lay;

@@ -1,4 +1,8 @@
 //! Small programs by hand.
+mod agreeing;
+mod random;
+mod sampled;
+
 ghost use Rattle.std.specs.Prelude.{◌≡◌, [], ◌∷◌, map, IfOk};
 ghost use Rattle.lt_program.specs.Samples.{four, three};
 

@@ -15,7 +15,7 @@ returns-then-all_pass c =
     let given : values_in c.give_all-values.result.cells ≡ give_all (value_from c.args.plan.now.levels 0 (at c.args.keys.now)) tests = rw (first, c.as_slice-tests.ensures) at c.give_all-values.ensures in
     let same : assigned (values_in c.give_all-values.result.cells) ≡ leaf = ap assigned given in
     let held : list_all (passes leaf) tests ≡ true = rw (same, c.as_slice-tests.ensures) at (sym c.all_pass.ensures ∙ c.if-all_pass.true) in
-    let row : c.cells.result ≡ cells_of leaf c.args.terms.now = rw (same, c.as_slice-then-all_pass.ensures) at c.cells.ensures in
+    let row : c.row.result ≡ cells_of leaf c.args.terms.now = rw (same, c.as_slice-then-all_pass.ensures) at c.row.ensures in
     ap Some row ∙ sym (ap (λ b. cond b (Some (cells_of leaf c.args.terms.now)) None) held)
 
 pub returns-else-all_pass : goal.returns-else-all_pass

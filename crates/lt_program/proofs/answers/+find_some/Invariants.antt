@@ -1,6 +1,6 @@
 use Rattle.std.proofs.Common.{◌≡◌, false, length, take}
 use Rattle.std.specs.List.{list_any}
-use Rattle.lt_program.specs.Values.{at}
+use Rattle.lt_join.specs.Values.{values_in}
 use Rattle.lt_program.specs.Walk.{bare}
 use Rattle.lt_program.proofs.WholePicks.{row_some}
 use Rattle.lt_program.proofs.answers.+find_some.Given as goal
@@ -9,4 +9,4 @@ abbrev pub decreases-find_some : goal.decreases-find_some
 decreases-find_some l = length l.atoms.now
 
 abbrev pub invariant-loop-row : goal.invariant-loop-row
-invariant-loop-row l = list_any (row_some (at l.values.cells) l.atom l.rest l.tests (bare l.relations)) (take l.row-index l.row-items) ≡ false
+invariant-loop-row l = list_any (row_some (values_in l.values.cells) l.atom l.rest l.tests (bare l.relations)) (take l.row-index l.row-items) ≡ false

@@ -7,7 +7,7 @@ use Rattle.lt_program.specs.Effect.{HaveCells}
 use Rattle.lt_program.specs.Walk.{bare}
 use Rattle.lt_program.proofs.BoundCells.{answers_cells}
 use Rattle.lt_program.proofs.MarkedRows.{HaveCells-map}
-use Rattle.lt_program.proofs.SortedRows.{IsAscending-ascending}
+use Rattle.lt_query.proofs.Ascending.{IsAscending-ascending}
 use Rattle.lt_program.proofs.WholePicks.{AreRows}
 use Rattle.lt_program.proofs.effect.marks_of.Goals as goal
 use Rattle.lt_program.proofs.effect.marks_of.Goals.{In_ok-rows}

@@ -1,7 +1,6 @@
-use Rattle.std.proofs.Common.{◌≡◌, true, length, sym, ap, ◌∙◌, subst}
+use Rattle.std.proofs.Common.{◌≡◌, length, sym, ap, ◌∙◌, subst}
 use Rattle.std.specs.Arc.{arc_value}
 use Rattle.lt_model.specs.Fits.{FitMarks}
-use Rattle.lt_model.specs.Run.{run}
 use Rattle.lt_base.specs.Tables.{state_of}
 use Rattle.lt_program.specs.Run.{AreReplied}
 use Rattle.lt_program.specs.Sound.{tally_of}
