@@ -4,7 +4,8 @@ pub mod Columns
 pub mod Versions
 pub mod Folds
 pub mod Batches
-pub mod Running
+pub mod Goods
+pub mod Telling
 pub mod Shown
 pub mod Showing
 pub mod Fronts

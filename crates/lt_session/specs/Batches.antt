@@ -1,31 +1,30 @@
--- A batch, program after program.
-use Rattle.std.specs.Prelude.{ℕ, ◌+◌, false, List, [], ◌∷◌, ◌++◌, length, fold}
+-- The programs of a batch, checked and answered.
+use Rattle.std.specs.Prelude.{List, [], ◌∷◌, ◌++◌, ⊤}
+use Rattle.std.specs.Arc.{arc_value}
+use Rattle.lt_face.specs.State.{State}
 use Rattle.lt_model.specs.declared.syntax.Program.{Program}
-use Rattle.lt_model.specs.declared.normal.Stmt.{Stmt}
-use Rattle.lt_model.specs.Check.{Checked, Good, Bad, checked}
-use Rattle.lt_model.specs.Marks.{laid}
-use Rattle.lt_model.specs.Run.{run}
-use Rattle.lt_model.specs.Report.{World, says, done_text, bad_program_text, batch_text, version_text}
+use Rattle.lt_model.specs.declared.reply.Reply.{Reply}
+use Rattle.lt_model.specs.Check.{Checked}
+use Rattle.lt_model.specs.Check as model
+use Rattle.lt_model.specs.Fits.{Fits}
+use Rattle.lt_model.specs.Report.{Text, bad_program_text, reply_text}
+use Rattle.lt_session.specs.declared.batch.Judgement.{Judgement}
+use Rattle.lt_session.specs.declared.batch.Judgement.TheVariants.{Good, Bad}
 
--- a checked program is run on what its predecessors left, and answers
-abbrev pub after_run : World → List ℕ → List Stmt → World
-after_run m name prog = record m { state = laid m.state (run prog m.state).1; text = m.text ++ done_text false m.schema name (run prog m.state) }
+-- what the check of a program gave, apart from where it lies in memory
+abbrev pub checked_of : Judgement → Checked
+checked_of (Good prog) = model.Good (arc_value prog)
+checked_of (Bad code statement) = model.Bad code statement
 
--- a program with a code is named with it
-abbrev pub after_checked : World → Program → Checked → World
-after_checked m program (Good prog) = after_run m program.name prog
-after_checked m program (Bad code j) = says m (bad_program_text program.name code j)
+-- a program without a code fits the state
+abbrev pub FitsIfGood : State → Checked → Type 0
+FitsIfGood state (model.Good prog) = Fits state prog
+FitsIfGood state (model.Bad code statement) = ⊤
 
-abbrev pub after_program : World → Program → World
-after_program m program = after_checked m program (checked program m.schema)
-
--- what the programs leave is the version of this number
-abbrev pub published : ℕ → World → World
-published number m = says (record m { versions = m.versions ++ m.state ∷ [] }) (version_text number)
-
-abbrev pub batch_number : World → ℕ
-batch_number m = length m.versions + 1
-
--- a batch: its line, its programs, its version
-abbrev pub after_batch : World → List Program → World
-after_batch m programs = published (batch_number m) (fold after_program (says m (batch_text (batch_number m))) programs)
+-- the lines of programs in batch order; those without a code take their replies from the list
+abbrev pub told : List Program → List Checked → List Reply → Text
+told [] checks replies = []
+told (p ∷ programs) [] replies = []
+told (p ∷ programs) (model.Bad code j ∷ checks) replies = bad_program_text p.name code j ++ told programs checks replies
+told (p ∷ programs) (model.Good prog ∷ checks) [] = []
+told (p ∷ programs) (model.Good prog ∷ checks) (reply ∷ replies) = reply_text p.name reply ++ told programs checks replies

@@ -1,13 +1,10 @@
 -- What a session has, as the fold over the items of a script sees it.
-use Rattle.std.specs.Prelude.{◌≡◌, ℕ, ◌≤◌, false, List, [], ◌∷◌, length, fold, map}
+use Rattle.std.specs.Prelude.{◌≡◌, ◌≤◌, false, [], ◌∷◌, length, map}
 use Rattle.std.specs.List.{AllByRecursion}
 use Rattle.lt_model.specs.declared.syntax.Item.{Item}
-use Rattle.lt_model.specs.declared.syntax.Program.{Program}
-use Rattle.lt_model.specs.declared.normal.Stmt.{Stmt}
 use Rattle.lt_model.specs.Report as model
 use Rattle.lt_check.specs.States.{IsStateOf}
 use Rattle.lt_base.specs.Tables.{state_of}
-use Rattle.lt_session.specs.Batches.{after_run, after_program}
 use Rattle.lt_session.specs.Versions.{IsFront}
 use Rattle.lt_session.specs.declared.world.World.{World}
 
@@ -29,15 +26,3 @@ pub record IsWorld (w : World) : Type 0 where
 -- the session stands behind the item
 abbrev pub Takes : World → Item → World → Type 0
 Takes old item new = (m : model.World) → Shows old m → Shows new (model.step false m item)
-
--- the session stands behind a checked program
-abbrev pub Runs : World → List ℕ → List Stmt → World → Type 0
-Runs old name prog new = (m : model.World) → Shows old m → Shows new (after_run m name prog)
-
--- the session stands behind the program
-abbrev pub TakesProgram : World → Program → World → Type 0
-TakesProgram old program new = (m : model.World) → Shows old m → Shows new (after_program m program)
-
--- the session stands behind the programs
-abbrev pub TakesPrograms : World → List Program → World → Type 0
-TakesPrograms old programs new = (m : model.World) → Shows old m → Shows new (fold after_program m programs)

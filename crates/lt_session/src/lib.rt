@@ -1,6 +1,7 @@
 //! The top call: from the words and the bytes to the report and the status.
 #![tactic(auto)]
 
+mod batch;
 mod input;
 mod output;
 mod repair;

@@ -42,7 +42,12 @@ fn refuse_words<K: Sink>(sink: &mut K) -> Status
 }
 
 // Reads a script to its end and writes its report.
-fn run_script<S: Source, K: Sink>(alloc: Global, source: &mut S, sink: &mut K) -> Status
+fn run_script<S: Source, K: Sink, G: Gate>(
+    alloc: Global,
+    source: &mut S,
+    sink: &mut K,
+    gate: &G,
+) -> Status
     ensures { EndsAs result (S.left source.old) (S.left source.new) (S.faults source.old) (S.faults source.new)
         (K.holds sink.old) (K.holds sink.new) (K.faults sink.old) (K.faults sink.new) }
 {
@@ -52,7 +57,7 @@ fn run_script<S: Source, K: Sink>(alloc: Global, source: &mut S, sink: &mut K) -
         Err(InputError::Failed) => return Status::ReadFault,
         Err(InputError::TooLong) => return Status::TooLong,
     };
-    let Ok(report) = report_of(alloc, &bytes) else {
+    let Ok(report) = report_of(alloc, &bytes, gate) else {
         return Status::NoMemory;
     };
     match write_lines(sink, &report.text) {
@@ -71,7 +76,7 @@ pub fn repair_main<R: Threads + Wait + Sync, S: Source, K: Sink, G: Gate>(
     words: &[String],
     source: &mut S,
     sink: &mut K,
-    _gate: &G,
+    gate: &G,
 ) -> u8
     // The bytes written are the report of the bytes read.
     ensures reported { result ≡ 0 → IsReported (S.left source.old) (S.left source.new) (K.holds sink.old) (K.holds sink.new) }
@@ -95,5 +100,5 @@ pub fn repair_main<R: Threads + Wait + Sync, S: Source, K: Sink, G: Gate>(
     if !is_run(words) {
         return code(refuse_words(sink));
     }
-    code(run_script(alloc, source, sink))
+    code(run_script(alloc, source, sink, gate))
 }

@@ -4,6 +4,7 @@ ghost use Rattle.lt_session.specs.Reports.{IsReportOf};
 
 use crate::text::put_fault;
 use crate::world::World;
+use lt_edges::Gate;
 use lt_face::NoMemory;
 use lt_script::{Reader, Step};
 use std::alloc::Global;
@@ -16,14 +17,14 @@ pub struct Report {
 }
 
 /// The report of a script.
-pub fn report_of(alloc: Global, bytes: &[u8]) -> Result<Report, NoMemory>
+pub fn report_of<G: Gate>(alloc: Global, bytes: &[u8], gate: &G) -> Result<Report, NoMemory>
     ensures { IfOk result (λ report. IsReportOf bytes.now report) }
 {
     let mut reader = Reader::over(bytes);
     let mut world = World::new(alloc)?;
     'items: loop {
         match reader.next_item(alloc) {
-            Step::Item(item) => world.take(alloc, item)?,
+            Step::Item(item) => world.take(alloc, item, gate)?,
             Step::End => {
                 return Ok(Report {
                     text: world.report,

@@ -1,27 +1,26 @@
 //! What a script has made so far.
-ghost use Rattle.std.specs.Prelude.{◌≡◌, IfOk, OnOk};
+ghost use Rattle.std.specs.Prelude.{◌≡◌, ◌≤◌, length, IfOk, OnOk};
 ghost use Rattle.std.specs.List.{AllByRecursion};
 ghost use Rattle.std.specs.Option.{option_copied};
 ghost use Rattle.lt_model.specs.declared.syntax.Item.TheVariants as items;
 ghost use Rattle.lt_model.specs.Limits.{IsWithinLimits, IsProgramWithin};
-ghost use Rattle.lt_face.specs.State.{State};
-ghost use Rattle.lt_model.specs.Fits.{Fits};
 ghost use Rattle.lt_model.specs.Report.{opening};
-ghost use Rattle.lt_check.specs.States.{IsStateOf};
 ghost use Rattle.lt_session.specs.Versions.{database_of};
 
-use crate::text::{put_bad, put_bad_program, put_batch, put_reply, put_show, put_version};
+use crate::batch::{all_judged, good_ones, put_programs};
+use crate::text::{put_bad, put_batch, put_show, put_version};
 use lt_base::Database;
-use lt_check::check::{CheckFault, check};
+use lt_batch::run_batch;
 use lt_check::schema::{DeclareFault, Schema};
-use lt_face::{Moves, NoMemory};
+use lt_edges::Gate;
+use lt_face::NoMemory;
 use lt_model::kind::KindList;
 use lt_model::name::Name;
-use lt_model::normal::Prog;
 use lt_model::syntax::{Item, Program};
-use lt_program::{indexed, run};
 use std::alloc::Global;
-use std::sync::Arc;
+
+/// How many workers a batch may have. One does all jobs for now.
+const WORKERS: u32 = 4;
 
 /// The relations by name, the database, its versions by number, and the report. Version 0 has no relations.
 #[derive(Drop)]
@@ -47,7 +46,7 @@ fn database_at<'a>(
 }
 
 impl World {
-    ghost use Rattle.lt_session.specs.World.{Shows, IsWorld, Takes, Runs, TakesProgram, TakesPrograms};
+    ghost use Rattle.lt_session.specs.World.{Shows, IsWorld, Takes};
 
     /// No relation, and no version but the empty one.
     pub fn new(alloc: Global) -> Result<World, NoMemory>
@@ -105,76 +104,45 @@ impl World {
         Ok(())
     }
 
-    // Runs a checked program on the indexes that it needs, and lays its marks.
-    fn run(&mut self, alloc: Global, name: &Name, prog: Prog) -> Result<(), NoMemory>
-        requires world { IsWorld self.old }
-        requires fits { (state : State) → IsStateOf self.old.schema state → Fits state prog }
-        ensures runs { OnOk result (Runs self.old name.now prog self.new) }
-        ensures schema { self.new.schema ≡ self.old.schema }
-    {
-        let database = indexed(&self.database, &prog)?;
-        let prog = Arc::new(alloc, prog)?;
-        let mut moves: Moves<()> = Moves::new();
-        let tally = run(&prog, &database, &mut moves)?;
-        put_reply(&mut self.report, name.as_bytes(), tally.reply())?;
-        self.database = database.laid(tally.marks())?;
-        Ok(())
-    }
-
-    // Runs a program of a batch, or says which code it has.
-    fn program(&mut self, alloc: Global, program: &Program) -> Result<(), NoMemory>
-        requires world { IsWorld self.old }
-        requires within { IsProgramWithin program.now }
-        ensures takes { OnOk result (TakesProgram self.old program.now self.new) }
-        ensures schema { self.new.schema ≡ self.old.schema }
-    {
-        match check(alloc, program, &self.schema) {
-            Ok(prog) => { self.run(alloc, &program.name, prog) }
-            Err(CheckFault::Bad { code, statement }) => {
-                put_bad_program(&mut self.report, program.name.as_bytes(), code, statement)?;
-                Ok(())
-            }
-            Err(CheckFault::NoMemory) => Err(NoMemory),
-        }
-    }
-
-    // Runs the programs of a batch one after another.
-    fn programs(&mut self, alloc: Global, programs: &[Program]) -> Result<(), NoMemory>
+    /// Runs a batch and makes its version. The programs without a code are the leaves of a repair circuit.
+    pub fn batch<G: Gate>(
+        &mut self,
+        alloc: Global,
+        programs: &[Program],
+        gate: &G,
+    ) -> Result<(), NoMemory>
         requires world { IsWorld self.old }
         requires within { AllByRecursion IsProgramWithin programs.now }
-        ensures takes { OnOk result (TakesPrograms self.old programs.now self.new) }
-        ensures schema { self.new.schema ≡ self.old.schema }
-    {
-        'programs: for program in programs {
-            self.program(alloc, program)?;
-        }
-        Ok(())
-    }
-
-    /// Runs a batch and makes its version.
-    pub fn batch(&mut self, alloc: Global, programs: &[Program]) -> Result<(), NoMemory>
-        requires world { IsWorld self.old }
-        requires within { AllByRecursion IsProgramWithin programs.now }
+        requires few { length programs.now ≤ 256 }
         ensures { OnOk result (Takes self.old (items.Batch programs.now) self.new) }
     {
         let number = self.versions.len() as u64;
+        let judgements = all_judged(alloc, programs, &self.schema)?;
+        let good = good_ones(alloc, &judgements)?;
+        let outcome = run_batch(alloc, &self.database, &good, WORKERS, gate)?;
         put_batch(&mut self.report, number)?;
-        self.programs(alloc, programs)?;
-        let version = self.database.share()?;
-        self.versions.push(version)?;
+        put_programs(
+            &mut self.report,
+            programs,
+            &judgements,
+            outcome.replies.as_slice(),
+        )?;
         put_version(&mut self.report, number)?;
+        let version = outcome.db.share()?;
+        self.versions.push(version)?;
+        self.database = outcome.db.share()?;
         Ok(())
     }
 
     /// Takes the next item of a script.
-    pub fn take(&mut self, alloc: Global, item: Item) -> Result<(), NoMemory>
+    pub fn take<G: Gate>(&mut self, alloc: Global, item: Item, gate: &G) -> Result<(), NoMemory>
         requires world { IsWorld self.old }
         requires within { IsWithinLimits item }
         ensures { OnOk result (Takes self.old item self.new) }
     {
         match item {
             Item::Relation { name, kinds } => self.declare(name, kinds),
-            Item::Batch { programs } => self.batch(alloc, programs.as_slice()),
+            Item::Batch { programs } => self.batch(alloc, programs.as_slice(), gate),
             Item::Show { name, at } => self.show(&name, at),
         }
     }

@@ -6,7 +6,7 @@ use Rattle.lt_session.specs.World.{Shows}
 use Rattle.lt_session.proofs.script.report_of.Goals as goal
 
 pub items-preserved : goal.items-preserved
-items-preserved c =
+items-preserved g c =
     let before = c.items.invariant in
     let reads = c.in-Item.ensures.next before.items before.read in
     record {

@@ -8,7 +8,7 @@ use Rattle.lt_session.proofs.script.report_of.Given as goal
 
 -- the world stands behind the items that were read
 abbrev pub invariant-items : goal.invariant-items
-invariant-items l = record {
+invariant-items g l = record {
   items : List Item;
   read : HasRead l.reader items;
   shows : Shows l.world (fold (step false) opening items);
@@ -16,4 +16,4 @@ invariant-items l = record {
 }
 
 abbrev pub decreases-items : goal.decreases-items
-decreases-items l = left_of l.reader
+decreases-items g l = left_of l.reader

@@ -1,0 +1,6 @@
+pub mod Widths
+pub mod FittingRuns
+pub mod InOrder
+pub mod Indexed
+pub mod Leaves
+pub mod FittingSamples

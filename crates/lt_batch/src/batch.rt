@@ -1,0 +1,64 @@
+//! The run of a batch.
+ghost use Rattle.std.specs.Prelude.{◌≡◌, ◌<◌, ◌≤◌, ℕ, map, length, slice_index_or, [], IfOk};
+ghost use Rattle.std.specs.Arc.{arc_value};
+ghost use Rattle.std.specs.List.{AllByRecursion};
+ghost use Rattle.lt_model.specs.Fits.{IsWide, Fits, FitMarks};
+ghost use Rattle.lt_base.specs.Tables.{state_of};
+ghost use Rattle.lt_circuit.specs.Circuit.{state, IsReplay};
+ghost use Rattle.lt_net.specs.Net.{IsSettled};
+ghost use Rattle.lt_net.specs.Tree.{leaf_value};
+ghost use Rattle.lt_program.specs.Run.{AreReplied};
+ghost use Rattle.lt_batch.specs.Batch.{serial_replies, serial_effects, serial_state, does_at};
+
+use crate::gathering::gathered;
+use crate::outcome::Outcome;
+use crate::work::BatchWork;
+use lt_base::Database;
+use lt_circuit::Circuit;
+use lt_edges::Gate;
+use lt_face::memory::NoMemory;
+use lt_model::normal::Prog;
+use std::alloc::Global;
+use std::sync::Arc;
+
+/// Runs the programs of a batch, each on the database corrected by what those before it write. The replies, the effects
+/// and the database left are those of the programs one after another. The circuit that did it is settled, and its
+/// journal replays to it.
+///
+/// One worker does all jobs for now: `workers` is how many there may be, and `gate` is passed to none.
+pub fn run_batch<G: Gate>(
+    alloc: Global,
+    db: &Database,
+    progs: &[Arc<Prog>],
+    _workers: u32,
+    _gate: &G,
+) -> Result<Outcome, NoMemory>
+    requires few { length progs.now ≤ 256 }
+    requires workers { (1 ≤ _workers) × (_workers ≤ 16) }
+    requires fit { AllByRecursion (Fits (state_of db.now)) (map arc_value progs.now) }
+    ensures replies { IfOk result (λ out. out.replies ≡ serial_replies (map arc_value progs.now) (state_of db.now)) }
+    ensures effects { IfOk result (λ out. out.effects ≡ serial_effects (map arc_value progs.now) (state_of db.now)) }
+    ensures state { IfOk result (λ out. state_of out.db ≡ serial_state (map arc_value progs.now) (state_of db.now)) }
+    ensures settled { IfOk result (λ out. IsSettled (state out.circuit)) }
+    ensures leaves { IfOk result (λ out. out.circuit.board.leaves ≡ length progs.now) }
+    ensures circuit { IfOk result (λ out. (i : ℕ) → i < length progs.now → leaf_value out.circuit.board.leaves (state out.circuit) i ≡ slice_index_or out.effects i []) }
+    ensures journal { IfOk result (λ out. IsReplay (does_at (map arc_value progs.now) (state_of db.now)) out.circuit.board out.circuit.journal) }
+    ensures fit { IfOk result (λ out. AllByRecursion (FitMarks (state_of db.now)) out.effects) }
+    ensures widths { IfOk result (λ out. (relation width : ℕ) → IsWide (state_of db.now) relation width → IsWide (state_of out.db) relation width) }
+    ensures printed { IfOk result (λ out. AllByRecursion AreReplied out.replies) }
+{
+    let work = BatchWork::new(alloc, db, progs)?;
+    let work = Arc::new(alloc, work)?;
+    let leaves = progs.len() as u32;
+    let mut circuit = Circuit::start(alloc, work.clone()?, leaves)?;
+    circuit.settle_alone()?;
+    let _entries = circuit.journal();
+    let (replies, effects) = gathered(alloc, &circuit, leaves)?;
+    let db = work.snapshot().laid(circuit.root_effect())?;
+    Ok(Outcome {
+        replies,
+        effects,
+        db,
+        circuit,
+    })
+}

@@ -1,0 +1,17 @@
+//! A batch of programs: each starts on one snapshot, and is corrected by what those before it do.
+#![tactic(auto)]
+
+mod batch;
+mod copying;
+mod gathering;
+mod indexing;
+pub mod leaf;
+pub mod outcome;
+#[cfg(test)]
+mod tests;
+pub mod work;
+
+pub use batch::run_batch;
+pub use leaf::LeafTally;
+pub use outcome::{Effects, Outcome, Replies};
+pub use work::BatchWork;
