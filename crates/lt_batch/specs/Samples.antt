@@ -1,6 +1,6 @@
 -- The programs that tests run, on a relation r of one column.
-use Rattle.std.specs.Prelude.{ℕ, true, List, [], ◌∷◌}
-use Rattle.lt_face.specs.State.{State}
+use Rattle.std.specs.Prelude.{◌≡◌, ℕ, true, List, [], ◌∷◌}
+use Rattle.lt_face.specs.State.{Row, State}
 use Rattle.lt_model.specs.declared.kind.Kind.TheVariants.{Int}
 use Rattle.lt_model.specs.declared.syntax.Op.TheVariants.{Gt}
 use Rattle.lt_model.specs.declared.normal.Term.{Term}
@@ -12,10 +12,19 @@ use Rattle.lt_model.specs.declared.normal.Body.{Body}
 use Rattle.lt_model.specs.declared.normal.Stmt.{Stmt}
 use Rattle.lt_model.specs.declared.normal.Stmt.TheVariants.{Insert, Delete, Replace, Need, Print}
 use Rattle.lt_model.specs.Fits.{Fits, IsWide}
+use Rattle.lt_program.specs.Run.{lists}
+use Rattle.lt_batch.specs.Work.{IsSnapshot}
 
 -- a program that fits each state whose first relation has one column
 abbrev pub FitsColumn : List Stmt → Type 0
 FitsColumn program = (state : State) → IsWide state 0 1 → Fits state program
+
+-- the rows of such a state
+pub record AreColumn (rows : List (List Row)) : Type 0 where
+  pub state : State
+  pub has : lists state ≡ rows
+  pub is_snapshot : IsSnapshot state
+  pub is_wide : IsWide state 0 1
 
 abbrev pub r : Term → Atom
 r term = record { relation = 0; terms = term ∷ [] }

@@ -10,7 +10,7 @@ ghost use Rattle.lt_net.specs.Tree.{leaf_value};
 ghost use Rattle.lt_program.specs.Run.{AreReplied};
 ghost use Rattle.lt_batch.specs.Batch.{serial_replies, serial_effects, serial_state, does_at};
 
-use crate::gathering::gathered;
+use crate::gathering::{gathered, left};
 use crate::outcome::Outcome;
 use crate::work::BatchWork;
 use lt_base::Database;
@@ -39,6 +39,8 @@ pub fn run_batch<G: Gate>(
     ensures replies { IfOk result (λ out. out.replies ≡ serial_replies (map arc_value progs.now) (state_of db.now)) }
     ensures effects { IfOk result (λ out. out.effects ≡ serial_effects (map arc_value progs.now) (state_of db.now)) }
     ensures state { IfOk result (λ out. state_of out.db ≡ serial_state (map arc_value progs.now) (state_of db.now)) }
+    ensures programs { IfOk result (λ out. out.circuit.work.programs ≡ map arc_value progs.now) }
+    ensures snapshot { IfOk result (λ out. state_of out.circuit.work.snapshot ≡ state_of db.now) }
     ensures settled { IfOk result (λ out. IsSettled (state out.circuit)) }
     ensures leaves { IfOk result (λ out. out.circuit.board.leaves ≡ length progs.now) }
     ensures circuit { IfOk result (λ out. (i : ℕ) → i < length progs.now → leaf_value out.circuit.board.leaves (state out.circuit) i ≡ slice_index_or out.effects i []) }
@@ -54,7 +56,7 @@ pub fn run_batch<G: Gate>(
     circuit.settle_alone()?;
     let _entries = circuit.journal();
     let (replies, effects) = gathered(alloc, &circuit, leaves)?;
-    let db = work.snapshot().laid(circuit.root_effect())?;
+    let db = left(work.snapshot(), &circuit)?;
     Ok(Outcome {
         replies,
         effects,

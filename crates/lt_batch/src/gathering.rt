@@ -14,6 +14,7 @@ ghost use Rattle.lt_batch.specs.Work.{AreRunnable};
 use crate::copying::copied_reply;
 use crate::outcome::{Effects, Replies};
 use crate::work::BatchWork;
+use lt_base::Database;
 use lt_circuit::Circuit;
 use lt_face::items::Items;
 use lt_face::memory::NoMemory;
@@ -46,4 +47,14 @@ pub(crate) fn gathered(
         effects.push(effect)?;
     }
     Ok((replies, effects))
+}
+
+/// The snapshot with all that the leaves of a settled circuit wrote laid on it.
+pub(crate) fn left(snapshot: &Database, circuit: &Circuit<BatchWork>) -> Result<Database, NoMemory>
+    requires settled { IsSettled (state circuit.now) }
+    requires fits { FitMarks (state_of snapshot.now) (then_all (leaf_value circuit.now.board.leaves (state circuit.now)) [] circuit.now.board.leaves) }
+    ensures { IfOk result (λ db. state_of db ≡ laid (state_of snapshot.now) (then_all (leaf_value circuit.now.board.leaves (state circuit.now)) [] circuit.now.board.leaves)) }
+{
+    let db = snapshot.laid(circuit.root_effect())?;
+    Ok(db)
 }

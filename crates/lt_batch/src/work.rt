@@ -1,9 +1,12 @@
 //! The work of a batch: its programs as the leaves of a circuit.
-ghost use Rattle.std.specs.Prelude.{◌≡◌, ◌<◌, ℕ, map, length, IfOk};
+ghost use Rattle.std.specs.Prelude.{◌≡◌, ◌<◌, ℕ, List, true, map, length, IfOk};
 ghost use Rattle.std.specs.Arc.{arc_value};
-ghost use Rattle.std.specs.List.{AllByRecursion};
-ghost use Rattle.lt_model.specs.Fits.{Fits};
-ghost use Rattle.lt_base.specs.Tables.{state_of};
+ghost use Rattle.std.specs.List.{AllByRecursion, list_any};
+ghost use Rattle.lt_model.specs.Fits.{Fits, FitMarks};
+ghost use Rattle.lt_model.specs.Marks.{laid};
+ghost use Rattle.lt_model.specs.Run.{run as run_of};
+ghost use Rattle.lt_base.specs.Tables.{state_of, has_index};
+ghost use Rattle.lt_program.specs.Run.{reads_rows};
 ghost use Rattle.lt_batch.specs.Work.{AreRunnable, IsLeaf};
 
 use crate::indexing::all_indexed;
@@ -14,7 +17,7 @@ use lt_delta::Marks;
 use lt_face::memory::NoMemory;
 use lt_face::moves::Moves;
 use lt_model::normal::Prog;
-use lt_program::run;
+use lt_program::{reads, run};
 use std::alloc::Global;
 use std::marker::Model;
 use std::sync::Arc;
@@ -56,6 +59,24 @@ fn look_over(db: &Database, progs: &[Arc<Prog>])
     ensures { AreRunnable (state_of db.now) (map arc_value progs.now) }
 {
     db.look_over();
+}
+
+/// The database that a program with this correction runs on: the snapshot with the correction laid on it, or the snapshot
+/// itself where the program reads no relation, since it does the same there.
+fn corrected(snapshot: &Database, prog: &Prog, correction: &Marks) -> Result<Database, NoMemory>
+    requires { FitMarks (state_of snapshot.now) correction.now }
+    ensures laid { IfOk result (λ db. list_any reads_rows prog.now ≡ true → state_of db ≡ laid (state_of snapshot.now) correction.now) }
+    ensures fits { IfOk result (λ db. Fits (state_of snapshot.now) prog.now → Fits (state_of db) prog.now) }
+    ensures indexes { IfOk result (λ db. (relation : ℕ) (columns : List ℕ) → has_index db relation columns ≡ has_index snapshot.now relation columns) }
+    ensures run { IfOk result (λ db. run_of prog.now (state_of db) ≡ run_of prog.now (laid (state_of snapshot.now) correction.now)) }
+{
+    if reads(prog.as_slice()) {
+        let laid = snapshot.laid(correction)?;
+        Ok(laid)
+    } else {
+        let same = snapshot.share()?;
+        Ok(same)
+    }
 }
 
 impl BatchWork {
@@ -117,9 +138,10 @@ impl LeafWork for BatchWork {
         correction: &Marks,
         moves: &mut Moves<L>,
     ) -> Result<LeafTally, NoMemory> {
-        let corrected = self.snapshot.laid(correction)?;
+        let prog = &self.programs[leaf as usize];
+        let base = corrected(&self.snapshot, prog, correction)?;
         let correction = correction.share()?;
-        let run = run(&self.programs[leaf as usize], &corrected, moves)?;
+        let run = run(prog, &base, moves)?;
         Ok(LeafTally { run, correction })
     }
 

@@ -115,8 +115,11 @@ run_from-none j (stmt ∷ program) s t p h =
     let rest : run_from (j + 1) program s ≡ run_from (j + 1) program t = λ i. λ q. run_from-none (j + 1) program s t q both.1 i in
     ap (λ e. run_on j p e (run_from (j + 1) program s)) told ∙ ap (run_on j p (effect stmt (laid t p.marks))) rest
 
+pub run-none : (program : List Stmt) (s t : State) → list_any reads_rows program ≡ false → run program s ≡ run program t
+run-none program s t h = run_from-none 1 program s t (record { marks = []; prints = [] }) h
+
 -- a run works on copies of the rows, or on none where it reads none
 pub run-working : (program : List Stmt) (rows : List (List Row)) → run program (bare (if list_any reads_rows program then rows else [])) ≡ run program (bare rows)
 run-working program rows =
     elim (list_any reads_rows program) as (λ b. list_any reads_rows program ≡ b → run program (bare (cond b rows [])) ≡ run program (bare rows))
-    [ true ↦ λ e. refl | false ↦ λ e. run_from-none 1 program [] (bare rows) (record { marks = []; prints = [] }) e ] refl
+    [ true ↦ λ e. refl | false ↦ run-none program [] (bare rows) ] refl

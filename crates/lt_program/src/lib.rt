@@ -20,5 +20,5 @@ pub use laying::lay;
 pub use lt_delta::{Mark, MarkList, Marks};
 pub use lt_model::reply::{Printed, Prints, Reply};
 pub use part::{Outcome, Part};
-pub use plain::run_plain;
+pub use plain::{reads, run_plain};
 pub use tally::{Tally, run};

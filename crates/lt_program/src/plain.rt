@@ -43,8 +43,8 @@ fn all_copied(alloc: Global, relations: &[RowList]) -> Result<Vec<RowList>, NoMe
     Ok(copies)
 }
 
-/// Whether some statement reads a relation.
-fn reads(prog: &[Stmt]) -> bool
+/// Whether some statement reads a relation. A program that reads none does the same on every state.
+pub fn reads(prog: &[Stmt]) -> bool
     ensures { result ≡ list_any reads_rows prog.now }
 {
     for stmt in prog {
