@@ -3,4 +3,3 @@ pub mod FittingRuns
 pub mod InOrder
 pub mod Indexed
 pub mod Leaves
-pub mod FittingSamples

@@ -1,4 +1,3 @@
 pub mod Batch
 pub mod Work
 pub mod LeafRun
-pub mod Samples

@@ -7,8 +7,6 @@ mod gathering;
 mod indexing;
 pub mod leaf;
 pub mod outcome;
-#[cfg(test)]
-mod tests;
 pub mod work;
 
 pub use batch::run_batch;

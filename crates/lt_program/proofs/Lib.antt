@@ -8,7 +8,6 @@ pub mod BoundCells
 pub mod RunSteps
 pub mod BareStates
 pub mod Ready
-pub mod FittingSamples
 pub mod FittingRuns
 pub mod RunGrows
 pub mod TallyGrows
@@ -17,6 +16,5 @@ pub mod CourseSteps
 pub mod IndexesMade
 pub mod Widths
 pub mod Sounds
-pub mod FittingSampled
 pub mod Picked
 pub mod TallyCosts

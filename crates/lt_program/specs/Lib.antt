@@ -2,8 +2,6 @@ pub mod Values
 pub mod Walk
 pub mod Effect
 pub mod Run
-pub mod Samples
-pub mod Sampled
 pub mod Planned
 pub mod Tally
 pub mod Sound

@@ -12,8 +12,6 @@ mod part;
 mod plain;
 mod progress;
 mod tally;
-#[cfg(test)]
-mod tests;
 
 pub use indexing::indexed;
 pub use laying::lay;

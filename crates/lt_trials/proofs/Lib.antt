@@ -1,0 +1,3 @@
+pub mod FittingColumns
+pub mod FittingByHand
+pub mod FittingSampled

@@ -1,0 +1,3 @@
+pub mod Samples
+pub mod ByHand
+pub mod Sampled
