@@ -13,8 +13,6 @@ mod job;
 mod output;
 mod run;
 mod task;
-#[cfg(test)]
-mod tests;
 mod work;
 
 pub use circuit::Circuit;

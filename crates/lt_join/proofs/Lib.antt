@@ -20,5 +20,3 @@ pub mod Usable
 pub mod SortedRows
 pub mod KnownValues
 pub mod Prepared
-pub mod OwnOrder
-pub mod ReadyQueries

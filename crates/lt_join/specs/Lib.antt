@@ -6,5 +6,3 @@ pub mod Lone
 pub mod Seat
 pub mod Values
 pub mod Walked
-pub mod Queries
-pub mod Tables

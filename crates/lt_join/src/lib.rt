@@ -24,6 +24,3 @@ pub struct Found {
     pub sense: Sense,
     pub rows: RowList,
 }
-
-#[cfg(test)]
-mod tests;

@@ -26,10 +26,3 @@ pub use lt_model::syntax::{
     TermList,
 };
 pub use reader::{Reader, Step};
-
-#[cfg(test)]
-mod ending_tests;
-#[cfg(test)]
-mod item_tests;
-#[cfg(test)]
-mod token_tests;

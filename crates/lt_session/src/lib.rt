@@ -7,8 +7,6 @@ mod output;
 mod repair;
 mod script;
 mod status;
-#[cfg(test)]
-mod tests;
 mod text;
 mod world;
 

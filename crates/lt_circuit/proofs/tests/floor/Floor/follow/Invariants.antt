@@ -1,5 +1,0 @@
-use Rattle.std.proofs.Common.{◌≡◌}
-use Rattle.lt_circuit.proofs.tests.floor.Floor.follow.Given as goal
-
-abbrev pub invariant-loop-entry : goal.invariant-loop-entry
-invariant-loop-entry g l = l.self.board.leaves ≡ l.fn.self.board.leaves

@@ -1,0 +1,5 @@
+pub mod FittingColumns
+pub mod FittingByHand
+pub mod FittingSampled
+pub mod OwnOrder
+pub mod ReadyQueries

@@ -1,0 +1,138 @@
+//! Small programs by hand.
+ghost use Rattle.std.specs.Prelude.{◌≡◌, [], ◌∷◌, map, IfOk};
+ghost use Rattle.lt_run_trials.specs.ByHand as by_hand;
+ghost use Rattle.lt_run_trials.specs.ByHand.{four, three};
+
+use crate::samples::{ZERO, insert, r};
+use lt_face::items::{Items, RowList};
+use lt_face::key::Key;
+use lt_face::memory::NoMemory;
+use lt_face::row::Row;
+use lt_model::kind::{Kind, KindList};
+use lt_model::mark::Mark;
+use lt_model::normal::{Body, Prog, Stmt, Term, Test};
+use lt_model::reply::Reply;
+use lt_model::syntax::Op;
+use lt_program::run_plain;
+use std::alloc::Global;
+
+/// A relation of one column.
+fn column(alloc: Global, cells: &[Key]) -> Result<RowList, NoMemory>
+    ensures { IfOk result (λ rows. rows ≡ map (λ cell. cell ∷ []) cells.now) }
+{
+    let mut rows = Items::new(alloc);
+    for cell in cells {
+        rows.push(Row::from_cells(alloc, &[*cell]))?;
+    }
+    Ok(rows)
+}
+
+/// The body of one atom over one variable, and conditions.
+fn only(alloc: Global, term: Term, tests: &[Test]) -> Result<Body, NoMemory>
+    ensures { IfOk result (λ body. body ≡ by_hand.only term tests.now) }
+{
+    let mut atoms = Items::new(alloc);
+    let atom = r(alloc, term)?;
+    atoms.push(atom)?;
+    let tests = Items::from_vec(Vec::from_slice(alloc, tests)?);
+    Ok(Body {
+        atoms,
+        tests,
+        vars: 1,
+    })
+}
+
+/// `insert r(5); print (x) where r(x), x > 3; delete r(x) where r(x), x = 9; require none r(9);`
+fn four_statements(alloc: Global) -> Result<Prog, NoMemory>
+    ensures { IfOk result (λ prog. prog ≡ four) }
+{
+    let mut prog = Items::new(alloc);
+    let five = insert(alloc, ZERO + 5)?;
+    prog.push(five)?;
+    let great = Test::Cmp {
+        left: Term::Var(0),
+        op: Op::Gt,
+        right: Term::Cell(ZERO + 3),
+    };
+    let above = only(alloc, Term::Var(0), &[great])?;
+    prog.push(Stmt::Print {
+        terms: Items::from_vec(Vec::from_slice(alloc, &[Term::Var(0)])?),
+        kinds: KindList::from_kinds(alloc, &[Kind::Int]),
+        body: above,
+    })?;
+    let nine = Test::Cmp {
+        left: Term::Var(0),
+        op: Op::Eq,
+        right: Term::Cell(ZERO + 9),
+    };
+    let at_nine = only(alloc, Term::Var(0), &[nine])?;
+    let head = r(alloc, Term::Var(0))?;
+    prog.push(Stmt::Delete {
+        head,
+        body: at_nine,
+    })?;
+    let there = only(alloc, Term::Cell(ZERO + 9), &[])?;
+    prog.push(Stmt::Need {
+        some: false,
+        body: there,
+    })?;
+    Ok(prog)
+}
+
+/// `insert r(2); require none r(2); insert r(3);`
+pub(crate) fn refused(alloc: Global) -> Result<Prog, NoMemory>
+    ensures { IfOk result (λ prog. prog ≡ three) }
+{
+    let mut prog = Items::new(alloc);
+    let two = insert(alloc, ZERO + 2)?;
+    prog.push(two)?;
+    let there = only(alloc, Term::Cell(ZERO + 2), &[])?;
+    prog.push(Stmt::Need {
+        some: false,
+        body: there,
+    })?;
+    let last = insert(alloc, ZERO + 3)?;
+    prog.push(last)?;
+    Ok(prog)
+}
+
+/// Whether it is the mark of this cell in r.
+pub(crate) fn is_mark(alloc: Global, mark: &Mark, cell: Key, plus: bool) -> bool {
+    mark.relation == 0 && mark.plus == plus && mark.row == Row::from_cells(alloc, &[cell])
+}
+
+#[test]
+fn later_statements_see_earlier_marks(rt: HostRuntime) -> Result<(), NoMemory> {
+    let alloc = rt.alloc();
+    let rows = column(alloc, &[ZERO + 1, ZERO + 9])?;
+    let prog = four_statements(alloc)?;
+    let (reply, marks) = run_plain(alloc, &prog, &[rows])?;
+    assert_eq!(rt; marks.len(), 2);
+    assert!(rt; is_mark(alloc, marks.mark(0), ZERO + 5, true));
+    assert!(rt; is_mark(alloc, marks.mark(1), ZERO + 9, false));
+    match reply {
+        Reply::Refused(_) => assert!(rt; false),
+        Reply::Done(prints) => {
+            assert_eq!(rt; prints.len(), 1);
+            let printed = &prints.as_slice()[0];
+            assert_eq!(rt; printed.statement, 2);
+            let want = column(alloc, &[ZERO + 5, ZERO + 9])?;
+            assert!(rt; printed.rows.as_slice() == want.as_slice());
+        }
+    }
+    Ok(())
+}
+
+#[test]
+fn a_refused_program_leaves_no_marks(rt: HostRuntime) -> Result<(), NoMemory> {
+    let alloc = rt.alloc();
+    let rows = column(alloc, &[ZERO + 1])?;
+    let prog = refused(alloc)?;
+    let (reply, marks) = run_plain(alloc, &prog, &[rows])?;
+    assert_eq!(rt; marks.len(), 0);
+    match reply {
+        Reply::Refused(statement) => assert_eq!(rt; statement, 2),
+        Reply::Done(_) => assert!(rt; false),
+    }
+    Ok(())
+}

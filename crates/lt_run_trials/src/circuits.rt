@@ -1,0 +1,248 @@
+//! Circuits by hand: programs whose marks meet, and leaves whose marks depend on what ran before them.
+ghost use Rattle.std.specs.Prelude.{◌≡◌, ◌≤◌, ◌<◌, IfOk};
+ghost use Rattle.lt_net.specs.Net.{IsSettled};
+ghost use Rattle.lt_circuit.specs.Circuit.{state};
+
+use crate::floor::Floor;
+use crate::sample::{Sample, marks_on};
+use lt_circuit::{Circuit, Entry};
+use lt_delta::Marks;
+use lt_face::NoMemory;
+use lt_face::key::Key;
+use std::alloc::Global;
+use std::sync::Arc;
+
+/// Whether the marks are these, by row and sign.
+fn are(alloc: Global, marks: &Marks, rows: &[(Key, bool)]) -> Result<bool, NoMemory> {
+    let want = marks_on(alloc, rows)?;
+    Ok(Marks::equal(marks, &want))
+}
+
+/// Whether the entries are these, by worker and code.
+fn is_journal(journal: &[Entry], want: &[Entry]) -> bool {
+    journal == want
+}
+
+/// The entry of this worker and code.
+fn by(worker: u32, code: u32) -> Entry {
+    Entry { worker, code }
+}
+
+/// A circuit that one worker settled.
+fn settled_alone(alloc: Global, leaves: u32) -> Result<Circuit<Sample>, NoMemory>
+    requires few { leaves ≤ 256 }
+    ensures settled { IfOk result (λ circuit. IsSettled (state circuit)) }
+    ensures leaves { IfOk result (λ circuit. circuit.board.leaves ≡ leaves) }
+{
+    let work = Arc::new(alloc, Sample { alloc })?;
+    let mut circuit = Circuit::start(alloc, work, leaves)?;
+    circuit.settle_alone()?;
+    Ok(circuit)
+}
+
+/// The events of one worker over two leaves.
+fn one_worker() -> [Entry; 10] {
+    [
+        by(0, 0),
+        by(0, 1),
+        by(0, 3),
+        by(0, 4),
+        by(0, 6),
+        by(0, 7),
+        by(0, 9),
+        by(0, 10),
+        by(0, 3),
+        by(0, 4),
+    ]
+}
+
+/// Whether one worker settles two leaves by these events, to this effect.
+fn one_settles_two(alloc: Global) -> Result<bool, NoMemory> {
+    let circuit = settled_alone(alloc, 2)?;
+    let settled = circuit.settled();
+    let in_flight = circuit.in_flight();
+    let entries = one_worker();
+    let same = is_journal(circuit.journal(), &entries);
+    let serial = are(alloc, circuit.root_effect(), &[(1, true)])?;
+    Ok(settled && in_flight == 0 && same && serial)
+}
+
+#[test]
+fn one_worker_settles_two_programs(rt: HostRuntime) -> Result<(), NoMemory> {
+    let holds = one_settles_two(rt.alloc())?;
+    assert!(rt; holds);
+    Ok(())
+}
+
+/// Whether the leaf's effect and its tally are this one mark.
+fn leaf_did(
+    alloc: Global,
+    circuit: &Circuit<Sample>,
+    leaf: u32,
+    row: Key,
+    plus: bool,
+) -> Result<bool, NoMemory>
+    requires settled { IsSettled (state circuit.now) }
+    requires leaf { leaf < circuit.now.board.leaves }
+{
+    let want = marks_on(alloc, &[(row, plus)])?;
+    let effect = Marks::equal(circuit.effect(leaf), &want);
+    let tally = Marks::equal(circuit.tally(leaf), &want);
+    Ok(effect && tally)
+}
+
+#[test]
+fn each_leaf_has_its_effect_and_tally(rt: HostRuntime) -> Result<(), NoMemory> {
+    let alloc = rt.alloc();
+    let circuit = settled_alone(alloc, 4)?;
+    assert!(rt; leaf_did(alloc, &circuit, 0, 1, false)?);
+    assert!(rt; leaf_did(alloc, &circuit, 1, 1, true)?);
+    assert!(rt; leaf_did(alloc, &circuit, 3, 3, false)?);
+    Ok(())
+}
+
+/// Whether the one leaf is given to the first worker, and what the second is told before and after its finish.
+fn one_leaf_goes_round(alloc: Global) -> Result<bool, NoMemory> {
+    let mut floor = Floor::start(alloc, Sample { alloc }, 1)?;
+    let leaf = floor.begins_leaf(0);
+    let busy = floor.is_told(1);
+    let done = floor.follow(&[by(0, 1)]);
+    let settled = floor.is_told(0);
+    Ok(leaf && busy && done == 1 && settled)
+}
+
+#[test]
+fn one_leaf_is_claimed_and_finished(rt: HostRuntime) -> Result<(), NoMemory> {
+    let holds = one_leaf_goes_round(rt.alloc())?;
+    assert!(rt; holds);
+    Ok(())
+}
+
+/// Leaf 1 finishes while the merge runs on what stood before.
+fn two_workers() -> [Entry; 12] {
+    [
+        by(0, 0),
+        by(1, 9),
+        by(0, 1),
+        by(0, 3),
+        by(1, 10),
+        by(0, 4),
+        by(1, 6),
+        by(1, 7),
+        by(0, 3),
+        by(0, 4),
+        by(1, 9),
+        by(1, 10),
+    ]
+}
+
+/// Whether all these entries can be done over two leaves, the effect of both is then this, and the circuit is then settled or
+/// isn't.
+fn stands_after(
+    alloc: Global,
+    entries: &[Entry],
+    rows: &[(Key, bool)],
+    settled: bool,
+) -> Result<bool, NoMemory> {
+    let mut floor = Floor::start(alloc, Sample { alloc }, 2)?;
+    floor.follow(entries);
+    let journal = is_journal(floor.circuit().journal(), entries);
+    let same = are(alloc, floor.circuit().root_effect(), rows)?;
+    Ok(journal && same && floor.circuit().settled() == settled)
+}
+
+#[test]
+fn a_merge_is_dirtied_by_the_second_worker(rt: HostRuntime) -> Result<(), NoMemory> {
+    let entries = two_workers();
+    let holds = stands_after(rt.alloc(), &entries[..6], &[(1, false)], false)?;
+    assert!(rt; holds);
+    Ok(())
+}
+
+#[test]
+fn two_workers_overtake_each_other(rt: HostRuntime) -> Result<(), NoMemory> {
+    let entries = two_workers();
+    let holds = stands_after(rt.alloc(), &entries, &[(1, true)], true)?;
+    assert!(rt; holds);
+    Ok(())
+}
+
+/// Whether so many of these entries can be done, and whether the effect of four leaves is that of running them one after
+/// another once both workers have given up what they then hold and one of them has settled the circuit alone.
+fn settles_from(alloc: Global, entries: &[Entry], could: usize) -> Result<bool, NoMemory> {
+    let mut floor = Floor::start(alloc, Sample { alloc }, 4)?;
+    let done = floor.follow(entries);
+    let mut circuit = floor.clear();
+    circuit.settle_alone()?;
+    let want = [(1, true), (2, true), (3, false)];
+    let serial = are(alloc, circuit.root_effect(), &want)?;
+    Ok(serial && done == could)
+}
+
+/// A merge on what stood before is given up.
+fn overtaken() -> [Entry; 6] {
+    [
+        by(0, 0),
+        by(1, 9),
+        by(0, 1),
+        by(0, 12),
+        by(1, 10),
+        by(0, 14),
+    ]
+}
+
+/// A leaf's correction changes while it runs. It is given up and taken again.
+fn dirtied() -> [Entry; 8] {
+    [
+        by(0, 0),
+        by(1, 9),
+        by(0, 1),
+        by(0, 15),
+        by(0, 16),
+        by(1, 11),
+        by(1, 9),
+        by(0, 27),
+    ]
+}
+
+/// The last leaves first. What another holds, what isn't Pending and what names no job isn't given.
+fn backwards() -> [Entry; 12] {
+    [
+        by(1, 27),
+        by(0, 27),
+        by(1, 28),
+        by(1, 27),
+        by(1, 3),
+        by(1, 3000),
+        by(0, 18),
+        by(0, 19),
+        by(0, 39),
+        by(0, 40),
+        by(1, 0),
+        by(1, 1),
+    ]
+}
+
+#[test]
+fn an_overtaken_merge_is_settled(rt: HostRuntime) -> Result<(), NoMemory> {
+    let entries = overtaken();
+    let holds = settles_from(rt.alloc(), &entries, 6)?;
+    assert!(rt; holds);
+    Ok(())
+}
+
+#[test]
+fn a_dirtied_leaf_is_settled(rt: HostRuntime) -> Result<(), NoMemory> {
+    let entries = dirtied();
+    let holds = settles_from(rt.alloc(), &entries, 8)?;
+    assert!(rt; holds);
+    Ok(())
+}
+
+#[test]
+fn leaves_from_the_last_on_are_settled(rt: HostRuntime) -> Result<(), NoMemory> {
+    let entries = backwards();
+    let holds = settles_from(rt.alloc(), &entries, 8)?;
+    assert!(rt; holds);
+    Ok(())
+}

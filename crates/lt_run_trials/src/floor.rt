@@ -1,0 +1,252 @@
+//! Two workers at a circuit, driven by the entries of a journal.
+ghost use Rattle.std.specs.Prelude.{◌≡◌, ◌≢◌, ◌<◌, ◌≤◌, ℕ, None, IfOk};
+ghost use Rattle.std.specs.Arc.{arc_value};
+ghost use Rattle.lt_alone.specs.Alone.{IsUnclaimed};
+ghost use Rattle.lt_circuit.specs.Circuit.{CircuitView, state};
+ghost use Rattle.lt_circuit.specs.Hands.{AreInHand, IsInHand};
+
+use lt_circuit::{Circuit, Claim, Entry, Job, JobName, LeafWork, This};
+use lt_face::{Moves, NoMemory};
+use std::alloc::Global;
+use std::marker::Model;
+use std::sync::Arc;
+
+/// A circuit, and what its two workers hold.
+#[derive(Drop)]
+pub struct Floor<W: LeafWork> {
+    circuit: Circuit<W>,
+    first: Option<Job<W>>,
+    second: Option<Job<W>>,
+}
+
+impl<W: LeafWork> Model for Floor<W> {
+    ghost Value = { CircuitView W };
+
+    ghost view = { λ f. f.circuit };
+
+    ghost invariant = { λ f. AreInHand f.circuit f.first f.second };
+}
+
+/// A claim of this job. It tells whether the job was given.
+fn begin<W: LeafWork>(
+    circuit: &mut Circuit<W>,
+    hand: &mut Option<Job<W>>,
+    worker: u32,
+    code: u32,
+) -> bool
+    requires worker { worker < 16 }
+    requires hand { IsInHand circuit.old worker hand.old }
+    ensures hand { IsInHand circuit.new worker hand.new }
+    ensures leaves { circuit.new.board.leaves ≡ circuit.old.board.leaves }
+    ensures work { circuit.new.work ≡ circuit.old.work }
+    ensures others { (v : ℕ) → v ≢ worker → (state circuit.new).claim v ≡ (state circuit.old).claim v }
+{
+    if hand.is_some() {
+        return false;
+    }
+    match circuit.claim_this(worker, code) {
+        This::Job(job) => {
+            *hand = Some(job);
+            true
+        }
+        This::NotPending => false,
+        This::NoMemory => false,
+    }
+}
+
+/// The end of the worker's claim, by a finish or by an abandon. It tells whether there was one.
+fn end<W: LeafWork>(
+    circuit: &mut Circuit<W>,
+    hand: &mut Option<Job<W>>,
+    worker: u32,
+    finishes: bool,
+) -> bool
+    requires worker { worker < 16 }
+    requires hand { IsInHand circuit.old worker hand.old }
+    ensures hand { IsInHand circuit.new worker hand.new }
+    ensures empty { hand.new ≡ None }
+    ensures leaves { circuit.new.board.leaves ≡ circuit.old.board.leaves }
+    ensures work { circuit.new.work ≡ circuit.old.work }
+    ensures others { (v : ℕ) → v ≢ worker → (state circuit.new).claim v ≡ (state circuit.old).claim v }
+{
+    match hand.take() {
+        None => false,
+        Some(job) => {
+            if !finishes {
+                circuit.abandon(worker, job);
+                return true;
+            }
+            let mut moves: Moves<()> = Moves::new();
+            match job.work(&mut moves) {
+                Ok(output) => {
+                    circuit.finish(worker, output);
+                    true
+                }
+                Err(job) => {
+                    circuit.abandon(worker, job);
+                    false
+                }
+            }
+        }
+    }
+}
+
+/// What the entry's code says. It tells whether it could be done.
+fn act<W: LeafWork>(
+    circuit: &mut Circuit<W>,
+    hand: &mut Option<Job<W>>,
+    worker: u32,
+    code: u32,
+) -> bool
+    requires worker { worker < 16 }
+    requires hand { IsInHand circuit.old worker hand.old }
+    ensures hand { IsInHand circuit.new worker hand.new }
+    ensures leaves { circuit.new.board.leaves ≡ circuit.old.board.leaves }
+    ensures work { circuit.new.work ≡ circuit.old.work }
+    ensures others { (v : ℕ) → v ≢ worker → (state circuit.new).claim v ≡ (state circuit.old).claim v }
+{
+    if code % 3 == 0 {
+        begin(circuit, hand, worker, code / 3)
+    } else {
+        end(circuit, hand, worker, code % 3 == 1)
+    }
+}
+
+/// A claim of any job. It tells the job's name.
+fn any<W: LeafWork>(
+    circuit: &mut Circuit<W>,
+    hand: &mut Option<Job<W>>,
+    worker: u32,
+) -> Option<JobName>
+    requires worker { worker < 16 }
+    requires hand { IsInHand circuit.old worker hand.old }
+    ensures hand { IsInHand circuit.new worker hand.new }
+    ensures leaves { circuit.new.board.leaves ≡ circuit.old.board.leaves }
+    ensures work { circuit.new.work ≡ circuit.old.work }
+    ensures others { (v : ℕ) → v ≢ worker → (state circuit.new).claim v ≡ (state circuit.old).claim v }
+{
+    if hand.is_some() {
+        return None;
+    }
+    match circuit.claim(worker) {
+        Claim::Job(job) => {
+            let name = job.name();
+            *hand = Some(job);
+            Some(name)
+        }
+        Claim::Busy {
+            in_flight: _in_flight,
+        } => None,
+        Claim::Settled => None,
+        Claim::NoMemory => None,
+    }
+}
+
+/// How many claims stand, as a worker is told that finds no job.
+fn told<W: LeafWork>(
+    circuit: &mut Circuit<W>,
+    hand: &mut Option<Job<W>>,
+    worker: u32,
+) -> Option<u32>
+    requires worker { worker < 16 }
+    requires hand { IsInHand circuit.old worker hand.old }
+    ensures hand { IsInHand circuit.new worker hand.new }
+    ensures leaves { circuit.new.board.leaves ≡ circuit.old.board.leaves }
+    ensures work { circuit.new.work ≡ circuit.old.work }
+    ensures others { (v : ℕ) → v ≢ worker → (state circuit.new).claim v ≡ (state circuit.old).claim v }
+{
+    if hand.is_some() {
+        return None;
+    }
+    match circuit.claim(worker) {
+        Claim::Job(job) => {
+            *hand = Some(job);
+            None
+        }
+        Claim::Busy { in_flight } => Some(in_flight),
+        Claim::Settled => Some(0),
+        Claim::NoMemory => None,
+    }
+}
+
+impl<W: LeafWork> Floor<W> {
+    /// The opening, with empty hands.
+    pub fn start(alloc: Global, work: W, leaves: u32) -> Result<Floor<W>, NoMemory>
+        requires few { leaves ≤ 256 }
+        requires has { (i : ℕ) → i < leaves → W.has work i }
+        ensures leaves { IfOk result (λ floor. floor.board.leaves ≡ leaves) }
+    {
+        let work = Arc::new(alloc, work)?;
+        let circuit = Circuit::start(alloc, work, leaves)?;
+        Ok(Floor {
+            circuit,
+            first: None,
+            second: None,
+        })
+    }
+
+    pub fn circuit(&self) -> &Circuit<W>
+        ensures { result.now ≡ self.now }
+    {
+        &self.circuit
+    }
+
+    /// The first worker claims any job. It tells whether that is this leaf's.
+    pub fn begins_leaf(&mut self, leaf: u32) -> bool
+        ensures leaves { self.new.board.leaves ≡ self.old.board.leaves }
+    {
+        match any(&mut self.circuit, &mut self.first, 0) {
+            Some(name) => name == JobName::Leaf(leaf),
+            None => false,
+        }
+    }
+
+    /// The second worker asks for any job. It tells whether there is none, and this many claims stand.
+    pub fn is_told(&mut self, in_flight: u32) -> bool
+        ensures leaves { self.new.board.leaves ≡ self.old.board.leaves }
+    {
+        match told(&mut self.circuit, &mut self.second, 1) {
+            Some(count) => count == in_flight,
+            None => false,
+        }
+    }
+
+    /// What the entry says. It tells whether it could be done.
+    fn act(&mut self, entry: Entry) -> bool
+        ensures leaves { self.new.board.leaves ≡ self.old.board.leaves }
+    {
+        if entry.worker == 0 {
+            act(&mut self.circuit, &mut self.first, 0, entry.code)
+        } else {
+            act(&mut self.circuit, &mut self.second, 1, entry.code)
+        }
+    }
+
+    /// What the entries say, in turn. It tells how many could be done.
+    pub fn follow(&mut self, entries: &[Entry]) -> usize
+        ensures leaves { self.new.board.leaves ≡ self.old.board.leaves }
+    {
+        let mut done: usize = 0;
+        for entry in entries {
+            if self.act(*entry) {
+                done = done.saturating_add(1);
+            }
+        }
+        done
+    }
+
+    /// The circuit, with both hands' jobs given up.
+    pub fn clear(self) -> Circuit<W>
+        ensures leaves { result.board.leaves ≡ self.board.leaves }
+        ensures free { IsUnclaimed (state result) }
+    {
+        let Floor {
+            mut circuit,
+            mut first,
+            mut second,
+        } = self;
+        end(&mut circuit, &mut first, 0, false);
+        end(&mut circuit, &mut second, 1, false);
+        circuit
+    }
+}

@@ -1,0 +1,285 @@
+//! Joins by hand: their rows, and what these depended on.
+ghost use Rattle.std.specs.Prelude.{◌≡◌, ◌≤◌, [], ◌∷◌, IfOk, length};
+ghost use Rattle.std.specs.List.{AllByRecursion};
+ghost use Rattle.lt_face.specs.Rows.{IsRow};
+ghost use Rattle.lt_run_trials.specs.Queries.{unary_body, unary_plan, above_three as above_three_test, is_one as is_one_test, one_more as one_more_test, twice_body, twice_plan, constant_body, constant_plan, triangle_body, triangle_plan};
+ghost use Rattle.lt_run_trials.specs.Tables.{IsReady};
+
+use crate::queries::{
+    ONE, THREE, constant, one, triangle, triangle_order, twice, unary, unary_order,
+};
+use crate::tables::Tables;
+use lt_face::items::{Items, RowList};
+use lt_face::key::{END, Key};
+use lt_face::memory::NoMemory;
+use lt_face::moves::Moves;
+use lt_face::row::Row;
+use lt_face::row_set::RowSet;
+use lt_flat::FlatRows;
+use lt_join::{answers, some};
+use lt_model::normal::{Body, Term, TermList, Test};
+use lt_model::syntax::Op;
+use lt_query::Plan;
+use lt_sense::Sense;
+use lt_values::cell_of_int;
+use std::alloc::Global;
+use std::test::Fail;
+
+/// The answers over one relation, and what they were sensitive to.
+fn searched(
+    alloc: Global,
+    rows: FlatRows,
+    query: &(Body, Plan),
+    terms: &TermList,
+) -> Result<(RowList, Sense), NoMemory>
+    requires { IsReady rows query.now.0 query.now.1 terms.now }
+{
+    let tables = Tables {
+        relations: vec![in alloc; rows]?,
+    };
+    let mut moves = Moves::<()>::new();
+    let found = answers(alloc, &query.0, &query.1, terms, &tables, &mut moves)?;
+    Ok(found)
+}
+
+/// Whether there is an answer, and what that was sensitive to.
+fn asked(alloc: Global, rows: FlatRows, query: &(Body, Plan)) -> Result<(bool, Sense), NoMemory>
+    requires { IsReady rows query.now.0 query.now.1 [] }
+{
+    let tables = Tables {
+        relations: vec![in alloc; rows]?,
+    };
+    let mut moves = Moves::<()>::new();
+    let found = some(alloc, &query.0, &query.1, &tables, &mut moves)?;
+    Ok(found)
+}
+
+/// The row of an int.
+fn unary_row(alloc: Global, n: i64) -> Row
+    ensures { IsRow 1 result }
+{
+    Row::from_cells(alloc, &[cell_of_int(n)])
+}
+
+/// The row of two ints.
+fn binary_row(alloc: Global, a: i64, b: i64) -> Row
+    ensures { IsRow 2 result }
+{
+    Row::from_cells(alloc, &[cell_of_int(a), cell_of_int(b)])
+}
+
+/// A relation of one column.
+fn unary_rows(alloc: Global, ints: &[i64]) -> Result<FlatRows, NoMemory>
+    ensures { IfOk result (λ rows. rows.width ≡ 1) }
+{
+    let mut rows = FlatRows::empty(alloc, 1)?;
+    for n in ints {
+        let row = unary_row(alloc, *n);
+        rows.insert(row)?;
+    }
+    Ok(rows)
+}
+
+/// A relation of two columns.
+fn binary_rows(alloc: Global, pairs: &[(i64, i64)]) -> Result<FlatRows, NoMemory>
+    ensures { IfOk result (λ rows. rows.width ≡ 2) }
+{
+    let mut rows = FlatRows::empty(alloc, 2)?;
+    for pair in pairs {
+        let row = binary_row(alloc, pair.0, pair.1);
+        rows.insert(row)?;
+    }
+    Ok(rows)
+}
+
+/// r(x), x > 3.
+fn above_three(alloc: Global) -> Result<(Body, Plan), NoMemory>
+    ensures { IfOk result (λ query. query ≡ (unary_body above_three_test, unary_plan [])) }
+{
+    let body = unary(
+        alloc,
+        Test::Cmp {
+            left: Term::Var(0),
+            op: Op::Gt,
+            right: Term::Cell(THREE),
+        },
+    )?;
+    let plan = unary_order(alloc, Items::new(alloc))?;
+    Ok((body, plan))
+}
+
+/// r(x), x = 1.
+fn is_one(alloc: Global) -> Result<(Body, Plan), NoMemory>
+    ensures { IfOk result (λ query. query ≡ (unary_body is_one_test, unary_plan (9223372036854775810 ∷ []))) }
+{
+    let body = unary(
+        alloc,
+        Test::Cmp {
+            left: Term::Var(0),
+            op: Op::Eq,
+            right: Term::Cell(ONE),
+        },
+    )?;
+    let pins = one(alloc, ONE)?;
+    let plan = unary_order(alloc, pins)?;
+    Ok((body, plan))
+}
+
+/// r(x), y = x + 1.
+fn one_more(alloc: Global) -> Result<(Body, Plan), NoMemory>
+    ensures { IfOk result (λ query. query ≡ (unary_body one_more_test, unary_plan [])) }
+{
+    let body = unary(
+        alloc,
+        Test::Sum {
+            var: 1,
+            a: Term::Var(0),
+            minus: false,
+            b: Term::Cell(ONE),
+        },
+    )?;
+    let plan = unary_order(alloc, Items::new(alloc))?;
+    Ok((body, plan))
+}
+
+/// The lower and upper bounds of the sense's gaps, in the order in which they were met.
+fn bounds(alloc: Global, sense: &Sense) -> Result<Vec<(Key, Key)>, NoMemory> {
+    let mut bounds = Vec::new(alloc);
+    for gap in sense.gaps.as_slice() {
+        bounds.push((gap.lo, gap.hi))?;
+    }
+    Ok(bounds)
+}
+
+#[test]
+fn a_range_leaves_its_gaps_and_hits(rt: HostRuntime) -> Result<(), NoMemory> {
+    let alloc = rt.alloc();
+    let rows = unary_rows(alloc, &[1, 9])?;
+    let query = above_three(alloc)?;
+    let terms = one(alloc, Term::Var(0))?;
+    let found = searched(alloc, rows, &query, &terms)?;
+    assert_eq!(rt; found.0.as_slice(), [unary_row(alloc, 9)].as_slice());
+    let gaps = [
+        (0, cell_of_int(1)),
+        (cell_of_int(2), cell_of_int(9)),
+        (cell_of_int(10), END),
+    ];
+    assert_eq!(rt; bounds(alloc, &found.1)?.as_slice(), gaps.as_slice());
+    let hits = found.1.hits.as_slice();
+    assert_eq!(rt; hits.len(), 2);
+    assert_eq!(rt; hits[0].row, unary_row(alloc, 1));
+    assert_eq!(rt; hits[1].row, unary_row(alloc, 9));
+    assert!(rt; found.1.covers(0, &unary_row(alloc, 5)));
+    assert!(rt; found.1.covers(0, &unary_row(alloc, 20)));
+    Ok(())
+}
+
+#[test]
+fn a_pin_ends_its_level_with_its_find(rt: HostRuntime) -> Result<(), NoMemory> {
+    let alloc = rt.alloc();
+    let rows = unary_rows(alloc, &[1, 9])?;
+    let query = is_one(alloc)?;
+    let terms = one(alloc, Term::Var(0))?;
+    let found = searched(alloc, rows, &query, &terms)?;
+    assert_eq!(rt; found.0.as_slice(), [unary_row(alloc, 1)].as_slice());
+    assert_eq!(rt;
+        bounds(alloc, &found.1)?.as_slice(),
+        [(0, cell_of_int(1))].as_slice()
+    );
+    let hits = found.1.hits.as_slice();
+    assert_eq!(rt; hits.len(), 1);
+    assert_eq!(rt; hits[0].row, unary_row(alloc, 1));
+    assert!(rt; !found.1.covers(0, &unary_row(alloc, 20)));
+    Ok(())
+}
+
+#[test]
+fn a_requirement_stops_at_its_first_answer(rt: HostRuntime) -> Result<(), NoMemory> {
+    let alloc = rt.alloc();
+    let rows = unary_rows(alloc, &[1, 9, 12])?;
+    let query = above_three(alloc)?;
+    let found = asked(alloc, rows, &query)?;
+    assert_eq!(rt; found.0, true);
+    let gaps = [(0, cell_of_int(1)), (cell_of_int(2), cell_of_int(9))];
+    assert_eq!(rt; bounds(alloc, &found.1)?.as_slice(), gaps.as_slice());
+    assert_eq!(rt; found.1.hits.len(), 2);
+    Ok(())
+}
+
+#[test]
+fn a_requirement_without_an_answer_is_false(rt: HostRuntime) -> Result<(), NoMemory> {
+    let alloc = rt.alloc();
+    let rows = unary_rows(alloc, &[1, 2, 3])?;
+    let query = above_three(alloc)?;
+    let found = asked(alloc, rows, &query)?;
+    assert_eq!(rt; found.0, false);
+    assert_eq!(rt; found.1.hits.len(), 3);
+    assert!(rt; found.1.covers(0, &unary_row(alloc, 4)));
+    Ok(())
+}
+
+#[test]
+fn a_sum_past_the_range_gives_no_answer(rt: HostRuntime) -> Result<(), NoMemory> {
+    let alloc = rt.alloc();
+    let rows = unary_rows(alloc, &[7, 9_223_372_036_854_775_807])?;
+    let query = one_more(alloc)?;
+    let terms = one(alloc, Term::Var(1))?;
+    let found = searched(alloc, rows, &query, &terms)?;
+    assert_eq!(rt; found.0.as_slice(), [unary_row(alloc, 8)].as_slice());
+    Ok(())
+}
+
+#[test]
+fn a_variable_twice_in_an_atom(rt: HostRuntime) -> Result<(), NoMemory> {
+    let alloc = rt.alloc();
+    let rows = binary_rows(alloc, &[(1, 1), (1, 2), (2, 1), (3, 3)])?;
+    let query = twice(alloc)?;
+    let terms = one(alloc, Term::Var(0))?;
+    let found = searched(alloc, rows, &query, &terms)?;
+    let expected = [unary_row(alloc, 1), unary_row(alloc, 3)];
+    assert_eq!(rt; found.0.as_slice(), expected.as_slice());
+    Ok(())
+}
+
+#[test]
+fn a_constant_in_an_atom(rt: HostRuntime) -> Result<(), NoMemory> {
+    let alloc = rt.alloc();
+    let rows = binary_rows(alloc, &[(1, 1), (1, 2), (2, 1), (3, 3)])?;
+    let query = constant(alloc)?;
+    let terms = one(alloc, Term::Var(0))?;
+    let found = searched(alloc, rows, &query, &terms)?;
+    let expected = [unary_row(alloc, 1), unary_row(alloc, 2)];
+    assert_eq!(rt; found.0.as_slice(), expected.as_slice());
+    Ok(())
+}
+
+#[test]
+fn answers_of_several_assignments_are_given_once(rt: HostRuntime) -> Result<(), NoMemory> {
+    let alloc = rt.alloc();
+    let rows = binary_rows(alloc, &[(1, 1), (2, 1), (2, 2), (3, 1)])?;
+    let query = constant(alloc)?;
+    let terms = one(alloc, Term::Cell(THREE))?;
+    let found = searched(alloc, rows, &query, &terms)?;
+    assert_eq!(rt; found.0.as_slice(), [unary_row(alloc, 3)].as_slice());
+    Ok(())
+}
+
+#[test]
+fn triangles(rt: HostRuntime) -> Result<(), NoMemory> {
+    let alloc = rt.alloc();
+    let rows = binary_rows(
+        alloc,
+        &[(1, 2), (2, 3), (1, 3), (3, 1), (3, 4), (1, 4), (4, 2)],
+    )?;
+    let body = triangle(alloc)?;
+    let plan = triangle_order(alloc)?;
+    let terms = one(alloc, Term::Var(2))?;
+    let found = searched(alloc, rows, &(body, plan), &terms)?;
+    let expected = [
+        unary_row(alloc, 2),
+        unary_row(alloc, 3),
+        unary_row(alloc, 4),
+    ];
+    assert_eq!(rt; found.0.as_slice(), expected.as_slice());
+    Ok(())
+}

@@ -1,0 +1,31 @@
+//! Joins, programs, circuits and batches, run as the database runs them, by hand, and as they are defined.
+#![tactic(auto)]
+
+#[cfg(test)]
+mod agreeing;
+#[cfg(test)]
+mod batches;
+#[cfg(test)]
+mod by_hand;
+#[cfg(test)]
+mod circuits;
+#[cfg(test)]
+mod comparing;
+#[cfg(test)]
+mod floor;
+#[cfg(test)]
+mod joins;
+#[cfg(test)]
+mod queries;
+#[cfg(test)]
+mod random;
+#[cfg(test)]
+mod sample;
+#[cfg(test)]
+mod sampled;
+#[cfg(test)]
+mod samples;
+#[cfg(test)]
+mod serial;
+#[cfg(test)]
+mod tables;

@@ -1,0 +1,9 @@
+//! Scripts: the items and the first faults that they are read as, and whole scripts, bytes in and bytes out.
+#![tactic(auto)]
+
+#[cfg(test)]
+mod endings;
+#[cfg(test)]
+mod items;
+#[cfg(test)]
+mod scripts;

@@ -1,0 +1,270 @@
+//! Scripts, bytes in and bytes out.
+use lt_edges::{MemSink, MemSource, OpenGate};
+use lt_session::repair_main;
+use std::alloc::{AllocError, Global};
+use std::sync::Wait;
+use std::test::Fail;
+use std::thread::Threads;
+
+const USAGE: &str =
+    "usage: lt_shell run [--workers N] [--marks] | lt_shell bench --seed S --items I --programs P [--workers N]\n";
+
+fn words_of(alloc: Global, words: &[&str]) -> Result<Vec<String>, AllocError> {
+    let mut all = Vec::new(alloc);
+    for word in words {
+        all.push(String::from_str(alloc, word)?)?;
+    }
+    Ok(all)
+}
+
+// The status of `run` on a script, and what was written.
+fn outcome<R: Threads + Wait + Sync>(
+    rt: &R,
+    alloc: Global,
+    source: &mut MemSource,
+    failing: &[u64],
+) -> Result<(u8, MemSink), Fail> {
+    let words = words_of(alloc, &["lt_shell", "run"])?;
+    let mut sink = MemSink::new(alloc, 1000, failing)?;
+    let status = repair_main(rt, alloc, &words, source, &mut sink, &OpenGate);
+    Ok((status, sink))
+}
+
+#[test]
+fn reports_scripts(rt: HostRuntime) -> Result<(), Fail> {
+    let alloc = rt.alloc();
+    let rows = [
+        (
+            "arrow without keys",
+            "relation f(-> int);",
+            "fault 1 2\n",
+            2,
+        ),
+        (
+            "arrow without values",
+            "relation f(int ->);",
+            "fault 1 2\n",
+            2,
+        ),
+        ("byte that begins no token", "@", "fault 1 1\n", 2),
+        (
+            "codes of programs",
+            "relation r(int); batch program a insert t(1); end; program b insert r(1,2); end; program c insert r('x'); end; commit;",
+            "batch 1\na bad 20 1\nb bad 21 1\nc bad 22 1\nversion 1\n",
+            0,
+        ),
+        (
+            "codes of single items",
+            "show x; relation r(int); relation r(sym); show r at 1; show r at 0;",
+            "bad 20\nbad 24\nbad 26\nshow r at 0 0\n",
+            0,
+        ),
+        (
+            "delete then insert of one row",
+            "relation r(int); batch program l insert r(1); end; commit; batch program p1 delete r(1); end; program p2 insert r(1); end; commit; show r;",
+            "batch 1\nl done\nversion 1\nbatch 2\np1 done\np2 done\nversion 2\nshow r 1\n1\n",
+            0,
+        ),
+        (
+            "empty batch makes version one",
+            "relation r(int); batch commit; show r;",
+            "batch 1\nversion 1\nshow r 0\n",
+            0,
+        ),
+        ("empty script", "", "", 0),
+        (
+            "fault after good items",
+            "relation r(int); batch program p insert r(2); insert r(1); end; commit; show r;\nshow r x",
+            "batch 1\np done\nversion 1\nshow r 2\n1\n2\nfault 2 2\n",
+            2,
+        ),
+        (
+            "input ends inside an item",
+            "relation r(int)",
+            "fault 1 7\n",
+            2,
+        ),
+        (
+            "insert beside a pinned print",
+            "relation r(int); batch program l insert r(1); insert r(9); end; commit; batch program p1 insert r(20); end; program p2 print (x) where r(x), x = 1; end; commit;",
+            "batch 1\nl done\nversion 1\nbatch 2\np1 done\np2 done\nprint 1 1\n1\nversion 2\n",
+            0,
+        ),
+        (
+            "int past the range",
+            "relation r(int); batch program p insert r(9223372036854775808); end; commit; show r;",
+            "fault 1 3\n",
+            2,
+        ),
+        (
+            "later program sees earlier insert",
+            "relation flag(int); batch program p1 insert flag(1); end; program p2 require some flag(x); end; commit;",
+            "batch 1\np1 done\np2 done\nversion 1\n",
+            0,
+        ),
+        (
+            "least int",
+            "relation r(int); batch program p insert r(-9223372036854775808); end; commit; show r;",
+            "batch 1\np done\nversion 1\nshow r 1\n-9223372036854775808\n",
+            0,
+        ),
+        (
+            "name of sixteen bytes",
+            "show abcdefghijklmnop;",
+            "fault 1 5\n",
+            2,
+        ),
+        (
+            "ninth column",
+            "relation r(int,int,int,int,int,int,int,int,int);",
+            "fault 1 6\n",
+            2,
+        ),
+        (
+            "one variable twice in an atom",
+            "relation e(int,int); batch program l insert e(1,1); insert e(1,2); end; commit; batch program p print (x) where e(x,x); end; commit;",
+            "batch 1\nl done\nversion 1\nbatch 2\np done\nprint 1 1\n1\nversion 2\n",
+            0,
+        ),
+        (
+            "phantom insert before print",
+            "relation r(int); batch program l insert r(1); insert r(9); end; commit; batch program p1 insert r(5); end; program p2 print (x) where r(x), x > 3; end; commit;",
+            "batch 1\nl done\nversion 1\nbatch 2\np1 done\np2 done\nprint 1 2\n5\n9\nversion 2\n",
+            0,
+        ),
+        (
+            "print without repeats",
+            "relation e(int,int); batch program l insert e(1,7); insert e(2,7); end; commit; batch program p print (y) where e(x,y); end; commit;",
+            "batch 1\nl done\nversion 1\nbatch 2\np done\nprint 1 1\n7\nversion 2\n",
+            0,
+        ),
+        (
+            "refused program leaves nothing",
+            "relation r(int); batch program l insert r(1); end; commit; batch program p insert r(2); require none r(2); insert r(3); end; commit; show r;",
+            "batch 1\nl done\nversion 1\nbatch 2\np refused 2\nversion 2\nshow r 1\n1\n",
+            0,
+        ),
+        (
+            "show at an older version",
+            "relation r(int); batch program p insert r(2); insert r(1); end; commit; show r; batch program q delete r(1); end; commit; show r at 1; show r;",
+            "batch 1\np done\nversion 1\nshow r 2\n1\n2\nbatch 2\nq done\nversion 2\nshow r at 1 2\n1\n2\nshow r 1\n2\n",
+            0,
+        ),
+        (
+            "show at versions before and after the relation",
+            "batch commit; relation r(int); batch program p insert r(1); end; commit; show r at 0; show r at 1; show r at 2; show r at 3; show r;",
+            "batch 1\nversion 1\nbatch 2\np done\nversion 2\nshow r at 0 0\nshow r at 1 0\nshow r at 2 1\n1\nbad 26\nshow r 1\n1\n",
+            0,
+        ),
+        (
+            "show rows that differ in the last of eight columns",
+            "relation w(int,int,int,int,int,int,int,int); batch program p insert w(1,1,1,1,1,1,1,2); insert w(2,1,1,1,1,1,1,1); insert w(1,1,1,1,1,1,1,9223372036854775807); insert w(1,1,1,1,1,1,1,1); end; commit; show w;",
+            "batch 1\np done\nversion 1\nshow w 4\n1 1 1 1 1 1 1 1\n1 1 1 1 1 1 1 2\n1 1 1 1 1 1 1 9223372036854775807\n2 1 1 1 1 1 1 1\n",
+            0,
+        ),
+        (
+            "an index takes the marks of later programs",
+            "relation e(int,int); batch program l insert e(5,3); insert e(1,3); insert e(2,4); end; program a print (x) where e(x,3); end; program m insert e(4,3); delete e(5,3); end; program b print (x) where e(x,3); end; commit; batch program c print (x) where e(x,3); end; commit; show e; show e at 1;",
+            "batch 1\nl done\na done\nprint 1 2\n1\n5\nm done\nb done\nprint 1 2\n1\n4\nversion 1\nbatch 2\nc done\nprint 1 2\n1\n4\nversion 2\nshow e 3\n1 3\n2 4\n4 3\nshow e at 1 3\n1 3\n2 4\n4 3\n",
+            0,
+        ),
+        (
+            "sum past the int range",
+            "relation r(int); relation s(int); batch program l insert r(9223372036854775807); end; commit; batch program p insert s(m) where r(n), m = n + 1; end; commit; show s;",
+            "batch 1\nl done\nversion 1\nbatch 2\np done\nversion 2\nshow s 0\n",
+            0,
+        ),
+        (
+            "symbol of fifteen bytes",
+            "relation s(sym); batch program p insert s('abcdefghijklmno'); end; commit; show s;",
+            "batch 1\np done\nversion 1\nshow s 1\nabcdefghijklmno\n",
+            0,
+        ),
+        (
+            "symbol of sixteen bytes",
+            "relation s(sym); batch program p insert s('abcdefghijklmnop'); end; commit; show s;",
+            "fault 1 4\n",
+            2,
+        ),
+        (
+            "three buyers two in stock",
+            "relation stock(int,int); batch program l insert stock(1,2); end; commit; batch program a require some stock(1,n), n > 0; replace stock(1,n) by stock(1,m) where stock(1,n), m = n - 1; end; program b require some stock(1,n), n > 0; replace stock(1,n) by stock(1,m) where stock(1,n), m = n - 1; end; program c require some stock(1,n), n > 0; replace stock(1,n) by stock(1,m) where stock(1,n), m = n - 1; end; commit; show stock;",
+            "batch 1\nl done\nversion 1\nbatch 2\na done\nb done\nc refused 1\nversion 2\nshow stock 1\n1 0\n",
+            0,
+        ),
+        ("token not allowed", "batch;", "fault 1 2\n", 2),
+        (
+            "triangle of edges",
+            "relation e(int,int); batch program l insert e(1,2); insert e(2,3); insert e(1,3); end; commit; batch program p print (a,b,c) where e(a,b), e(b,c), e(a,c); end; commit;",
+            "batch 1\nl done\nversion 1\nbatch 2\np done\nprint 1 1\n1 2 3\nversion 2\n",
+            0,
+        ),
+        (
+            "two inserts shown in order",
+            "relation r(int); batch program p insert r(2); insert r(1); end; commit; show r;",
+            "batch 1\np done\nversion 1\nshow r 2\n1\n2\n",
+            0,
+        ),
+        (
+            "unbound variable in one program",
+            "relation r(int); batch program p insert r(z) where r(x); end; program q insert r(1); end; commit;",
+            "batch 1\np bad 23 1\nq done\nversion 1\n",
+            0,
+        ),
+    ];
+    for (name, script, report, status) in rows {
+        let mut source = MemSource::new(alloc, script.as_bytes(), 7, &[])?;
+        let (ended, sink) = outcome(&rt, alloc, &mut source, &[])?;
+        assert_eq!(rt; ended, status, "{name}");
+        assert_eq!(rt; sink.bytes(), report.as_bytes(), "{name}");
+    }
+    Ok(())
+}
+
+#[test]
+fn takes_run_alone(rt: HostRuntime) -> Result<(), Fail> {
+    let alloc = rt.alloc();
+    let rows: [&[&str]; 4] = [
+        &["lt_shell"],
+        &["lt_shell", "ru"],
+        &["lt_shell", "bench"],
+        &["lt_shell", "run", "run"],
+    ];
+    for row in rows {
+        let words = words_of(alloc, row)?;
+        let mut source = MemSource::new(alloc, b"", 1, &[])?;
+        let mut sink = MemSink::new(alloc, 1000, &[])?;
+        let status = repair_main(&rt, alloc, &words, &mut source, &mut sink, &OpenGate);
+        assert_eq!(rt; status, 1, "{row:?}");
+        assert_eq!(rt; sink.bytes(), USAGE.as_bytes(), "{row:?}");
+    }
+    Ok(())
+}
+
+#[test]
+fn ends_where_a_read_or_a_write_fails(rt: HostRuntime) -> Result<(), Fail> {
+    let alloc = rt.alloc();
+    let script = b"batch program p end; commit; batch program q end; commit;";
+    let mut source = MemSource::new(alloc, script, 7, &[2])?;
+    let (status, sink) = outcome(&rt, alloc, &mut source, &[])?;
+    assert_eq!(rt; status, 3);
+    assert_eq!(rt; sink.bytes(), b"".as_slice());
+    let mut source = MemSource::new(alloc, script, 7, &[])?;
+    let (status, sink) = outcome(&rt, alloc, &mut source, &[3])?;
+    assert_eq!(rt; status, 4);
+    assert_eq!(rt; sink.bytes(), b"batch 1\np done\n".as_slice());
+    Ok(())
+}
+
+#[test]
+fn takes_no_more_than_the_limit(rt: HostRuntime) -> Result<(), Fail> {
+    let alloc = rt.alloc();
+    for (count, status) in [(16_777_216, 0), (16_777_217, 6)] {
+        let spaces = vec![in alloc; b' '; count]?;
+        let mut source = MemSource::new(alloc, &spaces, 65_536, &[])?;
+        let (ended, sink) = outcome(&rt, alloc, &mut source, &[])?;
+        assert_eq!(rt; ended, status, "{count} spaces");
+        assert_eq!(rt; sink.bytes(), b"".as_slice());
+    }
+    Ok(())
+}

@@ -1,3 +1,0 @@
-pub mod FittingColumns
-pub mod FittingByHand
-pub mod FittingSampled
