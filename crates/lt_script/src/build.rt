@@ -63,25 +63,28 @@ fn literal(alloc: Global, literal: &tree::Literal) -> Result<Literal, NoMemory>
     requires { IsLiteral full (literal_of literal.now) }
     ensures { IfOk result (λ built. built ≡ literal_value (literal_of literal.now)) }
 {
-    Ok(match literal {
-        tree::Literal::Atom(head) => Literal::Atom(self::head(alloc, head)?),
-        tree::Literal::Compare { left, op, right } => Literal::Cmp {
+    match literal {
+        tree::Literal::Atom(head) => {
+            let head = self::head(alloc, head)?;
+            Ok(Literal::Atom(head))
+        }
+        tree::Literal::Compare { left, op, right } => Ok(Literal::Cmp {
             left: term(alloc, left),
             op: *op,
             right: term(alloc, right),
-        },
+        }),
         tree::Literal::Sum {
             name,
             left,
             minus,
             right,
-        } => Literal::Sum {
+        } => Ok(Literal::Sum {
             var: self::name(alloc, name),
             a: term(alloc, left),
             minus: *minus,
             b: term(alloc, right),
-        },
-    })
+        }),
+    }
 }
 
 fn literals(alloc: Global, literals: &[tree::Literal]) -> Result<LiteralList, NoMemory>
