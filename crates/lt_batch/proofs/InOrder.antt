@@ -7,7 +7,7 @@ use Rattle.lt_face.proofs.RowLemmas.{each_at}
 use Rattle.lt_model.specs.declared.normal.Stmt.{Stmt}
 use Rattle.lt_model.specs.declared.reply.Reply.{Reply}
 use Rattle.lt_model.specs.Fits.{Fits, IsMarkOf, FitMarks}
-use Rattle.lt_model.specs.Marks.{Marks, AreMarks, and_then, laid}
+use Rattle.lt_model.specs.Marks.{Marks, AreMarks, laid}
 use Rattle.lt_model.specs.Run.{run}
 use Rattle.lt_model.specs.Serial.{serial}
 use Rattle.lt_model.proofs.Laws.{serial_joins}

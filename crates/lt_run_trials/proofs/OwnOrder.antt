@@ -1,13 +1,13 @@
 -- For the tests: columns in their own order.
-use Rattle.std.specs.Prelude.{◌≡◌, ◌≢◌, ℕ, zero, suc, ◌+◌, ◌-◌, ◌<◌, ◌≤◌, Bool, true, false, ◌&&◌, ◌==◌, List, [], ◌∷◌, map, length, drop, slice_index, slice_get, Option, Some, None}
+use Rattle.std.specs.Prelude.{◌≡◌, ◌≢◌, ℕ, zero, suc, ◌+◌, ◌-◌, ◌<◌, ◌≤◌, true, false, List, [], ◌∷◌, map, length, drop, slice_index, slice_get, Some, None}
 use Rattle.std.specs.List.{AllByRecursion}
 use Rattle.std.proofs.Common.{refl, sym, ap, ◌∙◌, subst, inl, inr, arith}
-use Rattle.std.proofs.lemmas.Bool.{and_parts, eqb-true, eq-eqb, ne_eqb, cases_Bool, true≢false}
+use Rattle.std.proofs.lemmas.Bool.{and_parts, eqb-true, eq-eqb, ne_eqb, cases_Bool}
 use Rattle.lt_face.specs.Rows.{IsRow, IsRowSet}
 use Rattle.lt_face.specs.Lists.{IsIn}
-use Rattle.lt_face.specs.State.{Row, State, Has, rows_in, row_eq, permuted, IsIndexOf}
+use Rattle.lt_face.specs.State.{Row, rows_in, row_eq, permuted, IsIndexOf}
 use Rattle.lt_flat.specs.Flat.{FlatView}
-use Rattle.lt_run_trials.specs.Tables.{relation_of, state_of, numbers, has_own_order}
+use Rattle.lt_run_trials.specs.Tables.{state_of, numbers, has_own_order}
 
 row_eq-true : (x y : Row) → row_eq x y ≡ true → x ≡ y
 row_eq-true [] [] h = refl

@@ -1,7 +1,7 @@
 -- For the tests: the plans are the bodies', and can be searched over a relation of the right width.
 use Rattle.std.specs.Prelude.{◌≡◌, ℕ, zero, suc, ◌<◌, ◌≤◌, true, IsTrue, List, [], ◌∷◌, length, Some}
 use Rattle.std.specs.List.{AllByRecursion}
-use Rattle.std.proofs.Common.{refl, sym, ap, inl, inr, arith}
+use Rattle.std.proofs.Common.{refl, ap, inl, inr, arith}
 use Rattle.lt_face.specs.Rows.{IsCell}
 use Rattle.lt_face.specs.Lists.{IsIn}
 use Rattle.lt_face.specs.State.{row_eq}
@@ -9,14 +9,11 @@ use Rattle.lt_flat.specs.Flat.{FlatView}
 use Rattle.lt_model.specs.declared.normal.Term.{Term}
 use Rattle.lt_model.specs.declared.normal.Term.TheVariants.{Var, Cell}
 use Rattle.lt_model.specs.declared.normal.Test.{Test}
-use Rattle.lt_model.specs.declared.normal.Body.{Body}
 use Rattle.lt_model.specs.Bound.{are_bound}
-use Rattle.lt_model.specs.Fits.{IsTermOf, IsBodyOf, test_terms}
-use Rattle.lt_query.specs.declared.plans.Plan.{Plan}
+use Rattle.lt_model.specs.Fits.{IsTermOf, test_terms}
 use Rattle.lt_query.specs.declared.plans.Guide.{Guide}
 use Rattle.lt_query.specs.Plan.{IsPlanOf, IsPinOf, term_at}
-use Rattle.lt_query.specs.Runnable.{IsRunnable}
-use Rattle.lt_run_trials.specs.Tables.{state_of, numbers, IsReady}
+use Rattle.lt_run_trials.specs.Tables.{numbers, IsReady}
 use Rattle.lt_run_trials.specs.Queries.{one_cell, three_cell, walk_through, unary_body, unary_plan, above_three, is_one, one_more, twice_body, twice_plan, constant_body, constant_plan, triangle_body, triangle_plan}
 use Rattle.lt_join.proofs.Leaves.{level_of}
 

@@ -1,4 +1,4 @@
-use Rattle.std.proofs.Common.{rules, ◌≡◌, ◌≢◌, ◌∙◌, sym, ap, length, arith}
+use Rattle.std.proofs.Common.{◌≡◌, ◌∙◌, sym, ap, length, arith}
 use Rattle.lt_run_trials.proofs.OwnOrder.{not_long, own_step}
 use Rattle.lt_run_trials.proofs.tables.is_own_order.Goals as goal
 

@@ -1,4 +1,4 @@
-use Rattle.std.proofs.Common.{◌≡◌, ◌-◌, drop, length}
+use Rattle.std.proofs.Common.{◌≡◌, ◌-◌, drop}
 use Rattle.lt_face.specs.State.{row_eq}
 use Rattle.lt_run_trials.specs.Tables.{numbers}
 use Rattle.lt_run_trials.proofs.tables.is_own_order.Given as goal

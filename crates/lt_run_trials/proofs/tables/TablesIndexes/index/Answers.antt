@@ -1,4 +1,4 @@
-use Rattle.std.proofs.Common.{rules, ◌≡◌, ◌<◌, ◌≤◌, ◌∙◌, sym, ap, length, arith, slice_get, Some, None}
+use Rattle.std.proofs.Common.{◌<◌, ◌≤◌, ◌∙◌, sym, length, arith}
 use Rattle.lt_join.proofs.Opening.{get_is}
 use Rattle.lt_run_trials.proofs.OwnOrder.{own_index, has_at, has_past}
 use Rattle.lt_run_trials.proofs.tables.TablesIndexes.index.Goals as goal
