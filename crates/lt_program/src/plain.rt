@@ -1,5 +1,5 @@
 //! The run of a program, computed as it is defined.
-ghost use Rattle.std.specs.Prelude.{◌≡◌, ◌≤◌, [], length, IfOk, if◌then◌else◌};
+ghost use Rattle.std.specs.Prelude.{◌≡◌, ◌≤◌, [], false, length, IfOk, if◌then◌else◌};
 ghost use Rattle.std.specs.List.{AllByRecursion, list_any};
 ghost use Rattle.lt_face.specs.State.{State};
 ghost use Rattle.lt_model.specs.Fits.{FitMarks};
@@ -45,7 +45,8 @@ fn all_copied(alloc: Global, relations: &[RowList]) -> Result<Vec<RowList>, NoMe
 
 /// Whether some statement reads a relation. A program that reads none does the same on every state.
 pub fn reads(prog: &[Stmt]) -> bool
-    ensures { result ≡ list_any reads_rows prog.now }
+    ensures value { result ≡ list_any reads_rows prog.now }
+    ensures same { result ≡ false → (s t : State) → run prog.now s ≡ run prog.now t }
 {
     for stmt in prog {
         if body_of(stmt).atoms.len() > 0 {
