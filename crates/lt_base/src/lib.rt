@@ -5,8 +5,6 @@ mod columns;
 mod database;
 mod index;
 mod relation;
-#[cfg(test)]
-mod tests;
 mod walk;
 
 pub use database::{Database, Rows};

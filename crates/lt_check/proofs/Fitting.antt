@@ -27,7 +27,7 @@ use Rattle.lt_model.specs.Variables.{atoms_of, atom_of, body_of, front_terms, li
 use Rattle.lt_model.specs.Bound.{is_known, is_bound, are_bound}
 use Rattle.lt_model.specs.Check.{term, atom, test_of, normal_body, normal, kind_of, choice_for, is_unknown, is_misfit, all_bound, code_of, Checked, Good, Bad, after_good, or_bad, checked_from, checked}
 use Rattle.lt_model.specs.Fits.{IsWide, IsTermOf, IsAtomOf, test_terms, IsBodyOf, IsHeadOf, FitsStatement, Fits}
-use Rattle.lt_model.specs.Limits.{HasCell, AreTermsWithin, IsLiteralWithin, IsStatementWithin, IsProgramWithin}
+use Rattle.lt_model.specs.Limits.{HasCell, IsLiteralWithin, IsStatementWithin, IsProgramWithin}
 use Rattle.lt_check.specs.States.{IsStateOf}
 use Rattle.lt_check.proofs.Limits.{All_both, All_flat}
 use Rattle.lt_check.proofs.Statements.{chosen}

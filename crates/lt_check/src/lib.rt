@@ -9,5 +9,3 @@ mod normal_form;
 mod occurrences;
 pub mod schema;
 mod statement;
-#[cfg(test)]
-mod tests;

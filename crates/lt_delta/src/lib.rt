@@ -7,8 +7,6 @@ mod marks;
 mod merging;
 mod order;
 mod sorting;
-#[cfg(test)]
-mod tests;
 
 pub use lt_model::mark::{Mark, MarkList};
 pub use marks::Marks;

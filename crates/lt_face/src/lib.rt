@@ -21,6 +21,3 @@ pub use moves::Moves;
 pub use notes::{NoNotes, Notes};
 pub use row::Row;
 pub use row_set::{RowReads, RowSet};
-
-#[cfg(test)]
-mod tests;

@@ -9,5 +9,4 @@ pub mod Searched
 pub mod Advanced
 pub mod Made
 pub mod Paid
-pub mod Finding
 pub mod Standing

@@ -7,8 +7,6 @@ pub mod name;
 pub mod normal;
 pub mod reply;
 pub mod syntax;
-#[cfg(test)]
-mod tests;
 pub mod theorems;
 
 pub use kind::{Kind, KindList};

@@ -6,8 +6,6 @@ pub mod board;
 pub mod cells;
 mod job;
 mod laws;
-#[cfg(test)]
-mod tests;
 pub mod tree;
 
 pub use job::{JobName, JobState};

@@ -10,8 +10,6 @@ mod order;
 mod places;
 pub mod planning;
 pub mod plans;
-#[cfg(test)]
-mod tests;
 
 pub use indexes::{body_of, needs};
 pub use lt_model::normal::{Atom, Body, Prog, Stmt, Term, TermList, Test};

@@ -4,8 +4,9 @@ ghost use Rattle.lt_model.specs.Fits.{Fits};
 ghost use Rattle.lt_base.specs.Tables.{state_of};
 ghost use Rattle.lt_run_trials.specs.Sampled.{two};
 
+use crate::agree::{holds, same};
 use crate::by_hand::refused;
-use crate::comparing::is_same_reply;
+use crate::comparing::{is_refused, is_same_reply};
 use crate::random::Random;
 use crate::sampled::program;
 use lt_base::Database;
@@ -14,8 +15,7 @@ use lt_face::items::Items;
 use lt_face::memory::NoMemory;
 use lt_face::moves::Moves;
 use lt_model::normal::Prog;
-use lt_model::reply::Reply;
-use lt_program::{Outcome, Tally, indexed, run, run_plain};
+use lt_program::{Outcome, Part, Tally, indexed, run, run_plain};
 use std::alloc::Global;
 use std::sync::Arc;
 
@@ -54,10 +54,18 @@ fn joins_answer_as_defined(rt: HostRuntime) -> Result<(), NoMemory> {
     let alloc = rt.alloc();
     let mut random = Random::new();
     for _ in 0..200 {
-        let same = agrees(alloc, &mut random)?;
-        assert!(rt; same);
+        holds(&rt, agrees(alloc, &mut random)?);
     }
     Ok(())
+}
+
+/// Whether an insertion has its row, and a requirement is met by one row.
+fn is_part_of_refused(part: &Part) -> bool {
+    match &part.outcome {
+        Outcome::Rows(rows) => rows.len() == 1,
+        Outcome::Both(..) => false,
+        Outcome::Truth(met) => *met && part.sense.hits.len() == 1,
+    }
 }
 
 #[test]
@@ -65,24 +73,14 @@ fn a_tally_ends_at_a_false_requirement(rt: HostRuntime) -> Result<(), NoMemory> 
     let alloc = rt.alloc();
     let prog = refused(alloc)?;
     let tally = joined(alloc, prog)?;
-    assert!(rt; tally.ended());
-    assert_eq!(rt; tally.evaluated(), 2);
-    assert_eq!(rt; tally.marks().len(), 0);
-    assert_eq!(rt; tally.program().len(), 3);
-    assert_eq!(rt; tally.base().count(), 2);
-    match tally.reply() {
-        Reply::Refused(statement) => assert_eq!(rt; *statement, 2),
-        Reply::Done(_) => assert!(rt; false),
-    }
+    holds(&rt, tally.ended());
+    same(&rt, tally.evaluated(), 2);
+    same(&rt, tally.marks().len(), 0);
+    same(&rt, tally.program().len(), 3);
+    same(&rt, tally.base().count(), 2);
+    holds(&rt, is_refused(tally.reply(), 2));
     for part in tally.parts() {
-        match &part.outcome {
-            Outcome::Rows(rows) => assert_eq!(rt; rows.len(), 1),
-            Outcome::Both(..) => assert!(rt; false),
-            Outcome::Truth(met) => {
-                assert!(rt; *met);
-                assert_eq!(rt; part.sense.hits.len(), 1);
-            }
-        }
+        holds(&rt, is_part_of_refused(part));
     }
     Ok(())
 }

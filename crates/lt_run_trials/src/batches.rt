@@ -5,8 +5,8 @@ ghost use Rattle.lt_face.specs.Rows.{IsCell};
 ghost use Rattle.lt_model.specs.Fits.{IsWide};
 ghost use Rattle.lt_base.specs.Tables.{state_of};
 
-use crate::by_hand::is_mark;
-use crate::comparing::is_same_reply;
+use crate::agree::{holds, same};
+use crate::comparing::{are_marks, is_same_reply};
 use crate::samples::{ZERO, adding, mixture, removing, takers};
 use crate::serial::{Ran, one_after_another};
 use lt_base::Database;
@@ -51,6 +51,16 @@ fn count(db: &Database) -> usize {
     }
 }
 
+/// Whether r has the row of this cell.
+fn has(alloc: Global, db: &Database, cell: Key) -> bool {
+    db.has(0, &Row::from_cells(alloc, &[cell]))
+}
+
+/// Whether the row of this cell is the only one of r.
+fn is_only(alloc: Global, db: &Database, cell: Key) -> bool {
+    count(db) == 1 && has(alloc, db, cell)
+}
+
 /// Whether these are the rows of r.
 fn are_its_rows(db: &Database, rows: &[Row]) -> bool {
     for row in rows {
@@ -79,29 +89,34 @@ fn agrees(alloc: Global, programs: u32) -> Result<bool, NoMemory>
     Ok(same && has_relations(&out.db, &serial.relations) && out.circuit.settled())
 }
 
+/// How many programs the first of the small batches has that isn't serial.
+fn first_not_serial(alloc: Global) -> Result<Option<u32>, NoMemory> {
+    for programs in 0..9 {
+        if !agrees(alloc, programs)? {
+            return Ok(Some(programs));
+        }
+    }
+    Ok(None)
+}
+
 #[test]
 fn small_batches_are_serial(rt: HostRuntime) -> Result<(), NoMemory> {
-    let alloc = rt.alloc();
-    for programs in 0..9 {
-        let same = agrees(alloc, programs)?;
-        assert!(rt; same, "{programs} programs");
-    }
+    let first = first_not_serial(rt.alloc())?;
+    same(&rt, first, None);
     Ok(())
 }
 
 #[test]
 fn a_batch_of_64_is_serial(rt: HostRuntime) -> Result<(), NoMemory> {
-    let alloc = rt.alloc();
-    let same = agrees(alloc, 64)?;
-    assert!(rt; same);
+    let is_serial = agrees(rt.alloc(), 64)?;
+    holds(&rt, is_serial);
     Ok(())
 }
 
 #[test]
 fn a_batch_of_256_is_serial(rt: HostRuntime) -> Result<(), NoMemory> {
-    let alloc = rt.alloc();
-    let same = agrees(alloc, 256)?;
-    assert!(rt; same);
+    let is_serial = agrees(rt.alloc(), 256)?;
+    holds(&rt, is_serial);
     Ok(())
 }
 
@@ -137,15 +152,11 @@ fn taken(alloc: Global, programs: u32, cell: Key) -> Result<Outcome, NoMemory>
 fn the_third_finds_none(rt: HostRuntime) -> Result<(), NoMemory> {
     let alloc = rt.alloc();
     let out = taken(alloc, 3, ZERO + 2)?;
-    assert_eq!(rt; out.replies.len(), 3);
-    assert_eq!(rt; refused(out.replies.as_slice()), 1);
-    let root = out.circuit.root_effect();
-    assert_eq!(rt; root.len(), 3);
-    assert!(rt; is_mark(alloc, root.mark(0), ZERO, true));
-    assert!(rt; is_mark(alloc, root.mark(1), ZERO + 1, false));
-    assert!(rt; is_mark(alloc, root.mark(2), ZERO + 2, false));
-    assert_eq!(rt; count(&out.db), 1);
-    assert!(rt; out.db.has(0, &Row::from_cells(alloc, &[ZERO])));
+    same(&rt, out.replies.len(), 3);
+    same(&rt, refused(out.replies.as_slice()), 1);
+    let marks = [(ZERO, true), (ZERO + 1, false), (ZERO + 2, false)];
+    holds(&rt, are_marks(alloc, out.circuit.root_effect(), &marks));
+    holds(&rt, is_only(alloc, &out.db, ZERO));
     Ok(())
 }
 
@@ -154,17 +165,14 @@ fn the_third_finds_none(rt: HostRuntime) -> Result<(), NoMemory> {
 fn a_hundred_are_taken(rt: HostRuntime) -> Result<(), NoMemory> {
     let alloc = rt.alloc();
     let out = taken(alloc, 256, ZERO + 100)?;
-    assert_eq!(rt; refused(out.replies.as_slice()), 156);
-    assert_eq!(rt; count(&out.db), 1);
-    assert!(rt; out.db.has(0, &Row::from_cells(alloc, &[ZERO])));
+    same(&rt, refused(out.replies.as_slice()), 156);
+    holds(&rt, is_only(alloc, &out.db, ZERO));
     Ok(())
 }
 
-/// Where r has 1, `delete r(1)` and then `insert r(1)`: the row stays, and the effect of both is its mark +.
-#[test]
+/// What `insert r(1)`, `delete r(1)` and again `insert r(1)` do.
 #[tactic(auto, using(crate::proofs::FittingColumns::all_fit))]
-fn the_later_mark_stays(rt: HostRuntime) -> Result<(), NoMemory> {
-    let alloc = rt.alloc();
+fn inserted_again(alloc: Global) -> Result<Outcome, NoMemory> {
     let db = column(alloc)?;
     let mut progs = Vec::new(alloc);
     let first = adding(alloc, ZERO + 1)?;
@@ -173,13 +181,28 @@ fn the_later_mark_stays(rt: HostRuntime) -> Result<(), NoMemory> {
     progs.push(second)?;
     let third = adding(alloc, ZERO + 1)?;
     progs.push(third)?;
-    let out = run_batch(alloc, &db, &progs, 1, &OpenGate)?;
-    let root = out.circuit.root_effect();
-    assert_eq!(rt; root.len(), 1);
-    assert!(rt; is_mark(alloc, root.mark(0), ZERO + 1, true));
-    let minus = &out.effects.as_slice()[1];
-    assert_eq!(rt; minus.len(), 1);
-    assert!(rt; is_mark(alloc, minus.mark(0), ZERO + 1, false));
-    assert!(rt; out.db.has(0, &Row::from_cells(alloc, &[ZERO + 1])));
+    run_batch(alloc, &db, &progs, 1, &OpenGate)
+}
+
+/// Whether the second program's effect is this mark.
+fn second_did(alloc: Global, effects: &[Marks], mark: (Key, bool)) -> bool {
+    match effects.get(1) {
+        Some(effect) => are_marks(alloc, effect, &[mark]),
+        None => false,
+    }
+}
+
+/// Where r has 1, `delete r(1)` and then `insert r(1)`: the row stays, and the effect of both is its mark +.
+#[test]
+fn the_later_mark_stays(rt: HostRuntime) -> Result<(), NoMemory> {
+    let alloc = rt.alloc();
+    let out = inserted_again(alloc)?;
+    let one = ZERO + 1;
+    holds(
+        &rt,
+        are_marks(alloc, out.circuit.root_effect(), &[(one, true)]),
+    );
+    holds(&rt, second_did(alloc, out.effects.as_slice(), (one, false)));
+    holds(&rt, has(alloc, &out.db, one));
     Ok(())
 }

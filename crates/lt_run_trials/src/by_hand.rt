@@ -3,13 +3,14 @@ ghost use Rattle.std.specs.Prelude.{◌≡◌, [], ◌∷◌, map, IfOk};
 ghost use Rattle.lt_run_trials.specs.ByHand as by_hand;
 ghost use Rattle.lt_run_trials.specs.ByHand.{four, three};
 
+use crate::agree::{holds, same};
+use crate::comparing::{are_marks, is_refused};
 use crate::samples::{ZERO, insert, r};
 use lt_face::items::{Items, RowList};
 use lt_face::key::Key;
 use lt_face::memory::NoMemory;
 use lt_face::row::Row;
 use lt_model::kind::{Kind, KindList};
-use lt_model::mark::Mark;
 use lt_model::normal::{Body, Prog, Stmt, Term, Test};
 use lt_model::reply::Reply;
 use lt_model::syntax::Op;
@@ -96,9 +97,17 @@ pub(crate) fn refused(alloc: Global) -> Result<Prog, NoMemory>
     Ok(prog)
 }
 
-/// Whether it is the mark of this cell in r.
-pub(crate) fn is_mark(alloc: Global, mark: &Mark, cell: Key, plus: bool) -> bool {
-    mark.relation == 0 && mark.plus == plus && mark.row == Row::from_cells(alloc, &[cell])
+/// Whether the one print of the reply is this statement's, of these rows.
+fn has_printed(reply: &Reply, statement: u32, rows: &RowList) -> bool {
+    match reply {
+        Reply::Refused(_) => false,
+        Reply::Done(prints) => match prints.as_slice() {
+            [printed] => {
+                printed.statement == statement && printed.rows.as_slice() == rows.as_slice()
+            }
+            _ => false,
+        },
+    }
 }
 
 #[test]
@@ -107,19 +116,12 @@ fn later_statements_see_earlier_marks(rt: HostRuntime) -> Result<(), NoMemory> {
     let rows = column(alloc, &[ZERO + 1, ZERO + 9])?;
     let prog = four_statements(alloc)?;
     let (reply, marks) = run_plain(alloc, &prog, &[rows])?;
-    assert_eq!(rt; marks.len(), 2);
-    assert!(rt; is_mark(alloc, marks.mark(0), ZERO + 5, true));
-    assert!(rt; is_mark(alloc, marks.mark(1), ZERO + 9, false));
-    match reply {
-        Reply::Refused(_) => assert!(rt; false),
-        Reply::Done(prints) => {
-            assert_eq!(rt; prints.len(), 1);
-            let printed = &prints.as_slice()[0];
-            assert_eq!(rt; printed.statement, 2);
-            let want = column(alloc, &[ZERO + 5, ZERO + 9])?;
-            assert!(rt; printed.rows.as_slice() == want.as_slice());
-        }
-    }
+    holds(
+        &rt,
+        are_marks(alloc, &marks, &[(ZERO + 5, true), (ZERO + 9, false)]),
+    );
+    let want = column(alloc, &[ZERO + 5, ZERO + 9])?;
+    holds(&rt, has_printed(&reply, 2, &want));
     Ok(())
 }
 
@@ -129,10 +131,7 @@ fn a_refused_program_leaves_no_marks(rt: HostRuntime) -> Result<(), NoMemory> {
     let rows = column(alloc, &[ZERO + 1])?;
     let prog = refused(alloc)?;
     let (reply, marks) = run_plain(alloc, &prog, &[rows])?;
-    assert_eq!(rt; marks.len(), 0);
-    match reply {
-        Reply::Refused(statement) => assert_eq!(rt; statement, 2),
-        Reply::Done(_) => assert!(rt; false),
-    }
+    same(&rt, marks.len(), 0);
+    holds(&rt, is_refused(&reply, 2));
     Ok(())
 }

@@ -3,20 +3,15 @@ ghost use Rattle.std.specs.Prelude.{◌≡◌, ◌≤◌, ◌<◌, IfOk};
 ghost use Rattle.lt_net.specs.Net.{IsSettled};
 ghost use Rattle.lt_circuit.specs.Circuit.{state};
 
+use crate::agree::holds;
+use crate::comparing::are_marks;
 use crate::floor::Floor;
-use crate::sample::{Sample, marks_on};
+use crate::sample::Sample;
 use lt_circuit::{Circuit, Entry};
-use lt_delta::Marks;
 use lt_face::NoMemory;
 use lt_face::key::Key;
 use std::alloc::Global;
 use std::sync::Arc;
-
-/// Whether the marks are these, by row and sign.
-fn are(alloc: Global, marks: &Marks, rows: &[(Key, bool)]) -> Result<bool, NoMemory> {
-    let want = marks_on(alloc, rows)?;
-    Ok(Marks::equal(marks, &want))
-}
 
 /// Whether the entries are these, by worker and code.
 fn is_journal(journal: &[Entry], want: &[Entry]) -> bool {
@@ -63,41 +58,33 @@ fn one_settles_two(alloc: Global) -> Result<bool, NoMemory> {
     let in_flight = circuit.in_flight();
     let entries = one_worker();
     let same = is_journal(circuit.journal(), &entries);
-    let serial = are(alloc, circuit.root_effect(), &[(1, true)])?;
+    let serial = are_marks(alloc, circuit.root_effect(), &[(1, true)]);
     Ok(settled && in_flight == 0 && same && serial)
 }
 
 #[test]
 fn one_worker_settles_two_programs(rt: HostRuntime) -> Result<(), NoMemory> {
-    let holds = one_settles_two(rt.alloc())?;
-    assert!(rt; holds);
+    let is_so = one_settles_two(rt.alloc())?;
+    holds(&rt, is_so);
     Ok(())
 }
 
 /// Whether the leaf's effect and its tally are this one mark.
-fn leaf_did(
-    alloc: Global,
-    circuit: &Circuit<Sample>,
-    leaf: u32,
-    row: Key,
-    plus: bool,
-) -> Result<bool, NoMemory>
+fn leaf_did(alloc: Global, circuit: &Circuit<Sample>, leaf: u32, row: Key, plus: bool) -> bool
     requires settled { IsSettled (state circuit.now) }
     requires leaf { leaf < circuit.now.board.leaves }
 {
-    let want = marks_on(alloc, &[(row, plus)])?;
-    let effect = Marks::equal(circuit.effect(leaf), &want);
-    let tally = Marks::equal(circuit.tally(leaf), &want);
-    Ok(effect && tally)
+    let want = [(row, plus)];
+    are_marks(alloc, circuit.effect(leaf), &want) && are_marks(alloc, circuit.tally(leaf), &want)
 }
 
 #[test]
 fn each_leaf_has_its_effect_and_tally(rt: HostRuntime) -> Result<(), NoMemory> {
     let alloc = rt.alloc();
     let circuit = settled_alone(alloc, 4)?;
-    assert!(rt; leaf_did(alloc, &circuit, 0, 1, false)?);
-    assert!(rt; leaf_did(alloc, &circuit, 1, 1, true)?);
-    assert!(rt; leaf_did(alloc, &circuit, 3, 3, false)?);
+    holds(&rt, leaf_did(alloc, &circuit, 0, 1, false));
+    holds(&rt, leaf_did(alloc, &circuit, 1, 1, true));
+    holds(&rt, leaf_did(alloc, &circuit, 3, 3, false));
     Ok(())
 }
 
@@ -113,8 +100,8 @@ fn one_leaf_goes_round(alloc: Global) -> Result<bool, NoMemory> {
 
 #[test]
 fn one_leaf_is_claimed_and_finished(rt: HostRuntime) -> Result<(), NoMemory> {
-    let holds = one_leaf_goes_round(rt.alloc())?;
-    assert!(rt; holds);
+    let is_so = one_leaf_goes_round(rt.alloc())?;
+    holds(&rt, is_so);
     Ok(())
 }
 
@@ -147,23 +134,23 @@ fn stands_after(
     let mut floor = Floor::start(alloc, Sample { alloc }, 2)?;
     floor.follow(entries);
     let journal = is_journal(floor.circuit().journal(), entries);
-    let same = are(alloc, floor.circuit().root_effect(), rows)?;
+    let same = are_marks(alloc, floor.circuit().root_effect(), rows);
     Ok(journal && same && floor.circuit().settled() == settled)
 }
 
 #[test]
 fn a_merge_is_dirtied_by_the_second_worker(rt: HostRuntime) -> Result<(), NoMemory> {
     let entries = two_workers();
-    let holds = stands_after(rt.alloc(), &entries[..6], &[(1, false)], false)?;
-    assert!(rt; holds);
+    let is_so = stands_after(rt.alloc(), &entries[..6], &[(1, false)], false)?;
+    holds(&rt, is_so);
     Ok(())
 }
 
 #[test]
 fn two_workers_overtake_each_other(rt: HostRuntime) -> Result<(), NoMemory> {
     let entries = two_workers();
-    let holds = stands_after(rt.alloc(), &entries, &[(1, true)], true)?;
-    assert!(rt; holds);
+    let is_so = stands_after(rt.alloc(), &entries, &[(1, true)], true)?;
+    holds(&rt, is_so);
     Ok(())
 }
 
@@ -175,7 +162,7 @@ fn settles_from(alloc: Global, entries: &[Entry], could: usize) -> Result<bool, 
     let mut circuit = floor.clear();
     circuit.settle_alone()?;
     let want = [(1, true), (2, true), (3, false)];
-    let serial = are(alloc, circuit.root_effect(), &want)?;
+    let serial = are_marks(alloc, circuit.root_effect(), &want);
     Ok(serial && done == could)
 }
 
@@ -226,23 +213,23 @@ fn backwards() -> [Entry; 12] {
 #[test]
 fn an_overtaken_merge_is_settled(rt: HostRuntime) -> Result<(), NoMemory> {
     let entries = overtaken();
-    let holds = settles_from(rt.alloc(), &entries, 6)?;
-    assert!(rt; holds);
+    let is_so = settles_from(rt.alloc(), &entries, 6)?;
+    holds(&rt, is_so);
     Ok(())
 }
 
 #[test]
 fn a_dirtied_leaf_is_settled(rt: HostRuntime) -> Result<(), NoMemory> {
     let entries = dirtied();
-    let holds = settles_from(rt.alloc(), &entries, 8)?;
-    assert!(rt; holds);
+    let is_so = settles_from(rt.alloc(), &entries, 8)?;
+    holds(&rt, is_so);
     Ok(())
 }
 
 #[test]
 fn leaves_from_the_last_on_are_settled(rt: HostRuntime) -> Result<(), NoMemory> {
     let entries = backwards();
-    let holds = settles_from(rt.alloc(), &entries, 8)?;
-    assert!(rt; holds);
+    let is_so = settles_from(rt.alloc(), &entries, 8)?;
+    holds(&rt, is_so);
     Ok(())
 }

@@ -1,5 +1,28 @@
-//! Replies and prints, compared.
+//! Replies, prints and marks, compared.
+use lt_delta::{Mark, Marks};
+use lt_face::key::Key;
+use lt_face::row::Row;
 use lt_model::reply::{Printed, Reply};
+use std::alloc::Global;
+
+/// Whether it is the mark of this cell in the relation 0.
+fn is_mark(alloc: Global, mark: &Mark, cell: Key, plus: bool) -> bool {
+    mark.relation == 0 && mark.plus == plus && mark.row == Row::from_cells(alloc, &[cell])
+}
+
+/// Whether these are the marks, by cell in the relation 0 and sign.
+pub(crate) fn are_marks(alloc: Global, marks: &Marks, wanted: &[(Key, bool)]) -> bool {
+    let marks = marks.as_slice();
+    if marks.len() != wanted.len() {
+        return false;
+    }
+    for (i, want) in wanted.iter().enumerate() {
+        if !is_mark(alloc, &marks[i], want.0, want.1) {
+            return false;
+        }
+    }
+    true
+}
 
 fn is_same_print(a: &Printed, b: &Printed) -> bool {
     a.statement == b.statement
@@ -17,6 +40,14 @@ fn are_same_prints(a: &[Printed], b: &[Printed]) -> bool {
         }
     }
     true
+}
+
+/// Whether the reply is a refusal at this statement.
+pub(crate) fn is_refused(reply: &Reply, statement: u32) -> bool {
+    match reply {
+        Reply::Refused(at) => *at == statement,
+        Reply::Done(_) => false,
+    }
 }
 
 /// Whether two replies are the same.

@@ -112,12 +112,16 @@ fn act<W: LeafWork>(
     }
 }
 
-/// A claim of any job. It tells the job's name.
-fn any<W: LeafWork>(
-    circuit: &mut Circuit<W>,
-    hand: &mut Option<Job<W>>,
-    worker: u32,
-) -> Option<JobName>
+/// What a worker is told that asks for any job: which one it was given, or how many claims stand.
+#[derive(Drop)]
+enum Told {
+    Job(JobName),
+    Claims(u32),
+    Nothing,
+}
+
+/// A claim of any job.
+fn any<W: LeafWork>(circuit: &mut Circuit<W>, hand: &mut Option<Job<W>>, worker: u32) -> Told
     requires worker { worker < 16 }
     requires hand { IsInHand circuit.old worker hand.old }
     ensures hand { IsInHand circuit.new worker hand.new }
@@ -126,46 +130,17 @@ fn any<W: LeafWork>(
     ensures others { (v : ℕ) → v ≢ worker → (state circuit.new).claim v ≡ (state circuit.old).claim v }
 {
     if hand.is_some() {
-        return None;
+        return Told::Nothing;
     }
     match circuit.claim(worker) {
         Claim::Job(job) => {
             let name = job.name();
             *hand = Some(job);
-            Some(name)
+            Told::Job(name)
         }
-        Claim::Busy {
-            in_flight: _in_flight,
-        } => None,
-        Claim::Settled => None,
-        Claim::NoMemory => None,
-    }
-}
-
-/// How many claims stand, as a worker is told that finds no job.
-fn told<W: LeafWork>(
-    circuit: &mut Circuit<W>,
-    hand: &mut Option<Job<W>>,
-    worker: u32,
-) -> Option<u32>
-    requires worker { worker < 16 }
-    requires hand { IsInHand circuit.old worker hand.old }
-    ensures hand { IsInHand circuit.new worker hand.new }
-    ensures leaves { circuit.new.board.leaves ≡ circuit.old.board.leaves }
-    ensures work { circuit.new.work ≡ circuit.old.work }
-    ensures others { (v : ℕ) → v ≢ worker → (state circuit.new).claim v ≡ (state circuit.old).claim v }
-{
-    if hand.is_some() {
-        return None;
-    }
-    match circuit.claim(worker) {
-        Claim::Job(job) => {
-            *hand = Some(job);
-            None
-        }
-        Claim::Busy { in_flight } => Some(in_flight),
-        Claim::Settled => Some(0),
-        Claim::NoMemory => None,
+        Claim::Busy { in_flight } => Told::Claims(in_flight),
+        Claim::Settled => Told::Claims(0),
+        Claim::NoMemory => Told::Nothing,
     }
 }
 
@@ -196,8 +171,9 @@ impl<W: LeafWork> Floor<W> {
         ensures leaves { self.new.board.leaves ≡ self.old.board.leaves }
     {
         match any(&mut self.circuit, &mut self.first, 0) {
-            Some(name) => name == JobName::Leaf(leaf),
-            None => false,
+            Told::Job(name) => name == JobName::Leaf(leaf),
+            Told::Claims(_) => false,
+            Told::Nothing => false,
         }
     }
 
@@ -205,9 +181,10 @@ impl<W: LeafWork> Floor<W> {
     pub fn is_told(&mut self, in_flight: u32) -> bool
         ensures leaves { self.new.board.leaves ≡ self.old.board.leaves }
     {
-        match told(&mut self.circuit, &mut self.second, 1) {
-            Some(count) => count == in_flight,
-            None => false,
+        match any(&mut self.circuit, &mut self.second, 1) {
+            Told::Claims(count) => count == in_flight,
+            Told::Job(_) => false,
+            Told::Nothing => false,
         }
     }
 

@@ -5,6 +5,7 @@ ghost use Rattle.lt_face.specs.Rows.{IsRow};
 ghost use Rattle.lt_run_trials.specs.Queries.{unary_body, unary_plan, above_three as above_three_test, is_one as is_one_test, one_more as one_more_test, twice_body, twice_plan, constant_body, constant_plan, triangle_body, triangle_plan};
 ghost use Rattle.lt_run_trials.specs.Tables.{IsReady};
 
+use crate::agree::{holds, same};
 use crate::queries::{
     ONE, THREE, constant, one, triangle, triangle_order, twice, unary, unary_order,
 };
@@ -25,6 +26,15 @@ use lt_values::cell_of_int;
 use std::alloc::Global;
 use std::test::Fail;
 
+/// One relation.
+fn alone(alloc: Global, rows: FlatRows) -> Result<Tables, NoMemory>
+    ensures { IfOk result (λ tables. tables.relations.items ≡ rows ∷ []) }
+{
+    Ok(Tables {
+        relations: vec![in alloc; rows]?,
+    })
+}
+
 /// The answers over one relation, and what they were sensitive to.
 fn searched(
     alloc: Global,
@@ -34,9 +44,7 @@ fn searched(
 ) -> Result<(RowList, Sense), NoMemory>
     requires { IsReady rows query.now.0 query.now.1 terms.now }
 {
-    let tables = Tables {
-        relations: vec![in alloc; rows]?,
-    };
+    let tables = alone(alloc, rows)?;
     let mut moves = Moves::<()>::new();
     let found = answers(alloc, &query.0, &query.1, terms, &tables, &mut moves)?;
     Ok(found)
@@ -46,9 +54,7 @@ fn searched(
 fn asked(alloc: Global, rows: FlatRows, query: &(Body, Plan)) -> Result<(bool, Sense), NoMemory>
     requires { IsReady rows query.now.0 query.now.1 [] }
 {
-    let tables = Tables {
-        relations: vec![in alloc; rows]?,
-    };
+    let tables = alone(alloc, rows)?;
     let mut moves = Moves::<()>::new();
     let found = some(alloc, &query.0, &query.1, &tables, &mut moves)?;
     Ok(found)
@@ -92,20 +98,26 @@ fn binary_rows(alloc: Global, pairs: &[(i64, i64)]) -> Result<FlatRows, NoMemory
     Ok(rows)
 }
 
+/// r(x) and one test, where x has no pins.
+fn unpinned(alloc: Global, test: Test) -> Result<(Body, Plan), NoMemory>
+    ensures { IfOk result (λ query. query ≡ (unary_body test, unary_plan [])) }
+{
+    let body = unary(alloc, test)?;
+    let plan = unary_order(alloc, Items::new(alloc))?;
+    Ok((body, plan))
+}
+
 /// r(x), x > 3.
 fn above_three(alloc: Global) -> Result<(Body, Plan), NoMemory>
     ensures { IfOk result (λ query. query ≡ (unary_body above_three_test, unary_plan [])) }
 {
-    let body = unary(
-        alloc,
-        Test::Cmp {
-            left: Term::Var(0),
-            op: Op::Gt,
-            right: Term::Cell(THREE),
-        },
-    )?;
-    let plan = unary_order(alloc, Items::new(alloc))?;
-    Ok((body, plan))
+    let test = Test::Cmp {
+        left: Term::Var(0),
+        op: Op::Gt,
+        right: Term::Cell(THREE),
+    };
+    let query = unpinned(alloc, test)?;
+    Ok(query)
 }
 
 /// r(x), x = 1.
@@ -129,26 +141,56 @@ fn is_one(alloc: Global) -> Result<(Body, Plan), NoMemory>
 fn one_more(alloc: Global) -> Result<(Body, Plan), NoMemory>
     ensures { IfOk result (λ query. query ≡ (unary_body one_more_test, unary_plan [])) }
 {
-    let body = unary(
-        alloc,
-        Test::Sum {
-            var: 1,
-            a: Term::Var(0),
-            minus: false,
-            b: Term::Cell(ONE),
-        },
-    )?;
-    let plan = unary_order(alloc, Items::new(alloc))?;
-    Ok((body, plan))
+    let test = Test::Sum {
+        var: 1,
+        a: Term::Var(0),
+        minus: false,
+        b: Term::Cell(ONE),
+    };
+    let query = unpinned(alloc, test)?;
+    Ok(query)
 }
 
-/// The lower and upper bounds of the sense's gaps, in the order in which they were met.
-fn bounds(alloc: Global, sense: &Sense) -> Result<Vec<(Key, Key)>, NoMemory> {
-    let mut bounds = Vec::new(alloc);
-    for gap in sense.gaps.as_slice() {
-        bounds.push((gap.lo, gap.hi))?;
+/// Whether these are the rows of the ints.
+fn are_rows(alloc: Global, rows: &RowList, ints: &[i64]) -> bool {
+    let rows = rows.as_slice();
+    if rows.len() != ints.len() {
+        return false;
     }
-    Ok(bounds)
+    for (i, n) in ints.iter().enumerate() {
+        if rows[i] != unary_row(alloc, *n) {
+            return false;
+        }
+    }
+    true
+}
+
+/// Whether the sense's hits are the rows of these ints, in the order in which they were met.
+fn are_hits(alloc: Global, sense: &Sense, ints: &[i64]) -> bool {
+    let hits = sense.hits.as_slice();
+    if hits.len() != ints.len() {
+        return false;
+    }
+    for (i, n) in ints.iter().enumerate() {
+        if hits[i].row != unary_row(alloc, *n) {
+            return false;
+        }
+    }
+    true
+}
+
+/// Whether these are the lower and upper bounds of the sense's gaps, in the order in which they were met.
+fn are_gaps(sense: &Sense, bounds: &[(Key, Key)]) -> bool {
+    let gaps = sense.gaps.as_slice();
+    if gaps.len() != bounds.len() {
+        return false;
+    }
+    for (i, bound) in bounds.iter().enumerate() {
+        if gaps[i].lo != bound.0 || gaps[i].hi != bound.1 {
+            return false;
+        }
+    }
+    true
 }
 
 #[test]
@@ -158,19 +200,16 @@ fn a_range_leaves_its_gaps_and_hits(rt: HostRuntime) -> Result<(), NoMemory> {
     let query = above_three(alloc)?;
     let terms = one(alloc, Term::Var(0))?;
     let found = searched(alloc, rows, &query, &terms)?;
-    assert_eq!(rt; found.0.as_slice(), [unary_row(alloc, 9)].as_slice());
+    holds(&rt, are_rows(alloc, &found.0, &[9]));
     let gaps = [
         (0, cell_of_int(1)),
         (cell_of_int(2), cell_of_int(9)),
         (cell_of_int(10), END),
     ];
-    assert_eq!(rt; bounds(alloc, &found.1)?.as_slice(), gaps.as_slice());
-    let hits = found.1.hits.as_slice();
-    assert_eq!(rt; hits.len(), 2);
-    assert_eq!(rt; hits[0].row, unary_row(alloc, 1));
-    assert_eq!(rt; hits[1].row, unary_row(alloc, 9));
-    assert!(rt; found.1.covers(0, &unary_row(alloc, 5)));
-    assert!(rt; found.1.covers(0, &unary_row(alloc, 20)));
+    holds(&rt, are_gaps(&found.1, &gaps));
+    holds(&rt, are_hits(alloc, &found.1, &[1, 9]));
+    holds(&rt, found.1.covers(0, &unary_row(alloc, 5)));
+    holds(&rt, found.1.covers(0, &unary_row(alloc, 20)));
     Ok(())
 }
 
@@ -181,15 +220,10 @@ fn a_pin_ends_its_level_with_its_find(rt: HostRuntime) -> Result<(), NoMemory> {
     let query = is_one(alloc)?;
     let terms = one(alloc, Term::Var(0))?;
     let found = searched(alloc, rows, &query, &terms)?;
-    assert_eq!(rt; found.0.as_slice(), [unary_row(alloc, 1)].as_slice());
-    assert_eq!(rt;
-        bounds(alloc, &found.1)?.as_slice(),
-        [(0, cell_of_int(1))].as_slice()
-    );
-    let hits = found.1.hits.as_slice();
-    assert_eq!(rt; hits.len(), 1);
-    assert_eq!(rt; hits[0].row, unary_row(alloc, 1));
-    assert!(rt; !found.1.covers(0, &unary_row(alloc, 20)));
+    holds(&rt, are_rows(alloc, &found.0, &[1]));
+    holds(&rt, are_gaps(&found.1, &[(0, cell_of_int(1))]));
+    holds(&rt, are_hits(alloc, &found.1, &[1]));
+    holds(&rt, !found.1.covers(0, &unary_row(alloc, 20)));
     Ok(())
 }
 
@@ -199,10 +233,10 @@ fn a_requirement_stops_at_its_first_answer(rt: HostRuntime) -> Result<(), NoMemo
     let rows = unary_rows(alloc, &[1, 9, 12])?;
     let query = above_three(alloc)?;
     let found = asked(alloc, rows, &query)?;
-    assert_eq!(rt; found.0, true);
+    holds(&rt, found.0);
     let gaps = [(0, cell_of_int(1)), (cell_of_int(2), cell_of_int(9))];
-    assert_eq!(rt; bounds(alloc, &found.1)?.as_slice(), gaps.as_slice());
-    assert_eq!(rt; found.1.hits.len(), 2);
+    holds(&rt, are_gaps(&found.1, &gaps));
+    same(&rt, found.1.hits.len(), 2);
     Ok(())
 }
 
@@ -212,9 +246,9 @@ fn a_requirement_without_an_answer_is_false(rt: HostRuntime) -> Result<(), NoMem
     let rows = unary_rows(alloc, &[1, 2, 3])?;
     let query = above_three(alloc)?;
     let found = asked(alloc, rows, &query)?;
-    assert_eq!(rt; found.0, false);
-    assert_eq!(rt; found.1.hits.len(), 3);
-    assert!(rt; found.1.covers(0, &unary_row(alloc, 4)));
+    holds(&rt, !found.0);
+    same(&rt, found.1.hits.len(), 3);
+    holds(&rt, found.1.covers(0, &unary_row(alloc, 4)));
     Ok(())
 }
 
@@ -225,7 +259,7 @@ fn a_sum_past_the_range_gives_no_answer(rt: HostRuntime) -> Result<(), NoMemory>
     let query = one_more(alloc)?;
     let terms = one(alloc, Term::Var(1))?;
     let found = searched(alloc, rows, &query, &terms)?;
-    assert_eq!(rt; found.0.as_slice(), [unary_row(alloc, 8)].as_slice());
+    holds(&rt, are_rows(alloc, &found.0, &[8]));
     Ok(())
 }
 
@@ -236,8 +270,7 @@ fn a_variable_twice_in_an_atom(rt: HostRuntime) -> Result<(), NoMemory> {
     let query = twice(alloc)?;
     let terms = one(alloc, Term::Var(0))?;
     let found = searched(alloc, rows, &query, &terms)?;
-    let expected = [unary_row(alloc, 1), unary_row(alloc, 3)];
-    assert_eq!(rt; found.0.as_slice(), expected.as_slice());
+    holds(&rt, are_rows(alloc, &found.0, &[1, 3]));
     Ok(())
 }
 
@@ -248,8 +281,7 @@ fn a_constant_in_an_atom(rt: HostRuntime) -> Result<(), NoMemory> {
     let query = constant(alloc)?;
     let terms = one(alloc, Term::Var(0))?;
     let found = searched(alloc, rows, &query, &terms)?;
-    let expected = [unary_row(alloc, 1), unary_row(alloc, 2)];
-    assert_eq!(rt; found.0.as_slice(), expected.as_slice());
+    holds(&rt, are_rows(alloc, &found.0, &[1, 2]));
     Ok(())
 }
 
@@ -260,7 +292,7 @@ fn answers_of_several_assignments_are_given_once(rt: HostRuntime) -> Result<(), 
     let query = constant(alloc)?;
     let terms = one(alloc, Term::Cell(THREE))?;
     let found = searched(alloc, rows, &query, &terms)?;
-    assert_eq!(rt; found.0.as_slice(), [unary_row(alloc, 3)].as_slice());
+    holds(&rt, are_rows(alloc, &found.0, &[3]));
     Ok(())
 }
 
@@ -275,11 +307,6 @@ fn triangles(rt: HostRuntime) -> Result<(), NoMemory> {
     let plan = triangle_order(alloc)?;
     let terms = one(alloc, Term::Var(2))?;
     let found = searched(alloc, rows, &(body, plan), &terms)?;
-    let expected = [
-        unary_row(alloc, 2),
-        unary_row(alloc, 3),
-        unary_row(alloc, 4),
-    ];
-    assert_eq!(rt; found.0.as_slice(), expected.as_slice());
+    holds(&rt, are_rows(alloc, &found.0, &[2, 3, 4]));
     Ok(())
 }

@@ -12,16 +12,21 @@ impl Random {
         Random { state: 1 }
     }
 
+    /// The next state.
+    fn next(&mut self) -> u64 {
+        self.state = self
+            .state
+            .wrapping_mul(6_364_136_223_846_793_005)
+            .wrapping_add(1_442_695_040_888_963_407);
+        self.state
+    }
+
     /// A number below the limit.
     pub(crate) fn below(&mut self, limit: u32) -> u32
         requires { 0 < limit }
         ensures { result < limit }
     {
-        self.state = self
-            .state
-            .wrapping_mul(6_364_136_223_846_793_005)
-            .wrapping_add(1_442_695_040_888_963_407);
-        let high = (self.state >> 33) as u32;
-        high % limit
+        let high = self.next() >> 33;
+        (high % u64::from(limit)) as u32
     }
 }

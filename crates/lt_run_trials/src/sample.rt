@@ -33,20 +33,6 @@ fn one_mark(alloc: Global, row: Key, plus: bool) -> Result<Marks, NoMemory>
     Ok(marks)
 }
 
-/// The marks with these rows and signs.
-pub fn marks_on(alloc: Global, rows: &[(Key, bool)]) -> Result<Marks, NoMemory> {
-    let mut list: MarkList = Items::new(alloc);
-    for (row, plus) in rows.iter().copied() {
-        let row = Row::from_cells(alloc, &[row]);
-        list.push(Mark {
-            relation: 0,
-            row,
-            plus,
-        })?;
-    }
-    Marks::from_list(list)
-}
-
 impl LeafWork for Sample {
     type Tally = Marks;
 

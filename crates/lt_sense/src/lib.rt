@@ -9,6 +9,3 @@ pub use covering::{Hit, KeptGap};
 pub use lt_face::items::Changes;
 pub use sense::Sense;
 pub use spot::Spot;
-
-#[cfg(test)]
-mod tests;

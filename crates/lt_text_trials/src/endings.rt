@@ -1,4 +1,5 @@
 //! Scripts, and how they end.
+use crate::agree::{same, same_at};
 use lt_script::{Reader, Step};
 use std::alloc::Global;
 use std::test::Fail;
@@ -35,6 +36,16 @@ fn outcome(alloc: Global, script: &[u8]) -> (usize, Close, Close) {
     (10, Close::Item, Close::Item)
 }
 
+// The place of the first script of the table that has other items or ends otherwise.
+fn first_other(alloc: Global, rows: &[(&[u8], usize, Close)]) -> Option<usize> {
+    for (i, row) in rows.iter().enumerate() {
+        if outcome(alloc, row.0) != (row.1, row.2, row.2) {
+            return Some(i);
+        }
+    }
+    None
+}
+
 #[test]
 fn ends_where_bytes_end_or_are_broken(rt: HostRuntime) {
     let rows: [(&[u8], usize, Close); 24] = [
@@ -68,13 +79,7 @@ fn ends_where_bytes_end_or_are_broken(rt: HostRuntime) {
         (b"show\n_123456789012345", 0, Fault(2, 5)),
         (b"show r;\nshow r at abcdefghijklmnop", 1, Fault(2, 5)),
     ];
-    for (script, items, close) in rows {
-        assert_eq!(rt;
-            outcome(rt.alloc(), script),
-            (items, close, close),
-            "of {script:?}"
-        );
-    }
+    same(&rt, first_other(rt.alloc(), &rows), None);
 }
 
 // Each token on a line of its own, so that a line says which token is at fault.
@@ -166,11 +171,8 @@ fn finds_the_first_fault(rt: HostRuntime) -> Result<(), Fail> {
     for (text, items, line, code) in rows {
         let script = one_a_line(rt.alloc(), text)?;
         let fault = Fault(line, code);
-        assert_eq!(rt;
-            outcome(rt.alloc(), script.as_bytes()),
-            (items, fault, fault),
-            "of {text}"
-        );
+        let ended = outcome(rt.alloc(), script.as_bytes());
+        same_at(&rt, ended, (items, fault, fault), text);
     }
     Ok(())
 }
@@ -219,18 +221,11 @@ fn keeps_the_limits(rt: HostRuntime) -> Result<(), Fail> {
     ];
     for (front, line, most, back) in rows {
         let script = repeated(alloc, front, line, most, back)?;
-        assert_eq!(rt;
-            outcome(alloc, script.as_bytes()),
-            (1, End, End),
-            "{most} of {line}"
-        );
+        same_at(&rt, outcome(alloc, script.as_bytes()), (1, End, End), line);
         let script = repeated(alloc, front, line, most + 1, back)?;
         let fault = Fault(most as u64 + 2, 6);
-        assert_eq!(rt;
-            outcome(alloc, script.as_bytes()),
-            (0, fault, fault),
-            "one more than {most} of {line}"
-        );
+        let ended = outcome(alloc, script.as_bytes());
+        same_at(&rt, ended, (0, fault, fault), line);
     }
     Ok(())
 }

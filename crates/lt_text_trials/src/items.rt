@@ -1,4 +1,5 @@
 //! Scripts, and the items that are read of them.
+use crate::agree::same_at;
 use lt_model::kind::Kind;
 use lt_model::name::Name;
 use lt_script::{
@@ -6,6 +7,7 @@ use lt_script::{
 };
 use std::alloc::Global;
 use std::fmt::Write;
+use std::process::Abort;
 use std::str;
 use std::test::Fail;
 
@@ -141,12 +143,18 @@ fn description(alloc: Global, script: &str) -> Result<String, Fail> {
     Ok(text)
 }
 
+// Ends the test unless the items of the script are described so.
+fn reads(rt: &impl Abort, alloc: Global, script: &str, want: &str) -> Result<(), Fail> {
+    let got = description(alloc, script)?;
+    same_at(rt, got.as_str(), want, script);
+    Ok(())
+}
+
 #[test]
 fn reads_declarations_and_questions(rt: HostRuntime) -> Result<(), Fail> {
     let script = "relation stock(int, sym, int); show stock at 0012; show x at 3; show stock;";
     let want = "stock [Int, Sym, Int]\nstock Some(12)\nx Some(3)\nstock None\n";
-    assert_eq!(rt; description(rt.alloc(), script)?.as_str(), want);
-    Ok(())
+    reads(&rt, rt.alloc(), script, want)
 }
 
 #[test]
@@ -175,8 +183,7 @@ need true if [int 9223372036854775810 Lt x] [x Le sym 50558342714202587334593762
 need false if [r(x;)] [x Eq y]
 print (x;sym 505648346078211134673565112542785135;) if [int 9223372036854775810 Eq int 9223372036854775811]
 ";
-    assert_eq!(rt; description(rt.alloc(), script)?.as_str(), want);
-    Ok(())
+    reads(&rt, rt.alloc(), script, want)
 }
 
 #[test]
@@ -194,11 +201,7 @@ fn divides_bytes_into_tokens(rt: HostRuntime) -> Result<(), Fail> {
         ),
     ];
     for (script, want) in rows {
-        assert_eq!(rt;
-            description(rt.alloc(), script)?.as_str(),
-            want,
-            "of {script}"
-        );
+        reads(&rt, rt.alloc(), script, want)?;
     }
     Ok(())
 }

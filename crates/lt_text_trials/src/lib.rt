@@ -1,6 +1,11 @@
-//! Scripts: the items and the first faults that they are read as, and whole scripts, bytes in and bytes out.
+//! Scripts: the items and the first faults that they are read as, the codes of their statements, and
+//! whole scripts, bytes in and bytes out.
 #![tactic(auto)]
 
+#[cfg(test)]
+mod agree;
+#[cfg(test)]
+mod checks;
 #[cfg(test)]
 mod endings;
 #[cfg(test)]

@@ -1,7 +1,9 @@
 //! Scripts, bytes in and bytes out.
+use crate::agree::{same, same_at};
 use lt_edges::{MemSink, MemSource, OpenGate};
 use lt_session::repair_main;
 use std::alloc::{AllocError, Global};
+use std::process::Abort;
 use std::sync::Wait;
 use std::test::Fail;
 use std::thread::Threads;
@@ -28,6 +30,22 @@ fn outcome<R: Threads + Wait + Sync>(
     let mut sink = MemSink::new(alloc, 1000, failing)?;
     let status = repair_main(rt, alloc, &words, source, &mut sink, &OpenGate);
     Ok((status, sink))
+}
+
+// Ends the test unless the script is reported so, and ends with this status.
+fn reports<R: Threads + Wait + Abort + Sync>(
+    rt: &R,
+    alloc: Global,
+    name: &str,
+    script: &str,
+    report: &str,
+    status: u8,
+) -> Result<(), Fail> {
+    let mut source = MemSource::new(alloc, script.as_bytes(), 7, &[])?;
+    let (ended, sink) = outcome(rt, alloc, &mut source, &[])?;
+    same_at(rt, ended, status, name);
+    same_at(rt, sink.bytes(), report.as_bytes(), name);
+    Ok(())
 }
 
 #[test]
@@ -213,10 +231,7 @@ fn reports_scripts(rt: HostRuntime) -> Result<(), Fail> {
         ),
     ];
     for (name, script, report, status) in rows {
-        let mut source = MemSource::new(alloc, script.as_bytes(), 7, &[])?;
-        let (ended, sink) = outcome(&rt, alloc, &mut source, &[])?;
-        assert_eq!(rt; ended, status, "{name}");
-        assert_eq!(rt; sink.bytes(), report.as_bytes(), "{name}");
+        reports(&rt, alloc, name, script, report, status)?;
     }
     Ok(())
 }
@@ -224,19 +239,19 @@ fn reports_scripts(rt: HostRuntime) -> Result<(), Fail> {
 #[test]
 fn takes_run_alone(rt: HostRuntime) -> Result<(), Fail> {
     let alloc = rt.alloc();
-    let rows: [&[&str]; 4] = [
-        &["lt_shell"],
-        &["lt_shell", "ru"],
-        &["lt_shell", "bench"],
-        &["lt_shell", "run", "run"],
+    let rows: [(&str, &[&str]); 4] = [
+        ("no word", &["lt_shell"]),
+        ("part of a word", &["lt_shell", "ru"]),
+        ("another word", &["lt_shell", "bench"]),
+        ("two words", &["lt_shell", "run", "run"]),
     ];
-    for row in rows {
+    for (name, row) in rows {
         let words = words_of(alloc, row)?;
         let mut source = MemSource::new(alloc, b"", 1, &[])?;
         let mut sink = MemSink::new(alloc, 1000, &[])?;
         let status = repair_main(&rt, alloc, &words, &mut source, &mut sink, &OpenGate);
-        assert_eq!(rt; status, 1, "{row:?}");
-        assert_eq!(rt; sink.bytes(), USAGE.as_bytes(), "{row:?}");
+        same_at(&rt, status, 1, name);
+        same_at(&rt, sink.bytes(), USAGE.as_bytes(), name);
     }
     Ok(())
 }
@@ -247,24 +262,24 @@ fn ends_where_a_read_or_a_write_fails(rt: HostRuntime) -> Result<(), Fail> {
     let script = b"batch program p end; commit; batch program q end; commit;";
     let mut source = MemSource::new(alloc, script, 7, &[2])?;
     let (status, sink) = outcome(&rt, alloc, &mut source, &[])?;
-    assert_eq!(rt; status, 3);
-    assert_eq!(rt; sink.bytes(), b"".as_slice());
+    same(&rt, status, 3);
+    same(&rt, sink.bytes(), b"".as_slice());
     let mut source = MemSource::new(alloc, script, 7, &[])?;
     let (status, sink) = outcome(&rt, alloc, &mut source, &[3])?;
-    assert_eq!(rt; status, 4);
-    assert_eq!(rt; sink.bytes(), b"batch 1\np done\n".as_slice());
+    same(&rt, status, 4);
+    same(&rt, sink.bytes(), b"batch 1\np done\n".as_slice());
     Ok(())
 }
 
 #[test]
 fn takes_no_more_than_the_limit(rt: HostRuntime) -> Result<(), Fail> {
     let alloc = rt.alloc();
-    for (count, status) in [(16_777_216, 0), (16_777_217, 6)] {
+    for (name, count, status) in [("the limit", 16_777_216, 0), ("one more", 16_777_217, 6)] {
         let spaces = vec![in alloc; b' '; count]?;
         let mut source = MemSource::new(alloc, &spaces, 65_536, &[])?;
         let (ended, sink) = outcome(&rt, alloc, &mut source, &[])?;
-        assert_eq!(rt; ended, status, "{count} spaces");
-        assert_eq!(rt; sink.bytes(), b"".as_slice());
+        same_at(&rt, ended, status, name);
+        same_at(&rt, sink.bytes(), b"".as_slice(), name);
     }
     Ok(())
 }

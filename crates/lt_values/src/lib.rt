@@ -5,8 +5,6 @@ mod ints;
 mod laws;
 mod sums;
 mod symbols;
-#[cfg(test)]
-mod tests;
 mod text;
 
 pub use ints::{cell_of_int, int_of};

@@ -1,0 +1,176 @@
+//! Sets of rows in a sorted vector are made, edited, shared and searched.
+ghost use Rattle.std.specs.Prelude.{◌≡◌, [], ◌∷◌, IfOk};
+
+use crate::agree::{holds, same};
+use lt_face::{CELL_LIMIT, Items, Key, NoMemory, Row, RowReads, RowSet};
+use lt_flat::FlatRows;
+use std::alloc::Global;
+use std::process::Abort;
+
+/// A row of two cells.
+type Pair = (Key, Key);
+
+/// One row goes in, or out.
+#[derive(Clone, Copy)]
+enum Edit {
+    Insert(Pair),
+    Remove(Pair),
+}
+
+use Edit::{Insert, Remove};
+
+fn row(alloc: Global, pair: Pair) -> Row
+    ensures { result ≡ pair.0 ∷ pair.1 ∷ [] }
+{
+    Row::from_cells(alloc, &[pair.0, pair.1])
+}
+
+/// The first pair of a set from this one on.
+fn pair_from<S: RowReads>(alloc: Global, set: &S, from: Pair) -> Option<Pair> {
+    match set.row_at_least(&row(alloc, from))?.cells() {
+        [a, b] => Some((*a, *b)),
+        _ => None,
+    }
+}
+
+/// The pairs of a set, as a walk by `row_at_least` meets them.
+fn pairs<S: RowReads>(alloc: Global, set: &S) -> Result<Vec<Pair>, NoMemory> {
+    let mut found = Vec::new(alloc);
+    let mut from = (0, 0);
+    for _ in 0..set.len() {
+        if let Some(pair) = pair_from(alloc, set, from) {
+            found.push(pair)?;
+            from = (pair.0, pair.1.saturating_add(1));
+        }
+    }
+    Ok(found)
+}
+
+/// Makes an edit on a set of pairs.
+fn made<S: RowSet>(
+    rt: &impl Abort,
+    alloc: Global,
+    set: &mut S,
+    edit: Edit,
+) -> Result<bool, NoMemory> {
+    match edit {
+        Insert((a, b)) => {
+            holds(rt, 1 <= a && a < CELL_LIMIT && 1 <= b && b < CELL_LIMIT);
+            holds(rt, set.width() == 2);
+            set.insert(row(alloc, (a, b)))
+        }
+        Remove(pair) => set.remove(&row(alloc, pair)),
+    }
+}
+
+/// Makes an edit on a set, and compares its answer and the set after it.
+fn check<S: RowSet>(
+    rt: &impl Abort,
+    alloc: Global,
+    set: &mut S,
+    edit: Edit,
+    changes: bool,
+    after: &[Pair],
+) -> Result<(), NoMemory> {
+    same(rt, made(rt, alloc, set, edit)?, changes);
+    same(rt, set.len(), after.len());
+    same(rt, pairs(alloc, set)?.as_slice(), after);
+    let (Insert(pair) | Remove(pair)) = edit;
+    same(rt, set.has(&row(alloc, pair)), after.contains(&pair));
+    Ok(())
+}
+
+/// Makes the edits of a table on a set.
+fn takes<S: RowSet>(
+    rt: &impl Abort,
+    alloc: Global,
+    edits: &[(Edit, bool, &[Pair])],
+) -> Result<(), NoMemory> {
+    let mut set = S::empty(alloc, 2)?;
+    for (edit, changes, after) in edits {
+        check(rt, alloc, &mut set, *edit, *changes, after)?;
+    }
+    Ok(())
+}
+
+/// Makes an edit on a set that is shared: the other owner keeps the rows from before it.
+fn check_shared<S: RowSet>(
+    rt: &impl Abort,
+    alloc: Global,
+    set: &mut S,
+    edit: Edit,
+    changes: bool,
+    rows: (&[Pair], &[Pair]),
+) -> Result<(), NoMemory> {
+    let (before, after) = rows;
+    let other = set.share()?;
+    check(rt, alloc, set, edit, changes, after)?;
+    same(rt, pairs(alloc, &other)?.as_slice(), before);
+    Ok(())
+}
+
+/// Makes the edits of a table on a set that is shared before each.
+fn takes_shared<S: RowSet>(
+    rt: &impl Abort,
+    alloc: Global,
+    edits: &[(Edit, bool, &[Pair])],
+) -> Result<(), NoMemory> {
+    let mut set = S::empty(alloc, 2)?;
+    let mut before: &[Pair] = &[];
+    for (edit, changes, after) in edits {
+        check_shared(rt, alloc, &mut set, *edit, *changes, (before, after))?;
+        before = after;
+    }
+    Ok(())
+}
+
+#[test]
+fn takes_edits(rt: HostRuntime) -> Result<(), NoMemory> {
+    let edits: [(Edit, bool, &[Pair]); 12] = [
+        (Remove((2, 7)), false, &[]),
+        (Insert((2, 7)), true, &[(2, 7)]),
+        (Insert((1, 7)), true, &[(1, 7), (2, 7)]),
+        (Insert((2, 7)), false, &[(1, 7), (2, 7)]),
+        (Insert((1, 9)), true, &[(1, 7), (1, 9), (2, 7)]),
+        (Insert((3, 1)), true, &[(1, 7), (1, 9), (2, 7), (3, 1)]),
+        (Remove((1, 8)), false, &[(1, 7), (1, 9), (2, 7), (3, 1)]),
+        (Remove((2, 7)), true, &[(1, 7), (1, 9), (3, 1)]),
+        (Remove((2, 7)), false, &[(1, 7), (1, 9), (3, 1)]),
+        (Insert((2, 6)), true, &[(1, 7), (1, 9), (2, 6), (3, 1)]),
+        (Remove((1, 7)), true, &[(1, 9), (2, 6), (3, 1)]),
+        (Insert((1, 1)), true, &[(1, 1), (1, 9), (2, 6), (3, 1)]),
+    ];
+    takes::<FlatRows>(&rt, rt.alloc(), &edits)?;
+    takes_shared::<FlatRows>(&rt, rt.alloc(), &edits)
+}
+
+/// The rows (1, 7) and (2, 7).
+fn two_rows(alloc: Global) -> Result<Vec<Row>, NoMemory>
+    ensures { IfOk result (λ rows. rows.items ≡ (1 ∷ 7 ∷ []) ∷ (2 ∷ 7 ∷ []) ∷ []) }
+{
+    let rows = vec![in alloc; row(alloc, (1, 7)), row(alloc, (2, 7))]?;
+    Ok(rows)
+}
+
+/// The set of these rows.
+fn sorted(alloc: Global) -> Result<FlatRows, NoMemory> {
+    FlatRows::from_sorted(2, Items::from_vec(two_rows(alloc)?))
+}
+
+#[test]
+fn begins_from_sorted_rows(rt: HostRuntime) -> Result<(), NoMemory> {
+    let set = sorted(rt.alloc())?;
+    same(&rt, set.width(), 2);
+    let rows = pairs(rt.alloc(), &set)?;
+    same(&rt, rows.as_slice(), [(1, 7), (2, 7)].as_slice());
+    same(&rt, pair_from(rt.alloc(), &set, (1, 8)), Some((2, 7)));
+    same(&rt, pair_from(rt.alloc(), &set, (2, 8)), None);
+    Ok(())
+}
+
+#[test]
+fn begins_from_no_rows(rt: HostRuntime) -> Result<(), NoMemory> {
+    let nothing = FlatRows::from_sorted(3, Items::new(rt.alloc()))?;
+    same(&rt, (nothing.width(), nothing.len()), (3, 0));
+    Ok(())
+}

@@ -1,0 +1,113 @@
+//! Trees of leaves, the names of jobs, and how a board opens.
+ghost use Rattle.std.specs.Prelude.{◌≡◌, IfOk};
+
+use crate::agree::{holds, same};
+use lt_face::NoMemory;
+use lt_net::board::{Board, nones};
+use lt_net::tree::{leaf_at, node_of, parent_of, right_of};
+use lt_net::{JobName, JobState};
+use std::alloc::Global;
+
+#[test]
+fn trees_of_one_to_three_leaves(rt: HostRuntime) {
+    same(&rt, (node_of(1, 0), right_of(1, 0)), (0, None));
+    same(&rt, (node_of(2, 0), node_of(2, 1)), (1, 2));
+    same(&rt, right_of(2, 0), Some(2));
+    same(
+        &rt,
+        (node_of(3, 0), node_of(3, 1), node_of(3, 2)),
+        (2, 3, 4),
+    );
+    same(&rt, (right_of(3, 0), right_of(3, 1)), (Some(4), Some(3)));
+}
+
+/// Of five leaves three lie below node 1, two of these below node 2, and two below node 6.
+#[test]
+fn the_tree_of_five_leaves(rt: HostRuntime) {
+    for (leaf, node, parent) in [(0, 3, 2), (1, 4, 2), (2, 5, 1), (3, 7, 6), (4, 8, 6)] {
+        holds(&rt, leaf < 5 && node > 0 && node < 9);
+        same(&rt, (node_of(5, leaf), leaf_at(5, node)), (node, leaf));
+        same(&rt, (node, parent_of(5, node)), (node, parent));
+        same(&rt, (node, right_of(5, node)), (node, None));
+    }
+}
+
+#[test]
+fn the_inner_nodes_over_five_leaves(rt: HostRuntime) {
+    for (node, right) in [(0, 6), (1, 5), (2, 4), (6, 8)] {
+        holds(&rt, node < 9);
+        same(&rt, (node, right_of(5, node)), (node, Some(right)));
+    }
+    same(
+        &rt,
+        (parent_of(5, 1), parent_of(5, 6), parent_of(5, 2)),
+        (0, 0, 1),
+    );
+}
+
+#[test]
+fn codes_name_jobs(rt: HostRuntime) {
+    same(&rt, JobName::Leaf(4).code(), 12);
+    same(&rt, JobName::Merge(4).code(), 13);
+    same(&rt, JobName::Correct(4).code(), 14);
+    holds(&rt, JobName::of(12) == JobName::Leaf(4));
+    holds(&rt, JobName::of(13) == JobName::Merge(4));
+    holds(&rt, JobName::of(14) == JobName::Correct(4));
+}
+
+/// The opening of a batch of two programs.
+fn two_leaves(alloc: Global) -> Result<Board, NoMemory>
+    ensures { IfOk result (λ board. board.leaves ≡ 2) }
+{
+    let board = Board::opening(alloc, 2)?;
+    Ok(board)
+}
+
+#[test]
+fn an_opening_waits_for_its_leaves(rt: HostRuntime) -> Result<(), NoMemory> {
+    let board = two_leaves(rt.alloc())?;
+    same(&rt, (board.leaves(), board.is_settled()), (2, false));
+    same(
+        &rt,
+        (board.first_pending(), board.in_flight()),
+        (Some(0), 0),
+    );
+    for (job, pending) in [(0, true), (1, false), (2, false), (3, true), (6, false)] {
+        same(&rt, (job, board.is_pending(job)), (job, pending));
+    }
+    Ok(())
+}
+
+#[test]
+fn an_opening_has_no_marks(rt: HostRuntime) -> Result<(), NoMemory> {
+    let board = two_leaves(rt.alloc())?;
+    same(
+        &rt,
+        (board.effect(0).len(), board.correction(2).len()),
+        (0, 0),
+    );
+    let captured = board.capture(JobName::Leaf(1))?;
+    holds(&rt, captured.prior.is_none());
+    Ok(())
+}
+
+#[test]
+fn an_opening_of_no_leaves_is_settled(rt: HostRuntime) -> Result<(), NoMemory> {
+    let empty = Board::opening(rt.alloc(), 0)?;
+    same(
+        &rt,
+        (empty.is_settled(), empty.first_pending()),
+        (true, None),
+    );
+    Ok(())
+}
+
+#[test]
+fn as_many_nones(rt: HostRuntime) -> Result<(), NoMemory> {
+    let places: Vec<Option<JobState>> = nones(rt.alloc(), 3)?;
+    same(&rt, places.len(), 3);
+    for place in &places {
+        holds(&rt, place.is_none());
+    }
+    Ok(())
+}
