@@ -4,6 +4,7 @@ pub mod Kept
 pub mod Nexts
 pub mod Sorts
 pub mod Grown
+pub mod Marked
 pub mod Finds
 pub mod States
 pub mod Replaced

@@ -50,7 +50,8 @@ fn is_named(marks: &Marks, relation: usize) -> bool
     ensures named { IsTrue result → relation < 2 ^ 32 }
     ensures unnamed { result ≡ false → AllByRecursion (λ (m : MarkType). m.relation ≢ relation) marks.now }
 {
-    for mark in marks.as_slice() {
+    for i in 0..marks.len() {
+        let mark = marks.mark(i);
         if mark.relation as usize == relation {
             return true;
         }

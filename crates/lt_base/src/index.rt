@@ -10,7 +10,7 @@ ghost use Rattle.lt_base.specs.Indexed.{IsIndexed, permuted_mark, index_laid};
 use crate::columns::permuted_row;
 use crate::database::Rows;
 use crate::walk::permuted_rows;
-use lt_delta::Mark;
+use lt_delta::{Mark, Marks};
 use lt_face::items::{Items, Perm};
 use lt_face::memory::NoMemory;
 use lt_face::row_set::{RowReads, RowSet};
@@ -55,14 +55,15 @@ impl Index {
     }
 
     /// The index with the marks of its relation laid on it.
-    pub(crate) fn laid(&self, relation: u32, marks: &[Mark]) -> Result<Index, NoMemory>
+    pub(crate) fn laid(&self, relation: u32, marks: &Marks) -> Result<Index, NoMemory>
         requires perm { IsPermOf self.now.rows.width self.now.columns }
         requires fit { AllByRecursion (λ (m : MarkType). m.relation ≡ relation → IsRow self.now.rows.width m.row) marks.now }
         ensures { IfOk result (λ index. index ≡ index_laid relation marks.now self.now) }
     {
         let columns = self.columns.copy()?;
         let mut rows = self.rows.share()?;
-        for mark in marks {
+        for i in 0..marks.len() {
+            let mark = marks.mark(i);
             if mark.relation == relation {
                 put(mark, &columns, &mut rows)?;
             }

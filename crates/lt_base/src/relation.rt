@@ -13,7 +13,7 @@ ghost use Rattle.lt_base.specs.Indexed.{IsIndexed, index_laid};
 use crate::columns::{is_own_order, is_same_order};
 use crate::database::Rows;
 use crate::index::Index;
-use lt_delta::{Mark, Marks};
+use lt_delta::Marks;
 use lt_face::items::Perm;
 use lt_face::memory::NoMemory;
 use lt_face::row_set::{RowReads, RowSet};
@@ -54,7 +54,7 @@ fn found<'a>(others: &'a [Index], perm: &Perm) -> Option<&'a Index>
 }
 
 /// The indexes with the marks of their relation laid on them.
-fn all_laid(others: &Vec<Index>, relation: u32, marks: &[Mark]) -> Result<Vec<Index>, NoMemory>
+fn all_laid(others: &Vec<Index>, relation: u32, marks: &Marks) -> Result<Vec<Index>, NoMemory>
     requires perms { AllByRecursion (λ index. IsPermOf index.rows.width index.columns) others.now.items }
     requires fit { AllByRecursion (λ index. AllByRecursion (λ (m : MarkType). m.relation ≡ relation → IsRow index.rows.width m.row) marks.now) others.now.items }
     ensures { IfOk result (λ laid. laid.items ≡ map (index_laid relation marks.now) others.now.items) }
@@ -134,7 +134,7 @@ impl Relation {
     {
         let _width = self.first.width();
         let first = marks.lay_on(number, &self.first)?;
-        let others = all_laid(&self.others, number, marks.as_slice())?;
+        let others = all_laid(&self.others, number, marks)?;
         Ok(Relation { first, others })
     }
 }

@@ -1,8 +1,7 @@
 -- A state with marks that fit it laid on it is a state again.
-use Rattle.std.proofs.Common.{◌≡◌, ℕ, zero, suc, Bool, true, false, cond, List, [], ◌∷◌, length, Option, Some, None, refl, sym, subst}
-use Rattle.std.specs.List.{AllByRecursion}
-use Rattle.lt_face.specs.Rows.{IsCell, IsRow, IsRowSet, with_row, without_row}
-use Rattle.lt_face.specs.State.{Row, Relation, State}
+use Rattle.std.proofs.Common.{◌≡◌, ℕ, zero, suc, true, false, cond, List, [], ◌∷◌, length, Some, refl, sym, subst}
+use Rattle.lt_face.specs.Rows.{IsRow, IsRowSet, with_row, without_row}
+use Rattle.lt_face.specs.State.{Row, State}
 use Rattle.lt_face.proofs.RowLemmas.{IsRowSet-with_row, IsRowSet-without_row, each_weaker}
 use Rattle.lt_model.specs.declared.mark.Mark.{Mark}
 use Rattle.lt_model.specs.Fits.{IsWide, IsMarkOf, FitMarks}

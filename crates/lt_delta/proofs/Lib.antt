@@ -1,4 +1,5 @@
 pub mod MarkOrder
+pub mod Owners
 pub mod Merges
 pub mod Words
 pub mod Ends

@@ -27,13 +27,14 @@ fn put<R: RowSet>(mark: &Mark, rows: &mut R) -> Result<(), NoMemory>
 }
 
 /// The set with the marks of the relation laid on it.
-fn laid_on<R: RowSet>(marks: &[Mark], relation: u32, rows: &R) -> Result<R, NoMemory>
+fn laid_on<R: RowSet>(marks: &Marks, relation: u32, rows: &R) -> Result<R, NoMemory>
     requires { AllByRecursion (λ (m : MarkType). m.relation ≡ relation → IsRow (R.width_of rows.now) m.row) marks.now }
     ensures rows { IfOk result (λ set. R.rows set ≡ rows_laid relation (R.rows rows.now) marks.now) }
     ensures width { IfOk result (λ set. R.width_of set ≡ R.width_of rows.now) }
 {
     let mut set = rows.share()?;
-    for mark in marks {
+    for i in 0..marks.len() {
+        let mark = marks.mark(i);
         if mark.relation == relation {
             put(mark, &mut set)?;
         }
@@ -49,7 +50,7 @@ impl Marks {
         ensures edits { IfOk result (λ set. R.rows set ≡ rows_laid relation (R.rows rows.now) self.now) }
         ensures width { IfOk result (λ set. R.width_of set ≡ R.width_of rows.now) }
     {
-        let set = laid_on(self.as_slice(), relation, rows)?;
+        let set = laid_on(self, relation, rows)?;
         Ok(set)
     }
 }

@@ -1,5 +1,6 @@
-//! `Marks`: a list of marks, shared by count.
-ghost use Rattle.std.specs.Prelude.{◌≡◌, ◌<◌, ◌↔◌, [], length, slice_get, Some, IfOk, IsTrue};
+//! `Marks`: a list of marks, shared by count, and each of them too.
+ghost use Rattle.std.specs.Prelude.{◌≡◌, ◌<◌, ◌↔◌, [], map, length, slice_get, Some, IfOk, IsTrue};
+ghost use Rattle.std.specs.Arc.{arc_value};
 ghost use Rattle.lt_model.specs.Marks.{AreMarks, and_then};
 
 use crate::merging::merged;
@@ -14,20 +15,20 @@ use std::sync::Arc;
 /// Marks, strictly ascending by (relation, row): one for each row at most.
 #[derive(Drop)]
 pub struct Marks {
-    list: Arc<Vec<Mark>>,
+    list: Arc<Vec<Arc<Mark>>>,
 }
 
 impl Model for Marks {
-    ghost use Rattle.std.specs.Prelude.{List};
+    ghost use Rattle.std.specs.Prelude.{List, map};
     ghost use Rattle.std.specs.Arc.{arc_value};
     ghost use Rattle.lt_model.specs.declared.mark.Mark.{Mark};
     ghost use Rattle.lt_model.specs.Marks.{AreMarks};
 
     ghost Value = { List Mark };
 
-    ghost view = { λ m. (arc_value m.list).items };
+    ghost view = { λ m. map arc_value (arc_value m.list).items };
 
-    ghost invariant = { λ m. AreMarks (arc_value m.list).items };
+    ghost invariant = { λ m. AreMarks (map arc_value (arc_value m.list).items) };
 }
 
 impl Marks {
@@ -45,6 +46,7 @@ impl Marks {
     {
         let alloc = list.allocator();
         let marks = settled(list.into_vec())?;
+        let marks = each_shared(alloc, marks)?;
         let list = Arc::new(alloc, marks)?;
         Ok(Marks { list })
     }
@@ -86,15 +88,8 @@ impl Marks {
         requires { i < length self.now }
         ensures { slice_get self.now i ≡ Some result.now }
     {
-        &self.list[i]
-    }
-
-    /// All marks in their order.
-    pub fn as_slice(&self) -> &[Mark]
-        ensures marks { result.now ≡ self.now }
-        ensures ascending { AreMarks self.now }
-    {
-        &self.list
+        let mark: &Arc<Mark> = &self.list[i];
+        mark
     }
 
     /// Whether both have the same marks.
@@ -105,9 +100,21 @@ impl Marks {
     }
 }
 
+/// The marks, each with owners of its own.
+fn each_shared(alloc: Global, marks: Vec<Mark>) -> Result<Vec<Arc<Mark>>, NoMemory>
+    ensures { IfOk result (λ shared. map arc_value shared.items ≡ marks.items) }
+{
+    let mut shared = Vec::with_capacity(alloc, marks.len())?;
+    for mark in marks {
+        let mark = Arc::new(alloc, mark)?;
+        shared.push(mark)?;
+    }
+    Ok(shared)
+}
+
 /// Whether two lists have the same marks.
-fn are_same(a: &[Mark], b: &[Mark]) -> bool
-    ensures { IsTrue result ↔ (a.now ≡ b.now) }
+fn are_same(a: &[Arc<Mark>], b: &[Arc<Mark>]) -> bool
+    ensures { IsTrue result ↔ (map arc_value a.now ≡ map arc_value b.now) }
 {
     if a.len() != b.len() {
         return false;

@@ -1,30 +1,37 @@
 //! One list of marks after another.
-ghost use Rattle.std.specs.Prelude.{◌≡◌, ◌++◌, IfOk, OnOk};
+ghost use Rattle.std.specs.Prelude.{◌≡◌, ◌++◌, map, IfOk, OnOk};
+ghost use Rattle.std.specs.Arc.{arc_value};
 ghost use Rattle.lt_model.specs.Marks.{AreMarks, and_then};
 
-use crate::order::{compare, copied};
+use crate::order::compare;
 use lt_face::memory::NoMemory;
 use lt_model::mark::Mark;
 use std::alloc::Global;
 use std::cmp::Ordering;
+use std::sync::Arc;
 
-/// Copies of `more` at the end.
-fn append(marks: &mut Vec<Mark>, more: &[Mark]) -> Result<(), NoMemory>
-    ensures { OnOk result (marks.new.items ≡ marks.old.items ++ more.now) }
+/// Second owners of `more` at the end.
+fn append(marks: &mut Vec<Arc<Mark>>, more: &[Arc<Mark>]) -> Result<(), NoMemory>
+    ensures { OnOk result (map arc_value marks.new.items ≡ map arc_value marks.old.items ++ map arc_value more.now) }
 {
     for mark in more {
-        marks.push(copied(mark))?;
+        let mark = mark.clone()?;
+        marks.push(mark)?;
     }
     Ok(())
 }
 
 /// The marks of both, the second's where both have one.
-pub(crate) fn merged(alloc: Global, first: &[Mark], second: &[Mark]) -> Result<Vec<Mark>, NoMemory>
-    requires first { AreMarks first.now }
-    requires second { AreMarks second.now }
-    ensures { IfOk result (λ marks. marks.items ≡ and_then first.now second.now) }
+pub(crate) fn merged(
+    alloc: Global,
+    first: &[Arc<Mark>],
+    second: &[Arc<Mark>],
+) -> Result<Vec<Arc<Mark>>, NoMemory>
+    requires first { AreMarks (map arc_value first.now) }
+    requires second { AreMarks (map arc_value second.now) }
+    ensures { IfOk result (λ marks. map arc_value marks.items ≡ and_then (map arc_value first.now) (map arc_value second.now)) }
 {
-    let mut marks = Vec::new(alloc);
+    let mut marks = Vec::with_capacity(alloc, first.len().saturating_add(second.len()))?;
     let mut i = 0;
     let mut j = 0;
     'both: while i < first.len() && j < second.len() {
@@ -32,16 +39,19 @@ pub(crate) fn merged(alloc: Global, first: &[Mark], second: &[Mark]) -> Result<V
         let y = &second[j];
         match compare(x, y) {
             Ordering::Less => {
-                marks.push(copied(x))?;
+                let mark = x.clone()?;
+                marks.push(mark)?;
                 i += 1;
             }
             Ordering::Equal => {
-                marks.push(copied(y))?;
+                let mark = y.clone()?;
+                marks.push(mark)?;
                 i += 1;
                 j += 1;
             }
             Ordering::Greater => {
-                marks.push(copied(y))?;
+                let mark = y.clone()?;
+                marks.push(mark)?;
                 j += 1;
             }
         }

@@ -1,4 +1,4 @@
-//! The order of marks, and copies of them.
+//! The order of marks.
 ghost use Rattle.std.specs.Prelude.{◌≡◌, ◌↔◌, IsTrue};
 ghost use Rattle.lt_model.specs.Marks.{mark_cmp};
 
@@ -21,15 +21,4 @@ pub(crate) fn is_same(a: &Mark, b: &Mark) -> bool
     ensures { IsTrue result ↔ (a.now ≡ b.now) }
 {
     a.relation == b.relation && a.plus == b.plus && a.row == b.row
-}
-
-/// An equal mark.
-pub(crate) fn copied(mark: &Mark) -> Mark
-    ensures { result ≡ mark.now }
-{
-    Mark {
-        relation: mark.relation,
-        row: mark.row.copy_row(),
-        plus: mark.plus,
-    }
 }

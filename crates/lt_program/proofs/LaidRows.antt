@@ -1,6 +1,7 @@
 -- Marks laid on lists of rows.
 use Rattle.std.proofs.Common.{◌≡◌, ℕ, zero, suc, ◌+◌, ◌<◌, ◌≤◌, true, false, cond, List, [], ◌∷◌, length, drop, add-one, drop-cons, get_or, refl, sym, ap, ◌∙◌, arith}
-use Rattle.std.specs.Prelude.{slice_set}
+use Rattle.std.specs.Prelude.{slice_set, slice_get, Some}
+use Rattle.std.proofs.lemmas.Option.{slice_get_within, get_or_from_slice_get}
 use Rattle.std.specs.List.{AllByRecursion}
 use Rattle.lt_face.specs.Rows.{IsCell, IsAscending, with_row, without_row}
 use Rattle.lt_face.specs.State.{Row, Relation, State}
@@ -64,6 +65,6 @@ bare_past (r ∷ relations) (suc n) f le = ap (λ (z : State). record { width = 
 pub ascending_in : (relations : List (List Row)) (n : ℕ) (d : List Row) → Rises (bare relations) → n < length relations → IsAscending (get_or relations n d)
 ascending_in relations n d up lt = each_at IsAscending relations n d (each_bare IsAscending relations up) lt
 
-pub laid_step : (state : State) (marks : Marks) (i : ℕ) (m : Mark) (next : State) → i < length marks → m ≡ get_or marks i m → next ≡ lay state m → laid next (drop (i + 1) marks) ≡ laid state (drop i marks)
-laid_step state marks i m next lt is step =
-    rw add-one (ap (λ s. laid s (drop (suc i) marks)) step ∙ sym (ap (laid state) (drop-cons marks i m lt ∙ ap (λ k. k ∷ drop (suc i) marks) (sym is))))
+pub laid_step : (state : State) (marks : Marks) (i : ℕ) (m : Mark) (next : State) → slice_get marks i ≡ Some m → next ≡ lay state m → laid next (drop (i + 1) marks) ≡ laid state (drop i marks)
+laid_step state marks i m next at step =
+    rw add-one (ap (λ s. laid s (drop (suc i) marks)) step ∙ sym (ap (laid state) (drop-cons marks i m (slice_get_within marks i m at) ∙ ap (λ k. k ∷ drop (suc i) marks) (get_or_from_slice_get marks i m m at))))

@@ -6,6 +6,7 @@ ghost use Rattle.lt_model.specs.Laws.{Rises};
 ghost use Rattle.lt_model.specs.Marks.{write as written, lay as laid_one, laid};
 ghost use Rattle.lt_program.specs.Walk.{bare};
 
+use lt_delta::Marks;
 use lt_face::items::{Items, RowList};
 use lt_face::memory::NoMemory;
 use lt_face::row::Row;
@@ -58,11 +59,12 @@ fn lay_one(relations: &mut Vec<RowList>, mark: &Mark) -> Result<(), NoMemory>
 }
 
 /// Lays marks on their relations.
-pub fn lay(relations: &mut Vec<RowList>, marks: &[Mark]) -> Result<(), NoMemory>
+pub fn lay(relations: &mut Vec<RowList>, marks: &Marks) -> Result<(), NoMemory>
     requires { Rises (bare relations.old.items) }
     ensures { OnOk result (bare relations.new.items ≡ laid (bare relations.old.items) marks.now) }
 {
-    for mark in marks {
+    for i in 0..marks.len() {
+        let mark = marks.mark(i);
         lay_one(relations, mark)?;
     }
     Ok(())

@@ -29,7 +29,7 @@ impl Progress {
     {
         match effect {
             Effect::Writes(marks) => {
-                lay(&mut self.relations, marks.as_slice())?;
+                lay(&mut self.relations, &marks)?;
                 self.marks = Marks::and_then(&self.marks, &marks)?;
                 Ok(true)
             }

@@ -12,12 +12,11 @@ fn is_mark(alloc: Global, mark: &Mark, cell: Key, plus: bool) -> bool {
 
 /// Whether these are the marks, by cell in the relation 0 and sign.
 pub(crate) fn are_marks(alloc: Global, marks: &Marks, wanted: &[(Key, bool)]) -> bool {
-    let marks = marks.as_slice();
     if marks.len() != wanted.len() {
         return false;
     }
     for (i, want) in wanted.iter().enumerate() {
-        if !is_mark(alloc, &marks[i], want.0, want.1) {
+        if !is_mark(alloc, marks.mark(i), want.0, want.1) {
             return false;
         }
     }

@@ -43,7 +43,7 @@ fn one_run(alloc: Global, relations: &mut Vec<RowList>, prog: &Prog) -> Result<R
     ensures { OnOk result (AreColumn relations.new.items) }
 {
     let (reply, marks) = run_plain(alloc, prog, relations)?;
-    lay(relations, marks.as_slice())?;
+    lay(relations, &marks)?;
     Ok(Ran { reply, marks })
 }
 

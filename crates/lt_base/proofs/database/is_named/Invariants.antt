@@ -3,5 +3,5 @@ use Rattle.std.specs.List.{AllByRecursion}
 use Rattle.lt_model.specs.declared.mark.Mark.{Mark}
 use Rattle.lt_base.proofs.database.is_named.Given as goal
 
-abbrev pub invariant-loop-mark : goal.invariant-loop-mark
-invariant-loop-mark l = AllByRecursion (λ (m : Mark). m.relation ≢ l.relation) (take l.mark-index l.mark-items)
+abbrev pub invariant-loop-i : goal.invariant-loop-i
+invariant-loop-i l = AllByRecursion (λ (m : Mark). m.relation ≢ l.relation) (take l.i l.marks)

@@ -4,8 +4,8 @@ use Rattle.lt_model.specs.Marks.{laid}
 use Rattle.lt_program.specs.Walk.{bare}
 use Rattle.lt_program.proofs.laying.lay.Given as goal
 
-abbrev pub invariant-loop-mark : goal.invariant-loop-mark
-invariant-loop-mark l = record {
-  so_far : laid (bare l.relations.items) (drop l.mark-index l.marks) ≡ laid (bare l.initial.relations.items) l.marks;
+abbrev pub invariant-loop-i : goal.invariant-loop-i
+invariant-loop-i l = record {
+  so_far : laid (bare l.relations.items) (drop l.i l.marks) ≡ laid (bare l.initial.relations.items) l.marks;
   rises : Rises (bare l.relations.items);
 }

@@ -1,6 +1,4 @@
-use Rattle.std.proofs.Common.{◌∙◌, refl, ap}
-use Rattle.lt_model.specs.Marks.{laid}
-use Rattle.lt_program.specs.Walk.{bare}
+use Rattle.std.proofs.Common.{refl}
 use Rattle.lt_program.proofs.Ready.{rises}
 use Rattle.lt_run_trials.proofs.FittingColumns.{can_run, laid_column}
 use Rattle.lt_run_trials.proofs.serial.one_run.Goals as goal
@@ -12,4 +10,4 @@ pub returns : goal.returns
 returns c =
     laid_column c.args.relations.now.items c.lay.new.relations.items c.in_ok-reply.marks c.requires.column
     (c.in_ok-reply.ensures.fits (can_run c.args.relations.now.items c.deref.result.now c.args.prog.now c.requires.column c.requires.fits c.deref.ensures.value))
-    (c.in_ok-lay.ensures ∙ ap (laid (bare c.args.relations.now.items)) c.as_slice.ensures.marks)
+    c.in_ok-lay.ensures

@@ -6,6 +6,6 @@ use Rattle.lt_delta.proofs.marks.Marks.lay_on.Goals as goal
 
 pub returns-clause-rows : goal.returns-clause-rows
 returns-clause-rows g c = λ state within same.
-    rw (c.as_slice.ensures.marks) at c.in_ok-set.ensures.rows
+    c.in_ok-set.ensures.rows
     ∙ ap (λ (rows : List Row). rows_laid c.args.relation rows c.args.self.now) (sym same)
     ∙ sym (rows_in_laid state c.args.self.now c.args.relation within)
