@@ -8,6 +8,7 @@ ghost use Rattle.lt_circuit.specs.Circuit.{state, IsReplay};
 ghost use Rattle.lt_net.specs.Net.{IsSettled};
 ghost use Rattle.lt_net.specs.Tree.{leaf_value};
 ghost use Rattle.lt_program.specs.Run.{AreReplied};
+ghost use Rattle.lt_batch.specs.Work.{AreRunnable};
 ghost use Rattle.lt_batch.specs.Batch.{serial_replies, serial_effects, serial_state, does_at};
 
 use crate::gathering::{gathered, left};
@@ -20,6 +21,31 @@ use lt_face::memory::NoMemory;
 use lt_model::normal::Prog;
 use std::alloc::Global;
 use std::sync::Arc;
+
+/// The circuit over the programs, settled, with the work that it does.
+fn settled(
+    alloc: Global,
+    db: &Database,
+    progs: &[Arc<Prog>],
+) -> Result<(Arc<BatchWork>, Circuit<BatchWork>), NoMemory>
+    requires few { length progs.now ≤ 256 }
+    requires fit { AllByRecursion (Fits (state_of db.now)) (map arc_value progs.now) }
+    ensures work { IfOk result (λ out. out.1.work ≡ arc_value out.0) }
+    ensures programs { IfOk result (λ out. out.1.work.programs ≡ map arc_value progs.now) }
+    ensures snapshot { IfOk result (λ out. state_of out.1.work.snapshot ≡ state_of db.now) }
+    ensures runnable { IfOk result (λ out. AreRunnable (state_of out.1.work.snapshot) out.1.work.programs) }
+    ensures settled { IfOk result (λ out. IsSettled (state out.1)) }
+    ensures leaves { IfOk result (λ out. out.1.board.leaves ≡ length progs.now) }
+    ensures journal { IfOk result (λ out. IsReplay (does_at (map arc_value progs.now) (state_of db.now)) out.1.board out.1.journal) }
+{
+    let work = BatchWork::new(alloc, db, progs)?;
+    let work = Arc::new(alloc, work)?;
+    let leaves = progs.len() as u32;
+    let mut circuit = Circuit::start(alloc, work.clone()?, leaves)?;
+    circuit.settle_alone()?;
+    let _entries = circuit.journal();
+    Ok((work, circuit))
+}
 
 /// Runs the programs of a batch, each on the database corrected by what those before it write. The replies, the effects
 /// and the database left are those of the programs one after another. The circuit that did it is settled, and its
@@ -49,13 +75,8 @@ pub fn run_batch<G: Gate>(
     ensures widths { IfOk result (λ out. (relation width : ℕ) → IsWide (state_of db.now) relation width → IsWide (state_of out.db) relation width) }
     ensures printed { IfOk result (λ out. AllByRecursion AreReplied out.replies) }
 {
-    let work = BatchWork::new(alloc, db, progs)?;
-    let work = Arc::new(alloc, work)?;
-    let leaves = progs.len() as u32;
-    let mut circuit = Circuit::start(alloc, work.clone()?, leaves)?;
-    circuit.settle_alone()?;
-    let _entries = circuit.journal();
-    let (replies, effects) = gathered(alloc, &circuit, leaves)?;
+    let (work, circuit) = settled(alloc, db, progs)?;
+    let (replies, effects) = gathered(alloc, &circuit, progs.len() as u32)?;
     let db = left(work.snapshot(), &circuit)?;
     Ok(Outcome {
         replies,

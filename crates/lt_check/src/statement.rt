@@ -1,8 +1,8 @@
 //! The check of one statement.
-ghost use Rattle.std.specs.Prelude.{◌≡◌, IfOk, IfErr, None, length};
+ghost use Rattle.std.specs.Prelude.{◌≡◌, ◌≤◌, IfOk, IfErr, None, length, map};
 ghost use Rattle.std.specs.List.{list_all, list_any};
 ghost use Rattle.lt_model.specs.Bound.{is_bound};
-ghost use Rattle.lt_model.specs.Check.{is_unknown, is_misfit, choice_fits, code_of, normal, normal_with, kind_of};
+ghost use Rattle.lt_model.specs.Check.{is_unknown, is_misfit, choice_fits, code_of, normal, normal_with, kind_of, atom as normal_atom, term as normal_term};
 ghost use Rattle.lt_model.specs.Variables as model;
 ghost use Rattle.lt_model.specs.Variables.{variables, place_of};
 ghost use Rattle.lt_model.specs.Limits.{ArePrintedWithin, IsStatementWithin};
@@ -18,9 +18,10 @@ use crate::normal_form::{atom, body as normal_body, numbered};
 use crate::occurrences::{atoms_of, body_of, places_of};
 use crate::schema::Schema;
 use lt_face::memory::NoMemory;
+use lt_model::kind::KindList;
 use lt_model::name::Name;
-use lt_model::normal::{Body, Stmt};
-use lt_model::syntax::{Head, Statement};
+use lt_model::normal::{Atom, Body, Stmt, TermList};
+use lt_model::syntax::{Head, Statement, Term};
 use std::alloc::Global;
 
 fn bad(code: u32, statement: u32) -> Result<Stmt, CheckFault>
@@ -53,6 +54,36 @@ fn has_misfit(schema: &Schema, atoms: &[&Head]) -> bool
     false
 }
 
+// The atom whose rows go, and the one whose rows come.
+fn both(
+    alloc: Global,
+    schema: &Schema,
+    names: &Names,
+    gone: &Head,
+    come: &Head,
+) -> Result<(Atom, Atom), NoMemory>
+    ensures { IfOk result (λ both. both ≡ (normal_atom schema.now names.now gone.now, normal_atom schema.now names.now come.now)) }
+{
+    let gone = atom(alloc, schema, names, gone)?;
+    let come = atom(alloc, schema, names, come)?;
+    Ok((gone, come))
+}
+
+// The printed terms, and the kind of each.
+fn printed(
+    alloc: Global,
+    names: &Names,
+    known: &Known,
+    terms: &[Term],
+) -> Result<(TermList, KindList), NoMemory>
+    requires { length terms.now ≤ 8 }
+    ensures { IfOk result (λ printed. printed ≡ (map (normal_term names.now) terms.now, map (kind_of names.now (completed known.now)) terms.now)) }
+{
+    let numbers = numbered(alloc, names, terms)?;
+    let kinds = known.kinds(alloc, names, terms)?;
+    Ok((numbers, kinds))
+}
+
 fn with_body(
     alloc: Global,
     schema: &Schema,
@@ -73,17 +104,15 @@ fn with_body(
             head: atom(alloc, schema, names, head)?,
             body,
         }),
-        Statement::Replace { gone, come, .. } => Ok(Stmt::Replace {
-            gone: atom(alloc, schema, names, gone)?,
-            come: atom(alloc, schema, names, come)?,
-            body,
-        }),
+        Statement::Replace { gone, come, .. } => {
+            let (gone, come) = both(alloc, schema, names, gone, come)?;
+            Ok(Stmt::Replace { gone, come, body })
+        }
         Statement::Need { some, .. } => Ok(Stmt::Need { some: *some, body }),
-        Statement::Print { terms, .. } => Ok(Stmt::Print {
-            terms: numbered(alloc, names, terms.as_slice())?,
-            kinds: known.kinds(alloc, names, terms.as_slice())?,
-            body,
-        }),
+        Statement::Print { terms, .. } => {
+            let (terms, kinds) = printed(alloc, names, known, terms.as_slice())?;
+            Ok(Stmt::Print { terms, kinds, body })
+        }
     }
 }
 

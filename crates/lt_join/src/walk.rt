@@ -120,6 +120,37 @@ pub(crate) fn roots_of<'a, I: Indexes>(
     Ok(roots)
 }
 
+/// Adds the answer that the keys of all levels give, where they give one, and answers whether the walk stops there.
+fn at_leaf<I: Indexes>(
+    alloc: Global,
+    _tables: &I,
+    body: &Body,
+    plan: &Plan,
+    terms: &Items<Term>,
+    keys: &Items<Key>,
+    found: &mut Found,
+    first: bool,
+) -> Result<bool, NoMemory>
+    requires of_body { IsPlanOf body.now plan.now }
+    requires prepared { IsPrepared body.now plan.now terms.now }
+    requires full { length keys.now ≡ length plan.now.levels }
+    requires reached { IsReached plan.now found.old.sense keys.now }
+    requires right { IsRight body.now terms.now (I.state _tables.now) found.old }
+    ensures sense { IfOk result (λ _. found.new.sense ≡ found.old.sense) }
+    ensures grows { IfOk result (λ _. FoundGrows found.old found.new) }
+    ensures right { IfOk result (λ _. IsRight body.now terms.now (I.state _tables.now) found.new) }
+    ensures explored { IfOk result (λ _. IsExploredBelow body.now plan.now terms.now found.new keys.now) }
+    ensures stopped { IfOk result (λ stopped. stopped ≡ true → 0 < length found.new.rows) }
+    ensures asked { IfOk result (λ stopped. stopped ≡ true → first ≡ true) }
+    ensures unfound { IfOk result (λ stopped. first ≡ true → stopped ≡ false → found.new.rows ≡ found.old.rows) }
+{
+    if let Some(row) = leaf_answer(alloc, body, plan, terms, keys) {
+        found.rows.push(row)?;
+        return Ok(first);
+    }
+    Ok(false)
+}
+
 /// Explores the levels below the keys. Where the first answer suffices, it stops there.
 pub(crate) fn descend<'a, I: Indexes, L>(
     alloc: Global,
@@ -151,11 +182,7 @@ pub(crate) fn descend<'a, I: Indexes, L>(
 {
     let depth = keys.len();
     if depth == plan.levels.len() {
-        if let Some(row) = leaf_answer(alloc, body, plan, terms, keys) {
-            found.rows.push(row)?;
-            return Ok(first);
-        }
-        return Ok(false);
+        return at_leaf(alloc, tables, body, plan, terms, keys, found, first);
     }
     let level = &plan.levels.as_slice()[depth];
     let mut joined = open_level(

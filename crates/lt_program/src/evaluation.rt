@@ -1,9 +1,11 @@
 //! The evaluation of a statement on a database, by a join.
-ghost use Rattle.std.specs.Prelude.{◌≡◌, ◌+◌, ◌≤◌, IfOk};
+ghost use Rattle.std.specs.Prelude.{◌≡◌, ◌+◌, ◌≤◌, true, false, map, IfOk};
+ghost use Rattle.lt_face.specs.Rows.{IsAscending};
 ghost use Rattle.lt_face.specs.State.{State};
 ghost use Rattle.lt_model.specs.Answers.{answers as answers_of, some_answer};
 ghost use Rattle.lt_model.specs.Effect as model;
 ghost use Rattle.lt_model.specs.Effect.{marks_of, effect as effect_of};
+ghost use Rattle.lt_model.specs.Marks.{and_then};
 ghost use Rattle.lt_model.specs.Fits.{IsBodyOf, IsHeadOf, FitsStatement};
 ghost use Rattle.lt_base.specs.Tables.{state_of};
 ghost use Rattle.lt_query.specs.Needs.{body_of as body_in};
@@ -122,6 +124,24 @@ fn written<L>(
     })
 }
 
+/// The marks of a head whose rows go, and after them those of one whose rows come.
+fn exchanged(
+    alloc: Global,
+    gone: &Atom,
+    come: &Atom,
+    old: &RowList,
+    new: &RowList,
+) -> Result<Marks, NoMemory>
+    requires old { IsAscending old.now }
+    requires new { IsAscending new.now }
+    ensures { IfOk result (λ marks. marks ≡ and_then (map (λ row. record { relation = gone.now.relation; row = row; plus = false }) old.now) (map (λ row. record { relation = come.now.relation; row = row; plus = true }) new.now)) }
+{
+    let minus = marked(alloc, gone.relation, false, old)?;
+    let plus = marked(alloc, come.relation, true, new)?;
+    let marks = Marks::and_then(&minus, &plus)?;
+    Ok(marks)
+}
+
 /// The answers of the head whose rows go, and of the one whose rows come.
 fn replaced<L>(
     alloc: Global,
@@ -143,9 +163,7 @@ fn replaced<L>(
     let second = found(alloc, tables, body, &plan, &come.terms, moves)?;
     let (old, sense) = first;
     let (new, _) = second;
-    let minus = marked(alloc, gone.relation, false, &old)?;
-    let plus = marked(alloc, come.relation, true, &new)?;
-    let marks = Marks::and_then(&minus, &plus)?;
+    let marks = exchanged(alloc, gone, come, &old, &new)?;
     Ok(Step {
         part: Part {
             outcome: Outcome::Both(old, new),

@@ -122,8 +122,8 @@ constant_of_body = record {
   held = λ l lt. (walk_through (0 ∷ 1 ∷ []) (0 ∷ 1 ∷ []), inl refl, one_of_two l lt);
 }
 
-constant_is_ready : (r : FlatView) (terms : List Term) → r.width ≡ 2 → IsTrue (are_bound constant_body terms) → length terms ≤ 8 → IsReady r constant_body constant_plan terms
-constant_is_ready r terms w bound narrow = record {
+pub constant_ready : (r : FlatView) (terms : List Term) → r.width ≡ 2 → IsTrue (are_bound constant_body terms) → length terms ≤ 8 → IsReady r constant_body constant_plan terms
+constant_ready r terms w bound narrow = record {
   of_body = constant_of_body;
   runnable = record {
     pins = (tt, ((one_is_cell, tt), tt));
@@ -143,12 +143,6 @@ constant_is_ready r terms w bound narrow = record {
   are_bound = bound;
   narrow = narrow;
 }
-
-pub constant_ready : (r : FlatView) → r.width ≡ 2 → IsReady r constant_body constant_plan (Var 0 ∷ [])
-constant_ready r w = constant_is_ready r (Var 0 ∷ []) w refl (omega arith)
-
-pub constant_asked : (r : FlatView) → r.width ≡ 2 → IsReady r constant_body constant_plan (Cell three_cell ∷ [])
-constant_asked r w = constant_is_ready r (Cell three_cell ∷ []) w refl (omega arith)
 
 -- ---- r(x, y), r(y, z), r(x, z)
 

@@ -4,7 +4,7 @@ ghost use Rattle.lt_model.specs.Fits.{Fits};
 ghost use Rattle.lt_base.specs.Tables.{state_of};
 ghost use Rattle.lt_run_trials.specs.Sampled.{two};
 
-use crate::agree::{holds, same};
+use crate::agree::holds;
 use crate::by_hand::refused;
 use crate::comparing::{is_refused, is_same_reply};
 use crate::random::Random;
@@ -15,6 +15,7 @@ use lt_face::items::Items;
 use lt_face::memory::NoMemory;
 use lt_face::moves::Moves;
 use lt_model::normal::Prog;
+use lt_model::reply::Reply;
 use lt_program::{Outcome, Part, Tally, indexed, run, run_plain};
 use std::alloc::Global;
 use std::sync::Arc;
@@ -41,12 +42,33 @@ fn joined(alloc: Global, prog: Prog) -> Result<Tally, NoMemory>
     Ok(tally)
 }
 
+/// Whether a run by joins answered and wrote this.
+fn is_run(tally: &Tally, reply: &Reply, wrote: &Marks) -> bool {
+    is_same_reply(tally.reply(), reply) && Marks::equal(tally.marks(), wrote)
+}
+
+/// The run as it is defined.
+fn defined(alloc: Global, prog: &Prog) -> Result<(Reply, Marks), NoMemory>
+    requires { Fits two prog.now }
+{
+    run_plain(alloc, prog, &[Items::new(alloc), Items::new(alloc)])
+}
+
+/// Whether the run by joins answers and writes this.
+fn does(alloc: Global, prog: Prog, reply: &Reply, wrote: &Marks) -> Result<bool, NoMemory>
+    requires { Fits two prog }
+{
+    let tally = joined(alloc, prog)?;
+    let is_so = is_run(&tally, reply, wrote);
+    drop(tally);
+    Ok(is_so)
+}
+
 /// Whether the two runs of a program agree.
 fn agrees(alloc: Global, random: &mut Random) -> Result<bool, NoMemory> {
     let prog = program(alloc, random)?;
-    let (reply, wrote) = run_plain(alloc, &prog, &[Items::new(alloc), Items::new(alloc)])?;
-    let tally = joined(alloc, prog)?;
-    Ok(is_same_reply(tally.reply(), &reply) && Marks::equal(tally.marks(), &wrote))
+    let (reply, wrote) = defined(alloc, &prog)?;
+    does(alloc, prog, &reply, &wrote)
 }
 
 #[test]
@@ -68,19 +90,37 @@ fn is_part_of_refused(part: &Part) -> bool {
     }
 }
 
+/// Whether all parts are so.
+fn are_parts_of_refused(parts: &[Part]) -> bool {
+    for part in parts {
+        if !is_part_of_refused(part) {
+            return false;
+        }
+    }
+    true
+}
+
+/// The run by joins of a program whose requirement is false.
+fn joined_refused(alloc: Global) -> Result<Tally, NoMemory> {
+    let prog = refused(alloc)?;
+    joined(alloc, prog)
+}
+
+/// Whether the tally ended at the second of the three statements, without marks, and this is its reply.
+fn is_tally_of_refused(tally: &Tally) -> bool {
+    tally.ended()
+        && tally.evaluated() == 2
+        && tally.marks().len() == 0
+        && tally.program().len() == 3
+        && tally.base().count() == 2
+        && is_refused(tally.reply(), 2)
+        && are_parts_of_refused(tally.parts())
+}
+
 #[test]
 fn a_tally_ends_at_a_false_requirement(rt: HostRuntime) -> Result<(), NoMemory> {
-    let alloc = rt.alloc();
-    let prog = refused(alloc)?;
-    let tally = joined(alloc, prog)?;
-    holds(&rt, tally.ended());
-    same(&rt, tally.evaluated(), 2);
-    same(&rt, tally.marks().len(), 0);
-    same(&rt, tally.program().len(), 3);
-    same(&rt, tally.base().count(), 2);
-    holds(&rt, is_refused(tally.reply(), 2));
-    for part in tally.parts() {
-        holds(&rt, is_part_of_refused(part));
-    }
+    let tally = joined_refused(rt.alloc())?;
+    holds(&rt, is_tally_of_refused(&tally));
+    drop(tally);
     Ok(())
 }

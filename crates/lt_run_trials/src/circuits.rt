@@ -51,15 +51,27 @@ fn one_worker() -> [Entry; 10] {
     ]
 }
 
+/// Whether the circuit's journal is this, its effect this, and it is settled or isn't.
+fn stands(
+    alloc: Global,
+    circuit: &Circuit<Sample>,
+    entries: &[Entry],
+    rows: &[(Key, bool)],
+    settled: bool,
+) -> bool {
+    is_journal(circuit.journal(), entries)
+        && are_marks(alloc, circuit.root_effect(), rows)
+        && circuit.settled() == settled
+}
+
 /// Whether one worker settles two leaves by these events, to this effect.
 fn one_settles_two(alloc: Global) -> Result<bool, NoMemory> {
     let circuit = settled_alone(alloc, 2)?;
-    let settled = circuit.settled();
-    let in_flight = circuit.in_flight();
+    let none = circuit.in_flight() == 0;
     let entries = one_worker();
-    let same = is_journal(circuit.journal(), &entries);
-    let serial = are_marks(alloc, circuit.root_effect(), &[(1, true)]);
-    Ok(settled && in_flight == 0 && same && serial)
+    let stands = stands(alloc, &circuit, &entries, &[(1, true)], true);
+    drop(circuit);
+    Ok(none && stands)
 }
 
 #[test]
@@ -85,17 +97,25 @@ fn each_leaf_has_its_effect_and_tally(rt: HostRuntime) -> Result<(), NoMemory> {
     holds(&rt, leaf_did(alloc, &circuit, 0, 1, false));
     holds(&rt, leaf_did(alloc, &circuit, 1, 1, true));
     holds(&rt, leaf_did(alloc, &circuit, 3, 3, false));
+    drop(circuit);
     Ok(())
 }
 
 /// Whether the one leaf is given to the first worker, and what the second is told before and after its finish.
-fn one_leaf_goes_round(alloc: Global) -> Result<bool, NoMemory> {
-    let mut floor = Floor::start(alloc, Sample { alloc }, 1)?;
+fn leaf_goes_round(floor: &mut Floor<Sample>) -> bool {
     let leaf = floor.begins_leaf(0);
     let busy = floor.is_told(1);
     let done = floor.follow(&[by(0, 1)]);
     let settled = floor.is_told(0);
-    Ok(leaf && busy && done == 1 && settled)
+    leaf && busy && done == 1 && settled
+}
+
+/// Whether the one leaf of a circuit goes so.
+fn one_leaf_goes_round(alloc: Global) -> Result<bool, NoMemory> {
+    let mut floor = Floor::start(alloc, Sample { alloc }, 1)?;
+    let is_so = leaf_goes_round(&mut floor);
+    drop(floor);
+    Ok(is_so)
 }
 
 #[test]
@@ -133,9 +153,9 @@ fn stands_after(
 ) -> Result<bool, NoMemory> {
     let mut floor = Floor::start(alloc, Sample { alloc }, 2)?;
     floor.follow(entries);
-    let journal = is_journal(floor.circuit().journal(), entries);
-    let same = are_marks(alloc, floor.circuit().root_effect(), rows);
-    Ok(journal && same && floor.circuit().settled() == settled)
+    let is_so = stands(alloc, floor.circuit(), entries, rows, settled);
+    drop(floor);
+    Ok(is_so)
 }
 
 #[test]
@@ -163,6 +183,7 @@ fn settles_from(alloc: Global, entries: &[Entry], could: usize) -> Result<bool, 
     circuit.settle_alone()?;
     let want = [(1, true), (2, true), (3, false)];
     let serial = are_marks(alloc, circuit.root_effect(), &want);
+    drop(circuit);
     Ok(serial && done == could)
 }
 

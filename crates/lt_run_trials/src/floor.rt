@@ -224,6 +224,8 @@ impl<W: LeafWork> Floor<W> {
         } = self;
         end(&mut circuit, &mut first, 0, false);
         end(&mut circuit, &mut second, 1, false);
+        drop(first);
+        drop(second);
         circuit
     }
 }

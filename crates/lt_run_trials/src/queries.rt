@@ -1,5 +1,6 @@
 //! Bodies over one relation, each with a plan of it.
 ghost use Rattle.std.specs.Prelude.{◌≡◌, [], ◌∷◌, false, IfOk};
+ghost use Rattle.lt_model.specs.declared.normal.Term.TheVariants.{Var};
 ghost use Rattle.lt_run_trials.specs.Queries.{atom_over, free_level, walk_through, unary_body, unary_plan, twice_body, twice_plan, constant_body, constant_plan, triangle_body, triangle_plan};
 
 use lt_face::items::Items;
@@ -37,7 +38,7 @@ fn two<T: Drop>(alloc: Global, x: T, y: T) -> Result<Items<T>, NoMemory>
     Ok(list)
 }
 
-fn three<T: Drop>(alloc: Global, x: T, y: T, z: T) -> Result<Items<T>, NoMemory>
+pub(crate) fn three<T: Drop>(alloc: Global, x: T, y: T, z: T) -> Result<Items<T>, NoMemory>
     ensures { IfOk result (λ list. list ≡ x ∷ y ∷ z ∷ []) }
 {
     let mut list = Items::new(alloc);
@@ -129,38 +130,43 @@ fn binary(alloc: Global, terms: TermList) -> Result<Body, NoMemory>
     })
 }
 
+/// The plan of a body of one atom of two columns, whose second column has this level.
+fn binary_order(alloc: Global, second: Level) -> Result<Plan, NoMemory>
+    ensures { IfOk result (λ plan. plan ≡ record { levels = free_level (Var 0) ∷ second ∷ []; guides = walk_through (0 ∷ 1 ∷ []) (0 ∷ 1 ∷ []) ∷ [] }) }
+{
+    let levels = two(alloc, level(alloc, X), second)?;
+    let guides = one(alloc, guide(alloc, 0, 1)?)?;
+    Ok(Plan { levels, guides })
+}
+
 /// r(x, x): the second column's level is tied to the first's.
 pub(crate) fn twice(alloc: Global) -> Result<(Body, Plan), NoMemory>
     ensures { IfOk result (λ query. query ≡ (twice_body, twice_plan)) }
 {
-    let terms = two(alloc, X, X)?;
-    let body = binary(alloc, terms)?;
     let ties = one(alloc, 0)?;
     let tied = Level {
         term: X,
         pins: Items::new(alloc),
         ties,
     };
-    let levels = two(alloc, level(alloc, X), tied)?;
-    let guides = one(alloc, guide(alloc, 0, 1)?)?;
-    Ok((body, Plan { levels, guides }))
+    let plan = binary_order(alloc, tied)?;
+    let body = binary(alloc, two(alloc, X, X)?)?;
+    Ok((body, plan))
 }
 
 /// r(x, 1): the second column's level is pinned to 1.
 pub(crate) fn constant(alloc: Global) -> Result<(Body, Plan), NoMemory>
     ensures { IfOk result (λ query. query ≡ (constant_body, constant_plan)) }
 {
-    let terms = two(alloc, X, Term::Cell(ONE))?;
-    let body = binary(alloc, terms)?;
     let pins = one(alloc, ONE)?;
     let pinned = Level {
         term: Term::Cell(ONE),
         pins,
         ties: Items::new(alloc),
     };
-    let levels = two(alloc, level(alloc, X), pinned)?;
-    let guides = one(alloc, guide(alloc, 0, 1)?)?;
-    Ok((body, Plan { levels, guides }))
+    let plan = binary_order(alloc, pinned)?;
+    let body = binary(alloc, two(alloc, X, Term::Cell(ONE))?)?;
+    Ok((body, plan))
 }
 
 /// r(x, y), r(y, z), r(x, z).
@@ -178,14 +184,21 @@ pub(crate) fn triangle(alloc: Global) -> Result<Body, NoMemory>
     })
 }
 
+/// The ways through its atoms, in the order x, y, z.
+fn triangle_guides(alloc: Global) -> Result<Items<Guide>, NoMemory>
+    ensures { IfOk result (λ guides. guides ≡ triangle_plan.guides) }
+{
+    let xy = guide(alloc, 0, 1)?;
+    let yz = guide(alloc, 1, 2)?;
+    let xz = guide(alloc, 0, 2)?;
+    three(alloc, xy, yz, xz)
+}
+
 /// Its plan in the order x, y, z.
 pub(crate) fn triangle_order(alloc: Global) -> Result<Plan, NoMemory>
     ensures { IfOk result (λ plan. plan ≡ triangle_plan) }
 {
     let levels = three(alloc, level(alloc, X), level(alloc, Y), level(alloc, Z))?;
-    let xy = guide(alloc, 0, 1)?;
-    let yz = guide(alloc, 1, 2)?;
-    let xz = guide(alloc, 0, 2)?;
-    let guides = three(alloc, xy, yz, xz)?;
+    let guides = triangle_guides(alloc)?;
     Ok(Plan { levels, guides })
 }

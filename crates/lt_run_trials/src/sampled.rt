@@ -1,10 +1,12 @@
 //! Statements at random, over the relation 1 of two columns and the constants 0 to 4.
-ghost use Rattle.std.specs.Prelude.{◌≡◌, ◌≤◌, length, IfOk};
+ghost use Rattle.std.specs.Prelude.{◌≡◌, ◌≤◌, [], ◌∷◌, length, IfOk};
 ghost use Rattle.std.specs.List.{AllByRecursion};
 ghost use Rattle.lt_face.specs.Rows.{IsCell};
+ghost use Rattle.lt_model.specs.declared.normal.Term.TheVariants.{Var};
 ghost use Rattle.lt_model.specs.Fits.{Fits, FitsStatement, IsTermOf, test_terms};
 ghost use Rattle.lt_run_trials.specs.Sampled.{two, edge, sample, IsPair, IsSample};
 
+use crate::queries::three;
 use crate::random::Random;
 use crate::samples::{ZERO, no_body};
 use lt_face::items::Items;
@@ -95,16 +97,20 @@ fn edge(terms: TermList) -> Atom
     Atom { relation: 1, terms }
 }
 
+/// `e(x, y), e(y, z), e(TERMS)`.
+fn edges(alloc: Global, terms: TermList) -> Result<Items<Atom>, NoMemory>
+    ensures { IfOk result (λ atoms. atoms ≡ edge (Var 0 ∷ Var 1 ∷ []) ∷ edge (Var 1 ∷ Var 2 ∷ []) ∷ edge terms ∷ []) }
+{
+    let first = list(alloc, &[X, Y])?;
+    let second = list(alloc, &[Y, Z])?;
+    three(alloc, edge(first), edge(second), edge(terms))
+}
+
 /// `e(x, y), e(y, z), e(TERMS), TEST`.
 fn where_(alloc: Global, terms: TermList, test: Test) -> Result<Body, NoMemory>
     ensures { IfOk result (λ body. body ≡ sample terms test) }
 {
-    let mut atoms = Items::new(alloc);
-    let first = list(alloc, &[X, Y])?;
-    atoms.push(edge(first))?;
-    let second = list(alloc, &[Y, Z])?;
-    atoms.push(edge(second))?;
-    atoms.push(edge(terms))?;
+    let atoms = edges(alloc, terms)?;
     let tests = Vec::from_slice(alloc, &[test])?;
     Ok(Body {
         atoms,

@@ -1,11 +1,12 @@
 //! Programs that work on the rows of one relation r(int).
-ghost use Rattle.std.specs.Prelude.{◌≡◌, ◌∷◌, [], map, length, IfOk};
+ghost use Rattle.std.specs.Prelude.{◌≡◌, ◌++◌, ◌∷◌, [], map, length, IfOk};
 ghost use Rattle.std.specs.Arc.{arc_value};
 ghost use Rattle.std.specs.List.{AllByRecursion};
 ghost use Rattle.lt_face.specs.Rows.{IsCell};
 ghost use Rattle.lt_run_trials.specs.Samples as samples;
 ghost use Rattle.lt_run_trials.specs.Samples.{FitsColumn};
 
+use crate::queries::one;
 use lt_face::items::Items;
 use lt_face::key::Key;
 use lt_face::memory::NoMemory;
@@ -125,13 +126,11 @@ fn lower(alloc: Global) -> Result<Stmt, NoMemory>
     Ok(Stmt::Replace { gone, come, body })
 }
 
-/// A program of two statements.
-fn two(alloc: Global, first: Stmt, second: Stmt) -> Result<Arc<Prog>, NoMemory>
-    ensures { IfOk result (λ prog. arc_value prog ≡ first ∷ second ∷ []) }
+/// A program of these statements and a last one.
+fn ended(alloc: Global, mut stmts: Prog, last: Stmt) -> Result<Arc<Prog>, NoMemory>
+    ensures { IfOk result (λ prog. arc_value prog ≡ stmts ++ last ∷ []) }
 {
-    let mut stmts = Items::new(alloc);
-    stmts.push(first)?;
-    stmts.push(second)?;
+    stmts.push(last)?;
     let prog = Arc::new(alloc, stmts)?;
     Ok(prog)
 }
@@ -140,10 +139,9 @@ fn two(alloc: Global, first: Stmt, second: Stmt) -> Result<Arc<Prog>, NoMemory>
 fn taking(alloc: Global) -> Result<Arc<Prog>, NoMemory>
     ensures { IfOk result (λ prog. FitsColumn (arc_value prog)) }
 {
-    let need = need(alloc)?;
+    let begun = one(alloc, need(alloc)?)?;
     let lower = lower(alloc)?;
-    let prog = two(alloc, need, lower)?;
-    Ok(prog)
+    ended(alloc, begun, lower)
 }
 
 /// `insert r(CELL); print (x) where r(x);`
@@ -151,10 +149,9 @@ pub(crate) fn adding(alloc: Global, cell: Key) -> Result<Arc<Prog>, NoMemory>
     requires { IsCell cell }
     ensures { IfOk result (λ prog. FitsColumn (arc_value prog)) }
 {
-    let insert = insert(alloc, cell)?;
+    let begun = one(alloc, insert(alloc, cell)?)?;
     let print = print(alloc)?;
-    let prog = two(alloc, insert, print)?;
-    Ok(prog)
+    ended(alloc, begun, print)
 }
 
 /// `delete r(CELL); print (x) where r(x);`
@@ -162,10 +159,9 @@ pub(crate) fn removing(alloc: Global, cell: Key) -> Result<Arc<Prog>, NoMemory>
     requires { IsCell cell }
     ensures { IfOk result (λ prog. FitsColumn (arc_value prog)) }
 {
-    let delete = delete(alloc, cell)?;
+    let begun = one(alloc, delete(alloc, cell)?)?;
     let print = print(alloc)?;
-    let prog = two(alloc, delete, print)?;
-    Ok(prog)
+    ended(alloc, begun, print)
 }
 
 /// Program number i of a mixed batch.

@@ -3,9 +3,10 @@ ghost use Rattle.std.specs.Prelude.{◌≡◌, IfOk, map};
 ghost use Rattle.std.specs.List.{AllByRecursion};
 ghost use Rattle.lt_model.specs.Limits.{IsWithinLimits};
 ghost use Rattle.lt_reading.specs.Language.{full};
-ghost use Rattle.lt_grammar.specs.Grammar.{IsTerm, IsHead, IsLiteral, IsStatement, IsProgram, IsItem, IsVersion, IsForm};
-ghost use Rattle.lt_grammar.specs.Meaning.{term_value, head_value, literal_value, statement_value, program_value, version_value, item_value};
-ghost use Rattle.lt_script.specs.Tree.{term_of, head_of, literal_of, statement_of, program_of, digits_of, item_of, HasKinds};
+ghost use Rattle.lt_grammar.specs.Grammar as grammar;
+ghost use Rattle.lt_grammar.specs.Grammar.{IsTerm, AreTerms, IsHead, IsLiteral, AreLiterals, IsWhere, IsStatement, IsProgram, IsItem, IsVersion, IsForm};
+ghost use Rattle.lt_grammar.specs.Meaning.{term_value, head_value, literal_value, body_value, statement_value, program_value, version_value, item_value};
+ghost use Rattle.lt_script.specs.Tree.{term_of, terms_of, head_of, literal_of, literals_of, body_of, statement_of, program_of, digits_of, item_of, HasKinds};
 
 use crate::cells::{int_cell, number, symbol_cell};
 use crate::label::Label;
@@ -98,33 +99,77 @@ fn literals(alloc: Global, literals: &[tree::Literal]) -> Result<LiteralList, No
     Ok(built)
 }
 
-#[tactic(auto, using(crate::proofs::Splits::each_term, crate::proofs::Splits::terms_same, crate::proofs::Splits::each_literal, crate::proofs::Splits::body_same, crate::proofs::Splits::each_where))]
+// The head and the body of an insertion or a deletion.
+#[tactic(auto, using(crate::proofs::Splits::each_where))]
+fn rule(
+    alloc: Global,
+    head: &tree::Head,
+    body: &[tree::Literal],
+) -> Result<(Head, LiteralList), NoMemory>
+    requires head { IsHead full (head_of head.now) }
+    requires body { IsWhere full (literals_of body.now) }
+    ensures { IfOk result (λ built. built ≡ (head_value (head_of head.now), map literal_value (literals_of body.now))) }
+{
+    let head = self::head(alloc, head)?;
+    let body = literals(alloc, body)?;
+    Ok((head, body))
+}
+
+// A body that isn't empty.
+#[tactic(auto, using(crate::proofs::Splits::each_literal, crate::proofs::Splits::body_same))]
+fn body(alloc: Global, body: &[tree::Literal]) -> Result<LiteralList, NoMemory>
+    requires { AreLiterals full (body_of body.now).0 (body_of body.now).1 }
+    ensures { IfOk result (λ built. built ≡ body_value (body_of body.now).0 (body_of body.now).1) }
+{
+    literals(alloc, body)
+}
+
+// A replacement.
+fn replace(
+    alloc: Global,
+    gone: &tree::Head,
+    come: &tree::Head,
+    body: &[tree::Literal],
+) -> Result<Statement, NoMemory>
+    requires { IsForm full (grammar.replace (head_of gone.now) (head_of come.now) (literals_of body.now)) }
+    ensures { IfOk result (λ built. built ≡ statement_value (grammar.replace (head_of gone.now) (head_of come.now) (literals_of body.now))) }
+{
+    let gone = head(alloc, gone)?;
+    let (come, body) = rule(alloc, come, body)?;
+    Ok(Statement::Replace { gone, come, body })
+}
+
+// A question about terms.
+#[tactic(auto, using(crate::proofs::Splits::each_term, crate::proofs::Splits::terms_same))]
+fn print(alloc: Global, terms: &[tree::Term], body: &[tree::Literal]) -> Result<Statement, NoMemory>
+    requires terms { AreTerms full (terms_of terms.now).0 (terms_of terms.now).1 }
+    requires body { AreLiterals full (body_of body.now).0 (body_of body.now).1 }
+    ensures { IfOk result (λ built. built ≡ statement_value (grammar.print (terms_of terms.now).0 (terms_of terms.now).1 (body_of body.now).0 (body_of body.now).1)) }
+{
+    let terms = self::terms(alloc, terms)?;
+    let body = self::body(alloc, body)?;
+    Ok(Statement::Print { terms, body })
+}
+
 fn statement(alloc: Global, statement: &tree::Statement) -> Result<Statement, NoMemory>
     requires { IsForm full (statement_of statement.now) }
     ensures { IfOk result (λ built. built ≡ statement_value (statement_of statement.now)) }
 {
     match statement {
-        tree::Statement::Insert { head, body } => Ok(Statement::Insert {
-            head: self::head(alloc, head)?,
-            body: literals(alloc, body)?,
-        }),
-        tree::Statement::Delete { head, body } => Ok(Statement::Delete {
-            head: self::head(alloc, head)?,
-            body: literals(alloc, body)?,
-        }),
-        tree::Statement::Replace { gone, come, body } => Ok(Statement::Replace {
-            gone: head(alloc, gone)?,
-            come: head(alloc, come)?,
-            body: literals(alloc, body)?,
-        }),
-        tree::Statement::Require { some, body } => Ok(Statement::Need {
-            some: *some,
-            body: literals(alloc, body)?,
-        }),
-        tree::Statement::Print { terms, body } => Ok(Statement::Print {
-            terms: self::terms(alloc, terms)?,
-            body: literals(alloc, body)?,
-        }),
+        tree::Statement::Insert { head, body } => {
+            let (head, body) = rule(alloc, head, body)?;
+            Ok(Statement::Insert { head, body })
+        }
+        tree::Statement::Delete { head, body } => {
+            let (head, body) = rule(alloc, head, body)?;
+            Ok(Statement::Delete { head, body })
+        }
+        tree::Statement::Replace { gone, come, body } => replace(alloc, gone, come, body),
+        tree::Statement::Require { some, body } => {
+            let body = self::body(alloc, body)?;
+            Ok(Statement::Need { some: *some, body })
+        }
+        tree::Statement::Print { terms, body } => print(alloc, terms, body),
     }
 }
 

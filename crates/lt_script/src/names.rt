@@ -28,8 +28,8 @@ fn push_terms<'a>(names: &mut Vec<&'a [u8]>, terms: &[Term<'a>]) -> Result<(), A
     Ok(())
 }
 
-// Whether the text is among these.
-fn contains(names: &[&[u8]], text: &[u8]) -> bool
+/// Whether the text is among these.
+pub(crate) fn contains(names: &[&[u8]], text: &[u8]) -> bool
     ensures { result ≡ list_any (bytes_eq text.now) (texts names.now) }
 {
     for name in names {
@@ -61,16 +61,25 @@ fn without_repeats<'a>(alloc: Global, names: &[&'a [u8]]) -> Result<Vec<&'a [u8]
     Ok(once)
 }
 
+// The names of two terms.
+fn push_both<'a>(
+    names: &mut Vec<&'a [u8]>,
+    left: Term<'a>,
+    right: Term<'a>,
+) -> Result<(), AllocError>
+    ensures { IfOk result (λ x. texts names.new.items ≡ texts names.old.items ++ (term_names (term_of left.entry) ++ term_names (term_of right.entry))) }
+{
+    push_term(names, left)?;
+    push_term(names, right)
+}
+
 #[tactic(auto, using(crate::proofs::Splitting::argument_names))]
 fn push_literal<'a>(names: &mut Vec<&'a [u8]>, literal: &Literal<'a>) -> Result<(), AllocError>
     ensures { IfOk result (λ x. texts names.new.items ≡ texts names.old.items ++ literal_names (literal_of literal.now)) }
 {
     match literal {
-        Literal::Atom(head) => push_terms(names, &head.terms)?,
-        Literal::Compare { left, right, .. } => {
-            push_term(names, *left)?;
-            push_term(names, *right)?;
-        }
+        Literal::Atom(head) => push_terms(names, &head.terms),
+        Literal::Compare { left, right, .. } => push_both(names, *left, *right),
         Literal::Sum {
             name,
             left,
@@ -78,11 +87,9 @@ fn push_literal<'a>(names: &mut Vec<&'a [u8]>, literal: &Literal<'a>) -> Result<
             ..
         } => {
             names.push(name.bytes)?;
-            push_term(names, *left)?;
-            push_term(names, *right)?;
+            push_both(names, *left, *right)
         }
     }
-    Ok(())
 }
 
 fn push_literals<'a>(names: &mut Vec<&'a [u8]>, literals: &[Literal<'a>]) -> Result<(), AllocError>
@@ -94,6 +101,18 @@ fn push_literals<'a>(names: &mut Vec<&'a [u8]>, literals: &[Literal<'a>]) -> Res
     Ok(())
 }
 
+// The names of a statement's terms and of its body.
+fn push_rule<'a>(
+    names: &mut Vec<&'a [u8]>,
+    terms: &[Term<'a>],
+    body: &[Literal<'a>],
+) -> Result<(), AllocError>
+    ensures { IfOk result (λ x. texts names.new.items ≡ texts names.old.items ++ (flat_map term_names (map term_of terms.now) ++ flat_map literal_names (map literal_of body.now))) }
+{
+    push_terms(names, terms)?;
+    push_literals(names, body)
+}
+
 #[tactic(auto, using(crate::proofs::Splitting::argument_names, crate::proofs::Splitting::bodys_names))]
 fn push_statement<'a>(
     names: &mut Vec<&'a [u8]>,
@@ -102,26 +121,16 @@ fn push_statement<'a>(
     ensures { IfOk result (λ x. texts names.new.items ≡ texts names.old.items ++ statement_names (statement_of statement.now)) }
 {
     match statement {
-        Statement::Insert { head, body } => {
-            push_terms(names, &head.terms)?;
-            push_literals(names, body)?;
-        }
-        Statement::Delete { head, body } => {
-            push_terms(names, &head.terms)?;
-            push_literals(names, body)?;
+        Statement::Insert { head, body } | Statement::Delete { head, body } => {
+            push_rule(names, &head.terms, body)
         }
         Statement::Replace { gone, come, body } => {
             push_terms(names, &gone.terms)?;
-            push_terms(names, &come.terms)?;
-            push_literals(names, body)?;
+            push_rule(names, &come.terms, body)
         }
-        Statement::Require { body, .. } => push_literals(names, body)?,
-        Statement::Print { terms, body } => {
-            push_terms(names, terms)?;
-            push_literals(names, body)?;
-        }
+        Statement::Require { body, .. } => push_literals(names, body),
+        Statement::Print { terms, body } => push_rule(names, terms, body),
     }
-    Ok(())
 }
 
 /// Whether a statement has at most sixteen variables.

@@ -1,15 +1,16 @@
 //! Parts of the language that are one token.
 ghost use Rattle.std.specs.Prelude.{◌≡◌};
-ghost use Rattle.lt_reading.specs.Reading.{token as this_token, next_is};
+ghost use Rattle.lt_reading.specs.Reading.{token as this_token, next_is, in_table};
 ghost use Rattle.lt_model.specs.Tokens.{word as word_shape, sign as sign_shape};
 ghost use Rattle.lt_grammar.specs.Tokens.{same_shape, is_reserved as reserved_test};
-ghost use Rattle.lt_grammar.specs.Productions.{stands, is_word as word_test, is_number as number_test, is_plus, name_at, number_at, quoted_at, op_at, other_op_at, plus_at, need_at, kind_at};
+ghost use Rattle.lt_grammar.specs.Productions.{stands, is_word as word_test, is_number as number_test, is_plus, name_at, number_at, quoted_at, op_at, other_ops, other_op_at, plus_at, need_at, kind_at};
 ghost use Rattle.lt_script.specs.View.{shape};
 ghost use Rattle.lt_script.specs.Ahead.{shapes};
 ghost use Rattle.lt_script.specs.Parsed.{Parses};
 
 use crate::cursor::Cursor;
 use crate::label::Label;
+use crate::names::contains;
 use crate::range::is_int;
 use crate::refusal::{Cause, Refusal};
 use crate::token::{Lexeme, Token};
@@ -36,31 +37,56 @@ impl<'a> Token<'a> {
             _ => false,
         }
     }
+
+    // The comparison that it is, but `=`.
+    fn other_op(&self) -> Option<Op>
+        ensures { result ≡ in_table same_shape other_ops (shape self.now) }
+    {
+        if self.is_sign(b"!=") {
+            return Some(Op::Ne);
+        }
+        if self.is_sign(b"<") {
+            return Some(Op::Lt);
+        }
+        if self.is_sign(b"<=") {
+            return Some(Op::Le);
+        }
+        if self.is_sign(b">") {
+            return Some(Op::Gt);
+        }
+        if self.is_sign(b">=") {
+            return Some(Op::Ge);
+        }
+        None
+    }
 }
 
 /// Whether the word is no name.
 pub fn is_reserved(text: &[u8]) -> bool
     ensures { result ≡ reserved_test text.now }
 {
-    text == b"relation".as_slice()
-        || text == b"batch".as_slice()
-        || text == b"program".as_slice()
-        || text == b"end".as_slice()
-        || text == b"commit".as_slice()
-        || text == b"show".as_slice()
-        || text == b"at".as_slice()
-        || text == b"insert".as_slice()
-        || text == b"delete".as_slice()
-        || text == b"replace".as_slice()
-        || text == b"by".as_slice()
-        || text == b"where".as_slice()
-        || text == b"require".as_slice()
-        || text == b"some".as_slice()
-        || text == b"none".as_slice()
-        || text == b"print".as_slice()
-        || text == b"int".as_slice()
-        || text == b"sym".as_slice()
-        || text == b"not".as_slice()
+    let reserved = [
+        b"relation".as_slice(),
+        b"batch".as_slice(),
+        b"program".as_slice(),
+        b"end".as_slice(),
+        b"commit".as_slice(),
+        b"show".as_slice(),
+        b"at".as_slice(),
+        b"insert".as_slice(),
+        b"delete".as_slice(),
+        b"replace".as_slice(),
+        b"by".as_slice(),
+        b"where".as_slice(),
+        b"require".as_slice(),
+        b"some".as_slice(),
+        b"none".as_slice(),
+        b"print".as_slice(),
+        b"int".as_slice(),
+        b"sym".as_slice(),
+        b"not".as_slice(),
+    ];
+    contains(&reserved, text)
 }
 
 /// What is answered where the token that stands next isn't allowed.
@@ -212,27 +238,14 @@ impl<'a> Cursor<'a> {
         ensures { Parses (λ x. x) result self.old self.new other_op_at }
     {
         match self.peek() {
-            Some(first) if first.is_sign(b"!=") => {
-                self.advance();
-                Ok(Op::Ne)
-            }
-            Some(first) if first.is_sign(b"<") => {
-                self.advance();
-                Ok(Op::Lt)
-            }
-            Some(first) if first.is_sign(b"<=") => {
-                self.advance();
-                Ok(Op::Le)
-            }
-            Some(first) if first.is_sign(b">") => {
-                self.advance();
-                Ok(Op::Gt)
-            }
-            Some(first) if first.is_sign(b">=") => {
-                self.advance();
-                Ok(Op::Ge)
-            }
-            _ => not_allowed(),
+            Some(first) => match first.other_op() {
+                Some(op) => {
+                    self.advance();
+                    Ok(op)
+                }
+                None => not_allowed(),
+            },
+            None => not_allowed(),
         }
     }
 

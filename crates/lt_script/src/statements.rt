@@ -1,27 +1,37 @@
 //! Statements up to the semicolon, where their variables are counted.
 ghost use Rattle.std.specs.Prelude.{◌≡◌, map};
-ghost use Rattle.lt_reading.specs.Reading.{next_is, given, many, at_once};
-ghost use Rattle.lt_grammar.specs.Grammar.{insert, delete, replace, require, print};
-ghost use Rattle.lt_grammar.specs.Productions.{insert_at, delete_at, replace_at, require_at, print_at, form_at, statement_at, starts_statement as begins_statement};
+ghost use Rattle.lt_reading.specs.Reading.{next_is, given, both, close as closing, many, at_once};
+ghost use Rattle.lt_model.specs.Grammar.{semicolon};
+ghost use Rattle.lt_grammar.specs.Tokens.{same_shape};
+ghost use Rattle.lt_grammar.specs.Grammar.{insert, delete, replace, require, print, few_names};
+ghost use Rattle.lt_grammar.specs.Productions.{head_at, where_at, insert_at, delete_at, replace_at, require_at, print_at, form_at, statement_at, starts_statement as begins_statement};
 ghost use Rattle.lt_script.specs.Ahead.{shapes};
-ghost use Rattle.lt_script.specs.Tree.{statement_of};
+ghost use Rattle.lt_script.specs.Tree.{head_of, literals_of, statement_of};
 ghost use Rattle.lt_script.specs.Parsed.{Parses};
 
 use crate::cursor::Cursor;
 use crate::names::has_few_names;
 use crate::one_token::not_allowed;
 use crate::refusal::{Cause, Refusal};
-use crate::tree::Statement;
+use crate::tree::{Head, Literal, Statement};
 use std::alloc::Global;
 
 impl<'a> Cursor<'a> {
+    // A head and the `where` part behind it.
+    fn rule(&mut self, alloc: Global) -> Result<(Head<'a>, Vec<Literal<'a>>), Refusal>
+        ensures { Parses (λ x. (head_of x.0, literals_of x.1.items)) result self.old self.new (both head_at where_at) }
+    {
+        let head = self.head(alloc)?;
+        let body = self.where_part(alloc)?;
+        Ok((head, body))
+    }
+
     #[tactic(auto, unfolding(lt_grammar::specs::Productions::insert_at))]
     fn insert(&mut self, alloc: Global) -> Result<Statement<'a>, Refusal>
         ensures { Parses statement_of result self.old self.new (given (λ x. insert x.0 x.1) insert_at) }
     {
         self.word(b"insert")?;
-        let head = self.head(alloc)?;
-        let body = self.where_part(alloc)?;
+        let (head, body) = self.rule(alloc)?;
         Ok(Statement::Insert { head, body })
     }
 
@@ -30,8 +40,7 @@ impl<'a> Cursor<'a> {
         ensures { Parses statement_of result self.old self.new (given (λ x. delete x.0 x.1) delete_at) }
     {
         self.word(b"delete")?;
-        let head = self.head(alloc)?;
-        let body = self.where_part(alloc)?;
+        let (head, body) = self.rule(alloc)?;
         Ok(Statement::Delete { head, body })
     }
 
@@ -42,8 +51,7 @@ impl<'a> Cursor<'a> {
         self.word(b"replace")?;
         let gone = self.head(alloc)?;
         self.word(b"by")?;
-        let come = self.head(alloc)?;
-        let body = self.where_part(alloc)?;
+        let (come, body) = self.rule(alloc)?;
         Ok(Statement::Replace { gone, come, body })
     }
 
@@ -88,19 +96,27 @@ impl<'a> Cursor<'a> {
         self.print(alloc)
     }
 
-    // A statement and the semicolon that ends it. It has at most sixteen variables.
-    #[tactic(auto, using(crate::proofs::Choice::close_refuses, crate::proofs::Choice::close_full, crate::proofs::Choice::close_ends), unfolding(lt_grammar::specs::Productions::statement_at))]
+    // The semicolon that ends a statement. It has at most sixteen variables.
+    #[tactic(auto, using(crate::proofs::Choice::close_refuses, crate::proofs::Choice::close_full, crate::proofs::Choice::close_ends))]
+    fn close(&mut self, alloc: Global, statement: &Statement<'a>) -> Result<(), Refusal>
+        ensures { Parses (λ x. statement_of statement.now) result self.old self.new (closing (λ t. same_shape t semicolon) (few_names (statement_of statement.now)) (statement_of statement.now)) }
+    {
+        if !self.sign_stands(b";") {
+            return not_allowed();
+        }
+        if !has_few_names(alloc, statement)? {
+            return Err(Refusal::Fault(Cause::TooFull));
+        }
+        self.sign(b";")
+    }
+
+    // A statement and the semicolon that ends it.
+    #[tactic(auto, unfolding(lt_grammar::specs::Productions::statement_at))]
     fn statement(&mut self, alloc: Global) -> Result<Statement<'a>, Refusal>
         ensures { Parses statement_of result self.old self.new statement_at }
     {
         let statement = self.form(alloc)?;
-        if !self.sign_stands(b";") {
-            return not_allowed();
-        }
-        if !has_few_names(alloc, &statement)? {
-            return Err(Refusal::Fault(Cause::TooFull));
-        }
-        self.sign(b";")?;
+        self.close(alloc, &statement)?;
         Ok(statement)
     }
 

@@ -1,9 +1,10 @@
 //! Terms, and relations with their arguments.
 ghost use Rattle.std.specs.Prelude.{◌≡◌, ◌∷◌, IfOk, drop, map};
-ghost use Rattle.lt_reading.specs.Reading.{next_is, led, past_comma};
+ghost use Rattle.lt_reading.specs.Reading.{next_is, given, led, past_comma};
 ghost use Rattle.lt_model.specs.Grammar.{comma};
 ghost use Rattle.lt_grammar.specs.Tokens.{same_shape};
-ghost use Rattle.lt_grammar.specs.Productions.{constant_at, term_at, starts_term as begins_term, terms_at, head_at};
+ghost use Rattle.lt_grammar.specs.Grammar.{numeral};
+ghost use Rattle.lt_grammar.specs.Productions.{number_at, constant_at, term_at, starts_term as begins_term, terms_at, head_at};
 ghost use Rattle.lt_script.specs.Ahead.{shapes};
 ghost use Rattle.lt_script.specs.Tree.{term_of, terms_of, head_of};
 ghost use Rattle.lt_script.specs.Parsed.{Parses, Refuses, further};
@@ -16,6 +17,14 @@ use crate::tree::{Head, Term};
 use std::alloc::Global;
 
 impl<'a> Cursor<'a> {
+    // A number as a term, behind a minus or without one.
+    fn numeral(&mut self, minus: bool) -> Result<Term<'a>, Refusal>
+        ensures { Parses term_of result self.old self.new (given (λ digits. numeral minus digits) (number_at minus)) }
+    {
+        let digits = self.number(minus)?;
+        Ok(Term::Numeral { minus, digits })
+    }
+
     /// A term that is no name.
     #[tactic(auto, using(crate::proofs::Choice::constant_minus, crate::proofs::Choice::constant_number, crate::proofs::Choice::constant_quoted))]
     pub fn constant(&mut self) -> Result<Term<'a>, Refusal>
@@ -23,18 +32,10 @@ impl<'a> Cursor<'a> {
     {
         if self.sign_stands(b"-") {
             self.sign(b"-")?;
-            let digits = self.number(true)?;
-            return Ok(Term::Numeral {
-                minus: true,
-                digits,
-            });
+            return self.numeral(true);
         }
         if self.number_stands() {
-            let digits = self.number(false)?;
-            return Ok(Term::Numeral {
-                minus: false,
-                digits,
-            });
+            return self.numeral(false);
         }
         let text = self.quoted()?;
         Ok(Term::Quoted(text))

@@ -5,13 +5,13 @@ ghost use Rattle.std.specs.List.{AllByRecursion};
 ghost use Rattle.lt_face.specs.State.{State};
 ghost use Rattle.lt_model.specs.Check.{checked};
 ghost use Rattle.lt_model.specs.Limits.{IsProgramWithin};
-ghost use Rattle.lt_model.specs.Report.{good_of};
+ghost use Rattle.lt_model.specs.Report.{good_of, batch_text, version_text};
 ghost use Rattle.lt_model.specs.declared.syntax.Program.{Program as ProgramType};
 ghost use Rattle.lt_check.specs.States.{IsStateOf};
 ghost use Rattle.lt_program.specs.Run.{AreReplied};
 ghost use Rattle.lt_session.specs.Batches.{checked_of, FitsIfGood, told};
 
-use crate::text::{put_bad_program, put_reply};
+use crate::text::{put_bad_program, put_batch, put_reply, put_version};
 use lt_check::check::{CheckFault, check};
 use lt_check::schema::Schema;
 use lt_face::NoMemory;
@@ -111,5 +111,24 @@ pub fn put_programs(
             }
         }
     }
+    Ok(())
+}
+
+/// The lines of a batch: its number, its programs in batch order, and its version, which has the same number.
+pub fn put_report(
+    out: &mut Vec<u8>,
+    number: u64,
+    programs: &[Program],
+    judgements: &[Judgement],
+    replies: &[Reply],
+) -> Result<(), NoMemory>
+    requires same { length judgements.now ≡ length programs.now }
+    requires enough { length (filter_map good_of (map checked_of judgements.now)) ≤ length replies.now }
+    requires replied { AllByRecursion AreReplied replies.now }
+    ensures { OnOk result (out.new.items ≡ ((out.old.items ++ batch_text number) ++ told programs.now (map checked_of judgements.now) replies.now) ++ version_text number) }
+{
+    put_batch(out, number)?;
+    put_programs(out, programs, judgements, replies)?;
+    put_version(out, number)?;
     Ok(())
 }

@@ -1,5 +1,5 @@
 //! What a script has made so far.
-ghost use Rattle.std.specs.Prelude.{◌≡◌, ◌≤◌, length, IfOk, OnOk};
+ghost use Rattle.std.specs.Prelude.{◌≡◌, ◌≤◌, ◌++◌, ◌∷◌, [], length, IfOk, OnOk};
 ghost use Rattle.std.specs.List.{AllByRecursion};
 ghost use Rattle.std.specs.Option.{option_copied};
 ghost use Rattle.lt_model.specs.declared.syntax.Item.TheVariants as items;
@@ -7,8 +7,8 @@ ghost use Rattle.lt_model.specs.Limits.{IsWithinLimits, IsProgramWithin};
 ghost use Rattle.lt_model.specs.Report.{opening};
 ghost use Rattle.lt_session.specs.Versions.{database_of};
 
-use crate::batch::{all_judged, good_ones, put_programs};
-use crate::text::{put_bad, put_batch, put_show, put_version};
+use crate::batch::{all_judged, good_ones, put_report};
+use crate::text::{put_bad, put_show};
 use lt_base::Database;
 use lt_batch::run_batch;
 use lt_check::schema::{DeclareFault, Schema};
@@ -104,6 +104,19 @@ impl World {
         Ok(())
     }
 
+    /// Makes this the database and its next version.
+    fn keep(&mut self, database: &Database) -> Result<(), NoMemory>
+        ensures database { OnOk result (self.new.database ≡ database.now) }
+        ensures versions { OnOk result (self.new.versions.items ≡ self.old.versions.items ++ database.now ∷ []) }
+        ensures schema { OnOk result (self.new.schema ≡ self.old.schema) }
+        ensures report { OnOk result (self.new.report ≡ self.old.report) }
+    {
+        let version = database.share()?;
+        self.versions.push(version)?;
+        self.database = database.share()?;
+        Ok(())
+    }
+
     /// Runs a batch and makes its version. The programs without a code are the leaves of a repair circuit.
     pub fn batch<G: Gate>(
         &mut self,
@@ -120,17 +133,14 @@ impl World {
         let judgements = all_judged(alloc, programs, &self.schema)?;
         let good = good_ones(alloc, &judgements)?;
         let outcome = run_batch(alloc, &self.database, &good, WORKERS, gate)?;
-        put_batch(&mut self.report, number)?;
-        put_programs(
+        put_report(
             &mut self.report,
+            number,
             programs,
             &judgements,
             outcome.replies.as_slice(),
         )?;
-        put_version(&mut self.report, number)?;
-        let version = outcome.db.share()?;
-        self.versions.push(version)?;
-        self.database = outcome.db.share()?;
+        self.keep(&outcome.db)?;
         Ok(())
     }
 

@@ -1,4 +1,4 @@
-use Rattle.std.proofs.Common.{◌∙◌, [], ◌∷◌, ap, sym, subst, arith}
+use Rattle.std.proofs.Common.{rules, ◌∙◌, [], ◌∷◌, ap, sym, subst, arith}
 use Rattle.lt_net.specs.Tree.{code_of, inputs_of, tree_of}
 use Rattle.lt_net.proofs.Inside.{leaf_inside, merge_inside, correct_inside}
 use Rattle.lt_circuit.specs.Job.{done_inputs, done_name, Gave}
@@ -36,3 +36,6 @@ pub returns-in-PassedOn-clause-state : goal.returns-in-PassedOn-clause-state
 returns-in-PassedOn-clause-state g c = λ does claim job ins gave.
     c.finish_correct.ensures.state does claim c.in-PassedOn._left (job ∙ ap (λ d. code_of (done_name d)) c.in-PassedOn.is)
     (ins ∙ ap done_inputs c.in-PassedOn.is) (subst (Gave does) c.in-PassedOn.is gave)
+
+pub returns-in-Ran-clause-tallies : goal.returns-in-Ran-clause-tallies
+returns-in-Ran-clause-tallies g c = search rules

@@ -35,23 +35,23 @@ loop-joined-init g t c = record {
 
 pub add_hits-requires-clause-iters : goal.add_hits-requires-clause-iters
 add_hits-requires-clause-iters g t c =
-    let pushed : c.push-in-loop-joined.new.self ≡ c.args.keys.now ++ c.loop-joined.joined.key ∷ [] = c.in_ok-push-2.ensures.ok ∙ ap (λ ks. ks ++ c.loop-joined.joined.key ∷ []) c.loop-joined.invariant.way.same in
-    next_iters (g.I.Indexes.state c.args.tables.now) c.args.plan.now.guides c.args.keys.now c.loop-joined.keys c.push-in-loop-joined.new.self c.loop-joined.joined.key c.in_ok-next.next.items c.deref.result.now c.loop-joined.invariant.way.same pushed c.deref.ensures.value c.in_ok-next.ensures
+    let pushed : c.push.new.self ≡ c.args.keys.now ++ c.loop-joined.joined.key ∷ [] = c.in_ok-push.ensures.ok ∙ ap (λ ks. ks ++ c.loop-joined.joined.key ∷ []) c.loop-joined.invariant.way.same in
+    next_iters (g.I.Indexes.state c.args.tables.now) c.args.plan.now.guides c.args.keys.now c.loop-joined.keys c.push.new.self c.loop-joined.joined.key c.in_ok-next.next.items c.deref.result.now c.loop-joined.invariant.way.same pushed c.deref.ensures.value c.in_ok-next.ensures
 
 pub add_hits-requires-clause-hits : goal.add_hits-requires-clause-hits
 add_hits-requires-clause-hits g t c =
-    let pushed : c.push-in-loop-joined.new.self ≡ c.args.keys.now ++ c.loop-joined.joined.key ∷ [] = c.in_ok-push-2.ensures.ok ∙ ap (λ ks. ks ++ c.loop-joined.joined.key ∷ []) c.loop-joined.invariant.way.same in
-    hits_before c.args.found.now.sense c.loop-joined.found.sense c.loop-joined.invariant.way.grows.sense c.args.plan.now.guides c.args.keys.now c.push-in-loop-joined.new.self c.loop-joined.joined.key pushed c.requires.reached.hits
+    let pushed : c.push.new.self ≡ c.args.keys.now ++ c.loop-joined.joined.key ∷ [] = c.in_ok-push.ensures.ok ∙ ap (λ ks. ks ++ c.loop-joined.joined.key ∷ []) c.loop-joined.invariant.way.same in
+    hits_before c.args.found.now.sense c.loop-joined.found.sense c.loop-joined.invariant.way.grows.sense c.args.plan.now.guides c.args.keys.now c.push.new.self c.loop-joined.joined.key pushed c.requires.reached.hits
 
 pub next_key-requires-clause-is_open : goal.next_key-requires-clause-is_open
 next_key-requires-clause-is_open g t c =
-    let pushed : c.push-in-loop-joined.new.self ≡ c.args.keys.now ++ c.loop-joined.joined.key ∷ [] = c.in_ok-push-2.ensures.ok ∙ ap (λ ks. ks ++ c.loop-joined.joined.key ∷ []) c.loop-joined.invariant.way.same in
+    let pushed : c.push.new.self ≡ c.args.keys.now ++ c.loop-joined.joined.key ∷ [] = c.in_ok-push.ensures.ok ∙ ap (λ ks. ks ++ c.loop-joined.joined.key ∷ []) c.loop-joined.invariant.way.same in
     let back : c.pop.new.self ≡ c.args.keys.now = popped c.args.keys.now c.loop-joined.joined.key c.descend.new.keys c.pop.new.self (c.in_ok-stopped.ensures.back ∙ pushed) c.pop.ensures in
     subst (λ (ks : List ℕ). IsOpen c.args.plan.now (g.I.Indexes.state c.args.tables.now) ks c.index-as_slice-depth.result c.loop-joined.joined.leap c.loop-joined.joined.key) (sym back) c.loop-joined.invariant.is_open
 
 pub next_key-requires-clause-usable : goal.next_key-requires-clause-usable
 next_key-requires-clause-usable g t c =
-    let pushed : c.push-in-loop-joined.new.self ≡ c.args.keys.now ++ c.loop-joined.joined.key ∷ [] = c.in_ok-push-2.ensures.ok ∙ ap (λ ks. ks ++ c.loop-joined.joined.key ∷ []) c.loop-joined.invariant.way.same in
+    let pushed : c.push.new.self ≡ c.args.keys.now ++ c.loop-joined.joined.key ∷ [] = c.in_ok-push.ensures.ok ∙ ap (λ ks. ks ++ c.loop-joined.joined.key ∷ []) c.loop-joined.invariant.way.same in
     let back : c.pop.new.self ≡ c.args.keys.now = popped c.args.keys.now c.loop-joined.joined.key c.descend.new.keys c.pop.new.self (c.in_ok-stopped.ensures.back ∙ pushed) c.pop.ensures in
     let apart : length c.args.keys.now ≡ length c.args.plan.now.levels → ⊥ = λ e. c.if-depth-len.false (c.len-depth.ensures ∙ e ∙ sym c.len.ensures) in
     let deeper : length c.args.keys.now < length c.args.plan.now.levels = omega (arith, c.requires.reached.within) in
@@ -62,10 +62,10 @@ next_key-requires-clause-usable g t c =
 pub loop-joined-preserved : goal.loop-joined-preserved
 loop-joined-preserved g t c =
     let inv = c.loop-joined.invariant in
-    let pushed : c.push-in-loop-joined.new.self ≡ c.args.keys.now ++ c.loop-joined.joined.key ∷ [] = c.in_ok-push-2.ensures.ok ∙ ap (λ ks. ks ++ c.loop-joined.joined.key ∷ []) inv.way.same in
+    let pushed : c.push.new.self ≡ c.args.keys.now ++ c.loop-joined.joined.key ∷ [] = c.in_ok-push.ensures.ok ∙ ap (λ ks. ks ++ c.loop-joined.joined.key ∷ []) inv.way.same in
     let back : c.pop.new.self ≡ c.args.keys.now = popped c.args.keys.now c.loop-joined.joined.key c.descend.new.keys c.pop.new.self (c.in_ok-stopped.ensures.back ∙ pushed) c.pop.ensures in
     let next = subst (λ (ks : List ℕ). IsJoined c.args.plan.now (g.I.Indexes.state c.args.tables.now) c.descend.new.found.sense c.next_key.new.sense ks c.index-as_slice-depth.result (c.loop-joined.joined.key + 1) (c.descend.new.moves + left_of c.loop-joined.joined.leap) c.next_key.new.moves c.next_key.new.joined.leap c.next_key.new.joined.key) back c.in_ok-next_key.ensures.stands in
-    let last : length c.push-in-loop-joined.new.self - 1 ≡ length c.args.keys.now = (let n = ap length pushed ∙ length_push c.args.keys.now c.loop-joined.joined.key in omega arith) in
+    let last : length c.push.new.self - 1 ≡ length c.args.keys.now = (let n = ap length pushed ∙ length_push c.args.keys.now c.loop-joined.joined.key in omega arith) in
     let few = subst (λ n. length c.add_hits.new.sense.hits ≤ length c.loop-joined.found.sense.hits + length (atoms_at c.args.plan.now.guides n)) last c.in_ok-add_hits.ensures.few in
     let gains = subst (λ (ks : List ℕ). LevelGains (length (atoms_at c.args.plan.now.guides (length ks))) c.descend.new.found.sense c.next_key.new.sense c.descend.new.moves c.next_key.new.moves c.next_key.new.joined.key) back c.in_ok-next_key.ensures.gains in
     record {
@@ -96,29 +96,9 @@ returns-clause-cost g t c =
     slice_get_is c.args.plan.now.levels (length c.args.keys.now) c.index-as_slice-depth.result deeper (rw (c.as_slice.ensures, c.len-depth.ensures) at c.index-as_slice-depth.is) in
     cost-all c.args.plan.now (g.I.Indexes.state c.args.tables.now) c.args.keys.now c.index-as_slice-depth.result c.args.moves.now c.loop-joined.moves (left_of c.loop-joined.joined.leap) c.loop-joined.joined.key here c.loop-joined.invariant.paid
 
-pub returns-in-Some-clause-grows : goal.returns-in-Some-clause-grows
-returns-in-Some-clause-grows g t c =
-    let full : length c.args.keys.now ≡ length c.args.plan.now.levels = sym c.len-depth.ensures ∙ c.if-depth-len.true ∙ c.len.ensures in
-    (leaf_with c.args.body.now c.args.plan.now c.args.terms.now (g.I.Indexes.state c.args.tables.now) c.args.keys.now c.requires.of_body full c.args.found.now c.in-Some.row c.push.new.self c.requires.reached c.requires.right (sym c.in-Some.is ∙ c.leaf_answer.ensures) c.in_ok-push.ensures.ok).0
-
-pub returns-in-Some-clause-right : goal.returns-in-Some-clause-right
-returns-in-Some-clause-right g t c =
-    let full : length c.args.keys.now ≡ length c.args.plan.now.levels = sym c.len-depth.ensures ∙ c.if-depth-len.true ∙ c.len.ensures in
-    (leaf_with c.args.body.now c.args.plan.now c.args.terms.now (g.I.Indexes.state c.args.tables.now) c.args.keys.now c.requires.of_body full c.args.found.now c.in-Some.row c.push.new.self c.requires.reached c.requires.right (sym c.in-Some.is ∙ c.leaf_answer.ensures) c.in_ok-push.ensures.ok).1
-
-pub returns-in-Some-clause-explored : goal.returns-in-Some-clause-explored
-returns-in-Some-clause-explored g t c =
-    let full : length c.args.keys.now ≡ length c.args.plan.now.levels = sym c.len-depth.ensures ∙ c.if-depth-len.true ∙ c.len.ensures in
-    λ later. (leaf_with c.args.body.now c.args.plan.now c.args.terms.now (g.I.Indexes.state c.args.tables.now) c.args.keys.now c.requires.of_body full c.args.found.now c.in-Some.row c.push.new.self c.requires.reached c.requires.right (sym c.in-Some.is ∙ c.leaf_answer.ensures) c.in_ok-push.ensures.ok).2
-
-pub returns-then-depth-len-clause-explored : goal.returns-then-depth-len-clause-explored
-returns-then-depth-len-clause-explored g t c =
-    let full : length c.args.keys.now ≡ length c.args.plan.now.levels = sym c.len-depth.ensures ∙ c.if-depth-len.true ∙ c.len.ensures in
-    λ later. leaf_without c.args.body.now c.args.plan.now c.args.terms.now (g.I.Indexes.state c.args.tables.now) c.args.keys.now c.requires.of_body full c.args.found.now c.requires.reached (sym c.in_default.is ∙ c.leaf_answer.ensures)
-
 pub returns-then-stopped-clause-cost : goal.returns-then-stopped-clause-cost
 returns-then-stopped-clause-cost g t c =
-    let pushed : c.push-in-loop-joined.new.self ≡ c.args.keys.now ++ c.loop-joined.joined.key ∷ [] = c.in_ok-push-2.ensures.ok ∙ ap (λ ks. ks ++ c.loop-joined.joined.key ∷ []) c.loop-joined.invariant.way.same in
+    let pushed : c.push.new.self ≡ c.args.keys.now ++ c.loop-joined.joined.key ∷ [] = c.in_ok-push.ensures.ok ∙ ap (λ ks. ks ++ c.loop-joined.joined.key ∷ []) c.loop-joined.invariant.way.same in
     let apart : length c.args.keys.now ≡ length c.args.plan.now.levels → ⊥ = λ e. c.if-depth-len.false (c.len-depth.ensures ∙ e ∙ sym c.len.ensures) in
     let deeper : length c.args.keys.now < length c.args.plan.now.levels = omega (arith, c.requires.reached.within) in
     let here : slice_get c.args.plan.now.levels (length c.args.keys.now) ≡ Some c.index-as_slice-depth.result =
@@ -133,13 +113,13 @@ returns-then-stopped-clause-grows g t c =
 
 pub descend-requires : goal.descend-requires
 descend-requires g t c =
-    let pushed : c.push-in-loop-joined.new.self ≡ c.args.keys.now ++ c.loop-joined.joined.key ∷ [] = c.in_ok-push-2.ensures.ok ∙ ap (λ ks. ks ++ c.loop-joined.joined.key ∷ []) c.loop-joined.invariant.way.same in
+    let pushed : c.push.new.self ≡ c.args.keys.now ++ c.loop-joined.joined.key ∷ [] = c.in_ok-push.ensures.ok ∙ ap (λ ks. ks ++ c.loop-joined.joined.key ∷ []) c.loop-joined.invariant.way.same in
     let apart : length c.args.keys.now ≡ length c.args.plan.now.levels → ⊥ = λ e. c.if-depth-len.false (c.len-depth.ensures ∙ e ∙ sym c.len.ensures) in
     let deeper : length c.args.keys.now < length c.args.plan.now.levels = omega (arith, c.requires.reached.within) in
     let here : slice_get c.args.plan.now.levels (length c.args.keys.now) ≡ Some c.index-as_slice-depth.result =
     slice_get_is c.args.plan.now.levels (length c.args.keys.now) c.index-as_slice-depth.result deeper (rw (c.as_slice.ensures, c.len-depth.ensures) at c.index-as_slice-depth.is) in
-    let longer : length c.push-in-loop-joined.new.self ≡ length c.args.keys.now + 1 = ap length pushed ∙ length_push c.args.keys.now c.loop-joined.joined.key in
-    let iters = next_iters (g.I.Indexes.state c.args.tables.now) c.args.plan.now.guides c.args.keys.now c.loop-joined.keys c.push-in-loop-joined.new.self c.loop-joined.joined.key c.in_ok-next.next.items c.deref-in-loop-joined.result.now c.loop-joined.invariant.way.same pushed c.deref-in-loop-joined.ensures.value c.in_ok-next.ensures in
+    let longer : length c.push.new.self ≡ length c.args.keys.now + 1 = ap length pushed ∙ length_push c.args.keys.now c.loop-joined.joined.key in
+    let iters = next_iters (g.I.Indexes.state c.args.tables.now) c.args.plan.now.guides c.args.keys.now c.loop-joined.keys c.push.new.self c.loop-joined.joined.key c.in_ok-next.next.items c.deref-in-loop-joined.result.now c.loop-joined.invariant.way.same pushed c.deref-in-loop-joined.ensures.value c.in_ok-next.ensures in
     let key = c.loop-joined.invariant.way.at_key (omega arith) in λ κs lives. (
       omega (arith, longer, deeper),
       (
@@ -171,14 +151,8 @@ returns-clause-gains g t c = c.loop-joined.invariant.credited.gains
 
 pub returns-then-stopped-clause-gains : goal.returns-then-stopped-clause-gains
 returns-then-stopped-clause-gains g t c =
-    let pushed : c.push-in-loop-joined.new.self ≡ c.args.keys.now ++ c.loop-joined.joined.key ∷ [] = c.in_ok-push-2.ensures.ok ∙ ap (λ ks. ks ++ c.loop-joined.joined.key ∷ []) c.loop-joined.invariant.way.same in
-    let last : length c.push-in-loop-joined.new.self - 1 ≡ length c.args.keys.now = (let n = ap length pushed ∙ length_push c.args.keys.now c.loop-joined.joined.key in omega arith) in
+    let pushed : c.push.new.self ≡ c.args.keys.now ++ c.loop-joined.joined.key ∷ [] = c.in_ok-push.ensures.ok ∙ ap (λ ks. ks ++ c.loop-joined.joined.key ∷ []) c.loop-joined.invariant.way.same in
+    let last : length c.push.new.self - 1 ≡ length c.args.keys.now = (let n = ap length pushed ∙ length_push c.args.keys.now c.loop-joined.joined.key in omega arith) in
     let few = subst (λ n. length c.add_hits.new.sense.hits ≤ length c.loop-joined.found.sense.hits + length (atoms_at c.args.plan.now.guides n)) last c.in_ok-add_hits.ensures.few in
     GainsFewer-below (length (atoms_at c.args.plan.now.guides (length c.args.keys.now))) c.args.found.now.sense c.loop-joined.found.sense c.add_hits.new.sense c.descend.new.found.sense c.args.moves.now c.loop-joined.moves c.descend.new.moves c.loop-joined.joined.key
     c.loop-joined.invariant.credited (omega arith) c.in_ok-add_hits.ensures.gaps few c.in_ok-stopped.ensures.gains
-
-pub returns-in-Some-clause-gains : goal.returns-in-Some-clause-gains
-returns-in-Some-clause-gains g t c = record { gaps = omega arith; hits = omega arith }
-
-pub returns-then-depth-len-clause-gains : goal.returns-then-depth-len-clause-gains
-returns-then-depth-len-clause-gains g t c = record { gaps = omega arith; hits = omega arith }

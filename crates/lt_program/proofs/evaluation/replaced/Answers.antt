@@ -1,14 +1,15 @@
+use Rattle.std.proofs.Common.{refl}
 use Rattle.lt_base.specs.Tables.{state_of}
 use Rattle.lt_program.proofs.Picked.{answers_rise, replace_effect}
 use Rattle.lt_program.proofs.evaluation.replaced.Goals as goal
 
-pub marked-requires : goal.marked-requires
-marked-requires g c = answers_rise c.args.gone.now.terms c.args.body.now (state_of c.args.tables.now) c.in_ok-first.first.0 c.in_ok-first.ensures.rows
+pub exchanged-requires-clause-old : goal.exchanged-requires-clause-old
+exchanged-requires-clause-old g c = answers_rise c.args.gone.now.terms c.args.body.now (state_of c.args.tables.now) c.in_ok-first.first.0 c.in_ok-first.ensures.rows
 
-pub marked-requires-2 : goal.marked-requires-2
-marked-requires-2 g c = answers_rise c.args.come.now.terms c.args.body.now (state_of c.args.tables.now) c.in_ok-second.second.0 c.in_ok-second.ensures.rows
+pub exchanged-requires-clause-new : goal.exchanged-requires-clause-new
+exchanged-requires-clause-new g c = answers_rise c.args.come.now.terms c.args.body.now (state_of c.args.tables.now) c.in_ok-second.second.0 c.in_ok-second.ensures.rows
 
 pub returns-clause-effect : goal.returns-clause-effect
 returns-clause-effect g c =
-    replace_effect c.args.gone.now c.args.come.now c.args.body.now (state_of c.args.tables.now) c.in_ok-first.first.0 c.in_ok-second.second.0 c.in_ok-minus.minus c.in_ok-plus.plus c.in_ok-marks.marks
-    c.in_ok-first.ensures.rows c.in_ok-second.ensures.rows c.in_ok-minus.ensures c.in_ok-plus.ensures c.in_ok-marks.ensures
+    replace_effect c.args.gone.now c.args.come.now c.args.body.now (state_of c.args.tables.now) c.in_ok-first.first.0 c.in_ok-second.second.0 _ _ c.in_ok-marks.marks
+    c.in_ok-first.ensures.rows c.in_ok-second.ensures.rows refl refl c.in_ok-marks.ensures

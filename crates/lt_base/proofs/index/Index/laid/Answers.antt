@@ -1,7 +1,10 @@
-use Rattle.std.proofs.Common.{◌∙◌}
+use Rattle.std.proofs.Common.{rules, ◌∙◌}
 use Rattle.lt_base.proofs.Marked.{index_written, index_passed}
 use Rattle.lt_base.proofs.index.Index.laid.Goals as goal
 use Rattle.lt_base.proofs.index.Index.laid.Goals.{then-mark-relation+in_ok-put, else-mark-relation}
+
+pub loop-i-init : goal.loop-i-init
+loop-i-init c = search rules
 
 pub loop-i-preserved : goal.loop-i-preserved
 loop-i-preserved c =

@@ -1,3 +1,4 @@
+use Rattle.std.proofs.lemmas.Grind.{common_steps}
 use Rattle.std.proofs.Common.{◌∙◌, ◌<◌, length, arith, sym, subst}
 use Rattle.std.proofs.lemmas.List.{length-map}
 use Rattle.std.specs.Arc.{arc_value}
@@ -21,3 +22,6 @@ run-requires-clause-indexes g c =
     let here : c.args.leaf < length c.self.inside.programs.items = omega (arith, below, length-map c.self.inside.programs.items arc_value) in
     stays c.self.inside.snapshot c.in_ok-base.base (arc_value c.index-prog.result.now) (λ relation columns has. c.in_ok-base.ensures.indexes relation columns ∙ has)
     (each_item (HasIndexes c.self.inside.snapshot) arc_value c.self.inside.programs.items c.args.leaf c.index-prog.result.now here c.index-prog.ensures c.self.invariant.indexed)
+
+pub returns-clause-stands : goal.returns-clause-stands
+returns-clause-stands g c = grind (arith, common_steps)

@@ -1,4 +1,4 @@
-use Rattle.std.proofs.Common.{[], ◌∷◌, ◌++◌, ◌<◌, length, sym, subst}
+use Rattle.std.proofs.Common.{rules, [], ◌∷◌, ◌++◌, ◌<◌, length, sym, subst}
 use Rattle.lt_model.specs.declared.syntax.Item.{Item}
 use Rattle.lt_model.specs.Grammar.{legal, SpellsItem, Derives}
 use Rattle.lt_model.specs.Script as script
@@ -27,3 +27,6 @@ returns-in-Ok-item-clause-next c = λ items d.
 
 pub returns-clause-next : goal.returns-clause-next
 returns-clause-next c = λ items d. refused_next c.args.self.now items c.copy-ahead.result c.item.new.self c.in-Err.refusal c.standing.result c.refused.result c.copy-ahead.ensures d c.requires c.in-Err.ensures.read c.standing.ensures c.refused.ensures
+
+pub returns-in-Ok-clause-next : goal.returns-in-Ok-clause-next
+returns-in-Ok-clause-next c = search rules

@@ -36,15 +36,15 @@ run_batch-requires-clause-fit g c = λ lifetimes outlive.
     ap (λ ps. map arc_value ps) c.deref-2.ensures.value ∙ c.in_ok-good.ensures ∙ ap (λ js. filter_map good_of (map checked_of js)) c.deref.ensures.value in
     subst (AllByRecursion (Fits state)) (sym good) (good_fit state (map checked_of c.in_ok-judgements.judgements.items) (c.in_ok-judgements.ensures.fit state widths))
 
-pub put_programs-requires-clause-same : goal.put_programs-requires-clause-same
-put_programs-requires-clause-same g c =
+pub put_report-requires-clause-same : goal.put_report-requires-clause-same
+put_report-requires-clause-same g c =
     ap (λ (js : List Judgement). length js) c.deref-3.ensures.value
     ∙ sym (length-map c.in_ok-judgements.judgements.items checked_of)
     ∙ ap (λ (cs : List Checked). length cs) c.in_ok-judgements.ensures.checked
     ∙ length-map c.args.programs.now (λ (p : Program). checked p c.args.self.now.schema)
 
-pub put_programs-requires-clause-enough : goal.put_programs-requires-clause-enough
-put_programs-requires-clause-enough g c =
+pub put_report-requires-clause-enough : goal.put_report-requires-clause-enough
+put_report-requires-clause-enough g c =
     let good : map arc_value c.deref-2.result.now ≡ filter_map good_of (map checked_of c.deref-3.result.now) =
     ap (λ ps. map arc_value ps) c.deref-2.ensures.value ∙ c.in_ok-good.ensures
     ∙ ap (λ js. filter_map good_of (map checked_of js)) (c.deref.ensures.value ∙ sym c.deref-3.ensures.value) in
@@ -57,20 +57,15 @@ put_programs-requires-clause-enough g c =
 pub returns : goal.returns
 returns g c = λ m s.
     let w = c.args.self.now in
-    let v : World = record { schema = w.schema; database = c.in_ok-self.field-0; versions = c.push.new.self; report = c.put_version.new.out } in
+    let v : World = c.keep.new.self in
     let cs : List Checked = map checked_of c.in_ok-judgements.judgements.items in
     let good : map arc_value c.deref-2.result.now ≡ filter_map good_of cs =
     ap (λ ps. map arc_value ps) c.deref-2.ensures.value ∙ c.in_ok-good.ensures ∙ ap (λ js. filter_map good_of (map checked_of js)) c.deref.ensures.value in
     let n : ℕ = c.len-number.result in
     let counted : n ≡ length m.versions + 1 = omega (arith, c.len-number.ensures, count m w.versions.items s.versions, w.versions.ok.0) in
-    let versions : c.push.new.self.items ≡ w.versions.items ++ c.in_ok-outcome.outcome.db ∷ [] =
-    c.in_ok-push.ensures.items ∙ ap (λ (db : List Table). w.versions.items ++ db ∷ []) c.in_ok-version.ensures in
-    let text : c.put_version.new.out.items ≡ ((w.report.items ++ batch_text n) ++ told c.args.programs.now cs c.in_ok-outcome.outcome.replies) ++ version_text n =
-    c.in_ok-put_version.ensures
-    ∙ ap (λ (t : Text). t ++ version_text n)
-    (c.in_ok-put_programs.ensures
-    ∙ ap (λ (t : Text). t ++ told c.args.programs.now (map checked_of c.deref-3.result.now) c.as_slice.result.now) c.in_ok-put_batch.ensures
-    ∙ ap (λ js. (w.report.items ++ batch_text n) ++ told c.args.programs.now (map checked_of js) c.as_slice.result.now) c.deref-3.ensures.value
-    ∙ ap (λ (rs : List Reply). (w.report.items ++ batch_text n) ++ told c.args.programs.now cs rs) c.as_slice.ensures) in
+    let text : v.report.items ≡ ((w.report.items ++ batch_text n) ++ told c.args.programs.now cs c.in_ok-outcome.outcome.replies) ++ version_text n =
+    ap (λ r. r.items) c.in_ok-keep.ensures.report ∙ c.in_ok-put_report.ensures
+    ∙ ap (λ js. ((w.report.items ++ batch_text n) ++ told c.args.programs.now (map checked_of js) c.as_slice.result.now) ++ version_text n) c.deref-3.ensures.value
+    ∙ ap (λ (rs : List Reply). ((w.report.items ++ batch_text n) ++ told c.args.programs.now cs rs) ++ version_text n) c.as_slice.ensures in
     batch_shown w v m c.args.programs.now cs (map arc_value c.deref-2.result.now) c.in_ok-outcome.outcome.db c.in_ok-outcome.outcome.replies n
-    s refl c.in_ok-judgements.ensures.checked good c.in_ok-outcome.ensures.replies c.in_ok-outcome.ensures.state counted c.in_ok-self.ensures versions text
+    s c.in_ok-keep.ensures.schema c.in_ok-judgements.ensures.checked good c.in_ok-outcome.ensures.replies c.in_ok-outcome.ensures.state counted c.in_ok-keep.ensures.database c.in_ok-keep.ensures.versions text

@@ -1,0 +1,5 @@
+use Rattle.std.proofs.Common.{rules}
+use Rattle.lt_script.proofs.lexer.Lexer.skip_gap.Goals as goal
+
+pub bytes-preserved-in-10 : goal.bytes-preserved-in-10
+bytes-preserved-in-10 c = search rules
