@@ -1,4 +1,4 @@
-use Rattle.std.proofs.Common.{◌≡◌, suc, ◌+◌, ◌-◌, length, arith}
+use Rattle.std.proofs.Common.{rules, ◌≡◌, suc, ◌+◌, ◌-◌, length, arith}
 use Rattle.lt_alone.proofs.Ways.{rounds_next, round_within, settled_from, sweep_within, settled_is, alone_from}
 use Rattle.lt_alone.proofs.settling.settle.Goals as goal
 
@@ -39,3 +39,6 @@ returns-clause-few g c =
     let none : c.leaves-leaves.result - c.loop-round.round ≡ 0 = omega (arith, c.loop-round-test.false) in
     let alone = alone_from (g.S.Solo.shape_of c.args.solo.now) (g.S.Solo.journal_of c.args.solo.now) (g.S.Solo.state_of c.args.solo.now) c.leaves-leaves.ensures.known c.requires.free in
     sweep_within c.loop-round.invariant none c.leaves-leaves.ensures.value alone (length (g.S.Solo.journal_of c.one_sweep.new.solo)) c.one_sweep.ensures.few
+
+pub loop-round-init : goal.loop-round-init
+loop-round-init g c = search rules

@@ -1,4 +1,4 @@
-use Rattle.std.proofs.Common.{◌≡◌, [], true, Some, None, fold, refl, sym, ap, ◌∙◌}
+use Rattle.std.proofs.Common.{rules, ◌≡◌, [], true, Some, None, fold, refl, sym, ap, ◌∙◌}
 use Rattle.lt_model.specs.Variables.{with_name, variables, variable_of, atoms_of, body_of, terms_of}
 use Rattle.std.specs.Prelude.{filter_map}
 use Rattle.lt_model.specs.Check.{all_bound, normal_body}
@@ -44,3 +44,6 @@ returns-clause-good c =
     let bound : c.in_ok-binds.field-0 ≡ all_bound schema s = c.in_ok-binds.ensures ∙ bound_by_places schema s c.in_ok-names.names _ _ names places body in
     let all : all_bound schema s ≡ true = sym bound ∙ c.if-not-branch.false in
     (no_code schema s c.in-Some.known formed fits all, normal_is schema s c.in-Some.known c.in_ok-names.names c.in_ok-body.body c.in_ok-stmt.stmt fits all names body c.in_ok-stmt.ensures)
+
+pub returns-then-has_unknown-clause-bad : goal.returns-then-has_unknown-clause-bad
+returns-then-has_unknown-clause-bad c = search rules

@@ -1,0 +1,11 @@
+use Rattle.std.proofs.Common.{rules}
+use Rattle.lt_values.proofs.sums.sum.Goals as goal
+
+pub returns-clause-value : goal.returns-clause-value
+returns-clause-value c = search rules
+
+pub returns-clause-in_range : goal.returns-clause-in_range
+returns-clause-in_range c = search rules
+
+pub returns-clause-int : goal.returns-clause-int
+returns-clause-int c = search rules
