@@ -1,5 +1,1 @@
-pub mod FittingColumns
-pub mod FittingByHand
-pub mod FittingSampled
-pub mod OwnOrder
-pub mod ReadyQueries
+pub mod Fitting

@@ -1,5 +1,1 @@
-pub mod Samples
-pub mod ByHand
-pub mod Sampled
-pub mod Tables
-pub mod Queries
+pub mod Fitting

@@ -1,74 +1,66 @@
 //! Runs by joins and runs as they are defined: of programs at random, and of one by hand, with its readers.
-ghost use Rattle.std.specs.Prelude.{◌≡◌, IfOk};
-ghost use Rattle.lt_model.specs.Fits.{Fits};
-ghost use Rattle.lt_base.specs.Tables.{state_of};
-ghost use Rattle.lt_run_trials.specs.Sampled.{two};
+ghost use Rattle.std.specs.Prelude.{IfOk};
+ghost use Rattle.lt_run_trials.specs.Fitting.{FitsBoth};
 
 use crate::agree::holds;
-use crate::by_hand::refused;
+use crate::by_hand::REFUSED;
 use crate::comparing::{is_refused, is_same_reply};
 use crate::random::Random;
-use crate::sampled::program;
-use lt_base::Database;
+use crate::sampled::text;
+use crate::serial::{Ran, no_rows, one_run};
+use crate::texts::{bare, joined, program};
 use lt_delta::Marks;
-use lt_face::items::Items;
 use lt_face::memory::NoMemory;
-use lt_face::moves::Moves;
 use lt_model::normal::Prog;
-use lt_model::reply::Reply;
-use lt_program::{Outcome, Part, Tally, indexed, run, run_plain};
+use lt_program::{Outcome, Part, Tally};
 use std::alloc::Global;
-use std::sync::Arc;
 
-/// The two relations, without rows.
-fn relations(alloc: Global) -> Result<Database, NoMemory>
-    ensures { IfOk result (λ db. state_of db ≡ two) }
+/// The run as it is defined, on relations without rows.
+fn defined(alloc: Global, prog: &Prog) -> Result<Ran, NoMemory>
+    requires { FitsBoth prog.now }
 {
-    let none = Database::empty(alloc);
-    let one = none.declared(1)?;
-    let both = one.declared(2)?;
-    Ok(both)
+    let mut relations = no_rows(alloc)?;
+    one_run(alloc, &mut relations, prog)
 }
 
-/// The run by joins.
-fn joined(alloc: Global, prog: Prog) -> Result<Tally, NoMemory>
-    requires { Fits two prog }
+/// The run by joins, on relations without rows.
+fn joined_alone(alloc: Global, prog: Prog) -> Result<Tally, NoMemory>
+    requires { FitsBoth prog }
 {
-    let plain = relations(alloc)?;
-    let db = indexed(&plain, &prog)?;
-    let shared = Arc::new(alloc, prog)?;
-    let mut moves: Moves<()> = Moves::new();
-    let tally = run(&shared, &db, &mut moves)?;
-    Ok(tally)
+    let base = bare(alloc)?;
+    joined(alloc, &base, prog)
 }
 
-/// Whether a run by joins answered and wrote this.
-fn is_run(tally: &Tally, reply: &Reply, wrote: &Marks) -> bool {
-    is_same_reply(tally.reply(), reply) && Marks::equal(tally.marks(), wrote)
-}
-
-/// The run as it is defined.
-fn defined(alloc: Global, prog: &Prog) -> Result<(Reply, Marks), NoMemory>
-    requires { Fits two prog.now }
-{
-    run_plain(alloc, prog, &[Items::new(alloc), Items::new(alloc)])
+/// Whether a run by joins answered and wrote what one as it is defined did.
+fn is_run(tally: &Tally, ran: &Ran) -> bool {
+    is_same_reply(tally.reply(), &ran.reply) && Marks::equal(tally.marks(), &ran.marks)
 }
 
 /// Whether the run by joins answers and writes this.
-fn does(alloc: Global, prog: Prog, reply: &Reply, wrote: &Marks) -> Result<bool, NoMemory>
-    requires { Fits two prog }
+fn does(alloc: Global, prog: Prog, ran: Ran) -> Result<bool, NoMemory>
+    requires { FitsBoth prog }
 {
-    let tally = joined(alloc, prog)?;
-    let is_so = is_run(&tally, reply, wrote);
+    let tally = joined_alone(alloc, prog)?;
+    let is_so = is_run(&tally, &ran);
     drop(tally);
+    drop(ran);
     Ok(is_so)
 }
 
-/// Whether the two runs of a program agree.
+/// The next program at random.
+fn sampled(alloc: Global, random: &mut Random) -> Result<Prog, NoMemory>
+    ensures { IfOk result FitsBoth }
+{
+    let text = text(alloc, random)?;
+    let prog = program(alloc, &text)?;
+    Ok(prog)
+}
+
+/// Whether the two runs of the next program agree.
 fn agrees(alloc: Global, random: &mut Random) -> Result<bool, NoMemory> {
-    let prog = program(alloc, random)?;
-    let (reply, wrote) = defined(alloc, &prog)?;
-    does(alloc, prog, &reply, &wrote)
+    let prog = sampled(alloc, random)?;
+    let ran = defined(alloc, &prog)?;
+    does(alloc, prog, ran)
 }
 
 #[test]
@@ -100,12 +92,6 @@ fn are_parts_of_refused(parts: &[Part]) -> bool {
     true
 }
 
-/// The run by joins of a program whose requirement is false.
-fn joined_refused(alloc: Global) -> Result<Tally, NoMemory> {
-    let prog = refused(alloc)?;
-    joined(alloc, prog)
-}
-
 /// Whether the tally ended at the second of the three statements, without marks, and this is its reply.
 fn is_tally_of_refused(tally: &Tally) -> bool {
     tally.ended()
@@ -117,10 +103,17 @@ fn is_tally_of_refused(tally: &Tally) -> bool {
         && are_parts_of_refused(tally.parts())
 }
 
+/// Whether the run by joins of the refused program ends so.
+fn ends_refused(alloc: Global) -> Result<bool, NoMemory> {
+    let prog = program(alloc, REFUSED)?;
+    let tally = joined_alone(alloc, prog)?;
+    let is_so = is_tally_of_refused(&tally);
+    drop(tally);
+    Ok(is_so)
+}
+
 #[test]
 fn a_tally_ends_at_a_false_requirement(rt: HostRuntime) -> Result<(), NoMemory> {
-    let tally = joined_refused(rt.alloc())?;
-    holds(&rt, is_tally_of_refused(&tally));
-    drop(tally);
+    holds(&rt, ends_refused(rt.alloc())?);
     Ok(())
 }

@@ -3,15 +3,12 @@
 ghost use Rattle.std.specs.Prelude.{◌≡◌, ◌≤◌, length, map, IfOk};
 ghost use Rattle.std.specs.Arc.{arc_value};
 ghost use Rattle.std.specs.List.{AllByRecursion};
-ghost use Rattle.lt_face.specs.Rows.{IsCell};
-ghost use Rattle.lt_model.specs.Fits.{IsWide};
-ghost use Rattle.lt_base.specs.Tables.{state_of};
-ghost use Rattle.lt_run_trials.specs.Samples.{FitsColumn};
+ghost use Rattle.lt_run_trials.specs.Fitting.{FitsBoth};
 
 use crate::agree::{holds, same};
 use crate::comparing::{are_marks, is_same_reply};
-use crate::samples::{ZERO, adding, mixture, removing, takers};
 use crate::serial::{Ran, Serial, one_after_another};
+use crate::texts::{ZERO, programs, stocked};
 use lt_base::Database;
 use lt_batch::{Outcome, run_batch};
 use lt_delta::Marks;
@@ -26,14 +23,29 @@ use lt_model::reply::Reply;
 use std::alloc::Global;
 use std::sync::Arc;
 
-/// A database whose relation r has no rows.
-fn column(alloc: Global) -> Result<Database, NoMemory>
-    ensures { IfOk result (λ db. IsWide (state_of db) 0 1) }
-{
-    let none = Database::empty(alloc);
-    let db = none.declared(1)?;
-    Ok(db)
-}
+/// Takes one.
+const TAKING: &str = "require some r(n), n > 0; replace r(n) by r(m) where r(n), m = n - 1;";
+
+/// Adds and removes 1.
+const ADDING: &str = "insert r(1); print (x) where r(x);";
+
+const REMOVING: &str = "delete r(1); print (x) where r(x);";
+
+/// The programs of a mixed batch, which come round again.
+const MIXED: [&str; 12] = [
+    "insert r(0); print (x) where r(x);",
+    TAKING,
+    "delete r(2); print (x) where r(x);",
+    "insert r(3); print (x) where r(x);",
+    TAKING,
+    REMOVING,
+    "insert r(2); print (x) where r(x);",
+    TAKING,
+    "delete r(0); print (x) where r(x);",
+    ADDING,
+    TAKING,
+    "delete r(3); print (x) where r(x);",
+];
 
 /// Whether these are the replies and the marks of the runs.
 fn are_same_runs(replies: &[Reply], effects: &[Marks], runs: &[Ran]) -> bool {
@@ -48,9 +60,9 @@ fn are_same_runs(replies: &[Reply], effects: &[Marks], runs: &[Ran]) -> bool {
     true
 }
 
-/// How many rows r has.
-fn count(db: &Database) -> usize {
-    match db.rows(0) {
+/// How many rows a relation has.
+fn count(db: &Database, relation: u32) -> usize {
+    match db.rows(relation) {
         Some(rows) => rows.len(),
         None => 0,
     }
@@ -63,22 +75,29 @@ fn has(alloc: Global, db: &Database, cell: Key) -> bool {
 
 /// Whether the row of this cell is the only one of r.
 fn is_only(alloc: Global, db: &Database, cell: Key) -> bool {
-    count(db) == 1 && has(alloc, db, cell)
+    count(db, 0) == 1 && has(alloc, db, cell)
 }
 
-/// Whether these are the rows of r.
-fn are_its_rows(db: &Database, rows: &[Row]) -> bool {
+/// Whether these are the rows of the relation.
+fn are_its_rows(db: &Database, relation: u32, rows: &[Row]) -> bool {
     for row in rows {
-        if !db.has(0, row) {
+        if !db.has(relation, row) {
             return false;
         }
     }
-    count(db) == rows.len()
+    count(db, relation) == rows.len()
 }
 
-/// Whether the database has exactly these relations.
+/// Whether the database has exactly these two relations.
 fn has_relations(db: &Database, relations: &[RowList]) -> bool {
-    relations.len() == 1 && db.count() == 1 && are_its_rows(db, relations[0].as_slice())
+    match relations {
+        [r, e] => {
+            db.count() == 2
+                && are_its_rows(db, 0, r.as_slice())
+                && are_its_rows(db, 1, e.as_slice())
+        }
+        _ => false,
+    }
 }
 
 /// Whether the batch answered, wrote and left what its programs do one after another.
@@ -88,66 +107,43 @@ fn is_serial(out: &Outcome, serial: &Serial) -> bool {
         && out.circuit.settled()
 }
 
-/// What a batch does where r has no rows.
-#[tactic(auto, using(crate::proofs::FittingColumns::all_fit))]
-fn ran(alloc: Global, progs: &[Arc<Prog>]) -> Result<Outcome, NoMemory>
+/// What a batch does where r has the rows that these statements leave.
+#[tactic(auto, using(crate::proofs::Fitting::all_fit))]
+fn ran(alloc: Global, stock: &str, progs: &[Arc<Prog>], workers: u32) -> Result<Outcome, NoMemory>
     requires few { length progs.now ≤ 256 }
-    requires fit { AllByRecursion FitsColumn (map arc_value progs.now) }
-    ensures { IfOk result (λ out. IsWide (state_of out.db) 0 1) }
+    requires workers { (1 ≤ workers) × (workers ≤ 16) }
+    requires fit { AllByRecursion FitsBoth (map arc_value progs.now) }
 {
-    let db = column(alloc)?;
-    let out = run_batch(alloc, &db, progs, 1, &OpenGate)?;
+    let db = stocked(alloc, stock)?;
+    let out = run_batch(alloc, &db, progs, workers, &OpenGate)?;
     Ok(out)
 }
 
 /// Whether a batch does what its programs do one after another.
 fn does(alloc: Global, progs: &[Arc<Prog>], serial: &Serial) -> Result<bool, NoMemory>
     requires few { length progs.now ≤ 256 }
-    requires fit { AllByRecursion FitsColumn (map arc_value progs.now) }
+    requires fit { AllByRecursion FitsBoth (map arc_value progs.now) }
 {
-    let out = ran(alloc, progs)?;
+    let out = ran(alloc, "", progs, 1)?;
     let is_so = is_serial(&out, serial);
     drop(out);
     Ok(is_so)
 }
 
 /// Whether a mixed batch answers, writes and leaves what its programs do one after another.
-fn agrees(alloc: Global, programs: u32) -> Result<bool, NoMemory>
-    requires { programs ≤ 256 }
+fn agrees(alloc: Global, count: usize) -> Result<bool, NoMemory>
+    requires { count ≤ 256 }
 {
-    let progs = mixture(alloc, programs)?;
+    let progs = programs(alloc, &MIXED, count)?;
     let serial = one_after_another(alloc, &progs)?;
     does(alloc, &progs, &serial)
 }
 
-/// How many programs the first of the small batches has that isn't serial.
-fn first_not_serial(alloc: Global) -> Result<Option<u32>, NoMemory> {
-    for programs in 0..9 {
-        if !agrees(alloc, programs)? {
-            return Ok(Some(programs));
-        }
+#[test]
+fn mixed_batches_are_serial(rt: HostRuntime) -> Result<(), NoMemory> {
+    for count in [0usize, 1, 2, 3, 4, 5, 6, 7, 8, 64, 256] {
+        holds(&rt, agrees(rt.alloc(), count)?);
     }
-    Ok(None)
-}
-
-#[test]
-fn small_batches_are_serial(rt: HostRuntime) -> Result<(), NoMemory> {
-    let first = first_not_serial(rt.alloc())?;
-    same(&rt, first, None);
-    Ok(())
-}
-
-#[test]
-fn a_batch_of_64_is_serial(rt: HostRuntime) -> Result<(), NoMemory> {
-    let is_serial = agrees(rt.alloc(), 64)?;
-    holds(&rt, is_serial);
-    Ok(())
-}
-
-#[test]
-fn a_batch_of_256_is_serial(rt: HostRuntime) -> Result<(), NoMemory> {
-    let is_serial = agrees(rt.alloc(), 256)?;
-    holds(&rt, is_serial);
     Ok(())
 }
 
@@ -163,36 +159,12 @@ fn refused(replies: &[Reply]) -> usize {
     count
 }
 
-/// The one program `insert r(CELL)`.
-fn stocking(alloc: Global, cell: Key) -> Result<Vec<Arc<Prog>>, NoMemory>
-    requires { IsCell cell }
-    ensures many { IfOk result (λ progs. length progs.items ≡ 1) }
-    ensures fit { IfOk result (λ progs. AllByRecursion FitsColumn (map arc_value progs.items)) }
+/// What so many programs that each take one do where r has the rows that these statements leave.
+fn taken(alloc: Global, stock: &str, count: usize) -> Result<Outcome, NoMemory>
+    requires { count ≤ 256 }
 {
-    let mut progs = Vec::new(alloc);
-    progs.push(adding(alloc, cell)?)?;
-    Ok(progs)
-}
-
-/// A database whose relation r has this cell.
-fn stocked(alloc: Global, cell: Key) -> Result<Database, NoMemory>
-    requires { IsCell cell }
-    ensures { IfOk result (λ db. IsWide (state_of db) 0 1) }
-{
-    let progs = stocking(alloc, cell)?;
-    let out = ran(alloc, &progs)?;
-    Ok(out.db)
-}
-
-/// What so many programs that each take one do on r with this cell.
-#[tactic(auto, using(crate::proofs::FittingColumns::all_fit))]
-fn taken(alloc: Global, programs: u32, cell: Key) -> Result<Outcome, NoMemory>
-    requires few { programs ≤ 256 }
-    requires cell { IsCell cell }
-{
-    let progs = takers(alloc, programs)?;
-    let db = stocked(alloc, cell)?;
-    run_batch(alloc, &db, &progs, 16, &OpenGate)
+    let progs = programs(alloc, &[TAKING], count)?;
+    ran(alloc, stock, &progs, 16)
 }
 
 /// Whether two of three programs took one of two, and the third was refused.
@@ -208,7 +180,7 @@ fn are_two_taken(alloc: Global, out: &Outcome) -> bool {
 #[test]
 fn the_third_finds_none(rt: HostRuntime) -> Result<(), NoMemory> {
     let alloc = rt.alloc();
-    let out = taken(alloc, 3, ZERO + 2)?;
+    let out = taken(alloc, "insert r(2);", 3)?;
     holds(&rt, are_two_taken(alloc, &out));
     drop(out);
     Ok(())
@@ -218,29 +190,17 @@ fn the_third_finds_none(rt: HostRuntime) -> Result<(), NoMemory> {
 #[test]
 fn a_hundred_are_taken(rt: HostRuntime) -> Result<(), NoMemory> {
     let alloc = rt.alloc();
-    let out = taken(alloc, 256, ZERO + 100)?;
+    let out = taken(alloc, "insert r(100);", 256)?;
     same(&rt, refused(out.replies.as_slice()), 156);
     holds(&rt, is_only(alloc, &out.db, ZERO));
     drop(out);
     Ok(())
 }
 
-/// `insert r(1)`, `delete r(1)` and again `insert r(1)`.
-fn inserting_again(alloc: Global) -> Result<Vec<Arc<Prog>>, NoMemory>
-    ensures many { IfOk result (λ progs. length progs.items ≡ 3) }
-    ensures fit { IfOk result (λ progs. AllByRecursion FitsColumn (map arc_value progs.items)) }
-{
-    let mut progs = Vec::new(alloc);
-    progs.push(adding(alloc, ZERO + 1)?)?;
-    progs.push(removing(alloc, ZERO + 1)?)?;
-    progs.push(adding(alloc, ZERO + 1)?)?;
-    Ok(progs)
-}
-
-/// What these do.
+/// What the insertion of 1, its deletion and its insertion again do.
 fn inserted_again(alloc: Global) -> Result<Outcome, NoMemory> {
-    let progs = inserting_again(alloc)?;
-    ran(alloc, &progs)
+    let progs = programs(alloc, &[ADDING, REMOVING], 3)?;
+    ran(alloc, "", &progs, 1)
 }
 
 /// Whether the second program's effect is this mark.

@@ -232,25 +232,13 @@ fn backwards() -> [Entry; 12] {
 }
 
 #[test]
-fn an_overtaken_merge_is_settled(rt: HostRuntime) -> Result<(), NoMemory> {
-    let entries = overtaken();
-    let is_so = settles_from(rt.alloc(), &entries, 6)?;
-    holds(&rt, is_so);
-    Ok(())
-}
-
-#[test]
-fn a_dirtied_leaf_is_settled(rt: HostRuntime) -> Result<(), NoMemory> {
-    let entries = dirtied();
-    let is_so = settles_from(rt.alloc(), &entries, 8)?;
-    holds(&rt, is_so);
-    Ok(())
-}
-
-#[test]
-fn leaves_from_the_last_on_are_settled(rt: HostRuntime) -> Result<(), NoMemory> {
-    let entries = backwards();
-    let is_so = settles_from(rt.alloc(), &entries, 8)?;
-    holds(&rt, is_so);
+fn what_is_given_up_is_settled(rt: HostRuntime) -> Result<(), NoMemory> {
+    for (entries, could) in [
+        (overtaken().as_slice(), 6usize),
+        (dirtied().as_slice(), 8),
+        (backwards().as_slice(), 8),
+    ] {
+        holds(&rt, settles_from(rt.alloc(), entries, could)?);
+    }
     Ok(())
 }

@@ -1,9 +1,28 @@
-//! Replies, prints and marks, compared.
+//! Replies, prints, rows and marks, compared.
 use lt_delta::{Mark, Marks};
 use lt_face::key::Key;
 use lt_face::row::Row;
 use lt_model::reply::{Printed, Reply};
+use lt_values::cell_of_int;
 use std::alloc::Global;
+
+/// The row of an int.
+pub(crate) fn int_row(alloc: Global, n: i64) -> Row {
+    Row::from_cells(alloc, &[cell_of_int(n)])
+}
+
+/// Whether these are the rows of the ints.
+pub(crate) fn are_int_rows(alloc: Global, rows: &[Row], ints: &[i64]) -> bool {
+    if rows.len() != ints.len() {
+        return false;
+    }
+    for (i, n) in ints.iter().enumerate() {
+        if rows[i] != int_row(alloc, *n) {
+            return false;
+        }
+    }
+    true
+}
 
 /// Whether it is the mark of this cell in the relation 0.
 fn is_mark(alloc: Global, mark: &Mark, cell: Key, plus: bool) -> bool {

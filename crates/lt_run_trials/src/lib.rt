@@ -18,16 +18,12 @@ mod floor;
 #[cfg(test)]
 mod joins;
 #[cfg(test)]
-mod queries;
-#[cfg(test)]
 mod random;
 #[cfg(test)]
 mod sample;
 #[cfg(test)]
 mod sampled;
 #[cfg(test)]
-mod samples;
-#[cfg(test)]
 mod serial;
 #[cfg(test)]
-mod tables;
+mod texts;

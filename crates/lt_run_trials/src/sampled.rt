@@ -1,202 +1,104 @@
-//! Statements at random, over the relation 1 of two columns and the constants 0 to 4.
-ghost use Rattle.std.specs.Prelude.{◌≡◌, ◌≤◌, [], ◌∷◌, length, IfOk};
-ghost use Rattle.std.specs.List.{AllByRecursion};
-ghost use Rattle.lt_face.specs.Rows.{IsCell};
-ghost use Rattle.lt_model.specs.declared.normal.Term.TheVariants.{Var};
-ghost use Rattle.lt_model.specs.Fits.{Fits, FitsStatement, IsTermOf, test_terms};
-ghost use Rattle.lt_run_trials.specs.Sampled.{two, edge, sample, IsPair, IsSample};
-
-use crate::queries::three;
+//! Statements at random, over the relation e of two columns, the variables x, y and z, and the constants 0 to 4.
 use crate::random::Random;
-use crate::samples::{ZERO, no_body};
-use lt_face::items::Items;
-use lt_face::key::Key;
 use lt_face::memory::NoMemory;
-use lt_model::kind::{Kind, KindList};
-use lt_model::normal::{Atom, Body, Prog, Stmt, Term, TermList, Test};
-use lt_model::syntax::Op;
 use std::alloc::Global;
 
-const X: Term = Term::Var(0);
+/// A constant.
+fn constant(random: &mut Random) -> &'static str {
+    match random.below(5) {
+        0 => "0",
+        1 => "1",
+        2 => "2",
+        3 => "3",
+        _ => "4",
+    }
+}
 
-const Y: Term = Term::Var(1);
-
-const Z: Term = Term::Var(2);
-
-/// The cell of a small int.
-fn small(random: &mut Random) -> Key
-    ensures { IsCell result }
-{
-    let number = random.below(5);
-    ZERO + number as Key
+/// A variable.
+fn variable(random: &mut Random) -> &'static str {
+    match random.below(3) {
+        0 => "x",
+        1 => "y",
+        _ => "z",
+    }
 }
 
 /// A variable or a constant.
-fn term(random: &mut Random) -> Term
-    ensures { IsTermOf 3 result }
-{
-    let v = random.below(5);
-    if v < 3 {
-        Term::Var(v)
+fn term(random: &mut Random) -> &'static str {
+    if random.below(5) < 3 {
+        variable(random)
     } else {
-        Term::Cell(small(random))
+        constant(random)
     }
 }
 
-fn list(alloc: Global, terms: &[Term]) -> Result<TermList, NoMemory>
-    ensures { IfOk result (λ list. list ≡ terms.now) }
-{
-    let list = Vec::from_slice(alloc, terms)?;
-    Ok(Items::from_vec(list))
-}
-
-fn pair(alloc: Global, random: &mut Random) -> Result<TermList, NoMemory>
-    ensures { IfOk result IsPair }
-{
-    let a = term(random);
-    let b = term(random);
-    let terms = list(alloc, &[a, b])?;
-    Ok(terms)
-}
-
-fn op(random: &mut Random) -> Op {
+fn op(random: &mut Random) -> &'static str {
     match random.below(6) {
-        0 => Op::Eq,
-        1 => Op::Ne,
-        2 => Op::Lt,
-        3 => Op::Le,
-        4 => Op::Gt,
-        _ => Op::Ge,
+        0 => "=",
+        1 => "!=",
+        2 => "<",
+        3 => "<=",
+        4 => ">",
+        _ => ">=",
     }
 }
 
-fn test(random: &mut Random) -> Test
-    ensures { AllByRecursion (IsTermOf 3) (test_terms result) }
-{
-    let a = term(random);
-    let b = term(random);
-    if random.below(4) == 0 {
-        Test::Sum {
-            var: random.below(3),
-            a,
-            minus: random.below(2) == 0,
-            b,
-        }
-    } else {
-        Test::Cmp {
-            left: a,
-            op: op(random),
-            right: b,
-        }
+/// Appends what a sign of a template stands for: a term for `?`, a variable for `#`, a constant for `$`, a comparison for
+/// `~`, and itself for another.
+fn put_sign(text: &mut String, sign: char, random: &mut Random) -> Result<(), NoMemory> {
+    match sign {
+        '?' => text.push_str(term(random))?,
+        '#' => text.push_str(variable(random))?,
+        '$' => text.push_str(constant(random))?,
+        '~' => text.push_str(op(random))?,
+        _ => text.push(sign)?,
+    }
+    Ok(())
+}
+
+/// Appends what a template stands for.
+fn put(text: &mut String, template: &str, random: &mut Random) -> Result<(), NoMemory> {
+    for sign in template.chars() {
+        put_sign(text, sign, random)?;
+    }
+    Ok(())
+}
+
+/// What stands before the body of a statement.
+fn head(random: &mut Random) -> &'static str {
+    match random.below(7) {
+        0 => "insert e(?, ?) where ",
+        1 => "delete e(?, ?) where ",
+        2 => "replace e(?, ?) by e(?, ?) where ",
+        3 => "require some ",
+        4 => "require none ",
+        _ => "print (?, ?) where ",
     }
 }
 
-fn edge(terms: TermList) -> Atom
-    ensures { result ≡ edge terms }
-{
-    Atom { relation: 1, terms }
-}
-
-/// `e(x, y), e(y, z), e(TERMS)`.
-fn edges(alloc: Global, terms: TermList) -> Result<Items<Atom>, NoMemory>
-    ensures { IfOk result (λ atoms. atoms ≡ edge (Var 0 ∷ Var 1 ∷ []) ∷ edge (Var 1 ∷ Var 2 ∷ []) ∷ edge terms ∷ []) }
-{
-    let first = list(alloc, &[X, Y])?;
-    let second = list(alloc, &[Y, Z])?;
-    three(alloc, edge(first), edge(second), edge(terms))
-}
-
-/// `e(x, y), e(y, z), e(TERMS), TEST`.
-fn where_(alloc: Global, terms: TermList, test: Test) -> Result<Body, NoMemory>
-    ensures { IfOk result (λ body. body ≡ sample terms test) }
-{
-    let atoms = edges(alloc, terms)?;
-    let tests = Vec::from_slice(alloc, &[test])?;
-    Ok(Body {
-        atoms,
-        tests: Items::from_vec(tests),
-        vars: 3,
-    })
-}
-
-fn body(alloc: Global, random: &mut Random) -> Result<Body, NoMemory>
-    ensures { IfOk result IsSample }
-{
-    let terms = pair(alloc, random)?;
-    let test = test(random);
-    let body = where_(alloc, terms, test)?;
-    Ok(body)
-}
-
-/// A statement with a body.
-fn joining(alloc: Global, random: &mut Random) -> Result<Stmt, NoMemory>
-    ensures { IfOk result (FitsStatement two) }
-{
-    let body = body(alloc, random)?;
-    let terms = pair(alloc, random)?;
-    match random.below(6) {
-        0 => Ok(Stmt::Insert {
-            head: edge(terms),
-            body,
-        }),
-        1 => Ok(Stmt::Delete {
-            head: edge(terms),
-            body,
-        }),
-        2 => {
-            let come = pair(alloc, random)?;
-            Ok(Stmt::Replace {
-                gone: edge(terms),
-                come: edge(come),
-                body,
-            })
-        }
-        3 => Ok(Stmt::Need {
-            some: random.below(2) == 0,
-            body,
-        }),
-        _ => Ok(Stmt::Print {
-            terms,
-            kinds: KindList::from_kinds(alloc, &[Kind::Int, Kind::Int]),
-            body,
-        }),
+/// A body with a comparison or a sum.
+fn body(random: &mut Random) -> &'static str {
+    match random.below(8) {
+        0 => "e(x, y), e(y, z), e(?, ?), # = ? + ?; ",
+        1 => "e(x, y), e(y, z), e(?, ?), # = ? - ?; ",
+        _ => "e(x, y), e(y, z), e(?, ?), ? ~ ?; ",
     }
-}
-
-/// `insert e(CELL, CELL)`.
-fn naming(alloc: Global, random: &mut Random) -> Result<Stmt, NoMemory>
-    ensures { IfOk result (FitsStatement two) }
-{
-    let c = small(random);
-    let d = small(random);
-    let terms = list(alloc, &[Term::Cell(c), Term::Cell(d)])?;
-    Ok(Stmt::Insert {
-        head: edge(terms),
-        body: no_body(alloc),
-    })
 }
 
 /// The next statement: rows come first.
-fn statement(alloc: Global, random: &mut Random, place: u32) -> Result<Stmt, NoMemory>
-    ensures { IfOk result (FitsStatement two) }
-{
+fn put_statement(text: &mut String, random: &mut Random, place: u32) -> Result<(), NoMemory> {
     if place < 10 {
-        let stmt = naming(alloc, random)?;
-        Ok(stmt)
-    } else {
-        let stmt = joining(alloc, random)?;
-        Ok(stmt)
+        return put(text, "insert e($, $); ", random);
     }
+    put(text, head(random), random)?;
+    put(text, body(random), random)
 }
 
-/// A program that inserts rows, and then joins them.
-pub(crate) fn program(alloc: Global, random: &mut Random) -> Result<Prog, NoMemory>
-    ensures { IfOk result (Fits two) }
-{
-    let mut prog = Items::new(alloc);
+/// The statements of a program that inserts rows, and then joins them.
+pub(crate) fn text(alloc: Global, random: &mut Random) -> Result<String, NoMemory> {
+    let mut text = String::new(alloc);
     for place in 0..16 {
-        let stmt = statement(alloc, random, place)?;
-        prog.push(stmt)?;
+        put_statement(&mut text, random, place)?;
     }
-    Ok(prog)
+    Ok(text)
 }

@@ -1,9 +1,10 @@
-//! The serial run of a batch, by the plain run of each program.
+//! Runs of programs one after another, each as it is defined.
 ghost use Rattle.std.specs.Prelude.{map, IfOk, OnOk};
 ghost use Rattle.std.specs.Arc.{arc_value};
 ghost use Rattle.std.specs.List.{AllByRecursion};
-ghost use Rattle.lt_run_trials.specs.Samples.{AreColumn, FitsColumn};
+ghost use Rattle.lt_run_trials.specs.Fitting.{AreRowsOfBoth, FitsBoth};
 
+use crate::texts::program;
 use lt_delta::Marks;
 use lt_face::items::{Items, RowList};
 use lt_face::memory::NoMemory;
@@ -27,35 +28,49 @@ pub(crate) struct Serial {
     pub relations: Vec<RowList>,
 }
 
-/// One relation without rows.
-fn column(alloc: Global) -> Result<Vec<RowList>, NoMemory>
-    ensures { IfOk result (λ relations. AreColumn relations.items) }
+/// The two relations without rows.
+pub(crate) fn no_rows(alloc: Global) -> Result<Vec<RowList>, NoMemory>
+    ensures { IfOk result (λ relations. AreRowsOfBoth relations.items) }
 {
     let mut relations = Vec::new(alloc);
+    relations.push(Items::new(alloc))?;
     relations.push(Items::new(alloc))?;
     Ok(relations)
 }
 
 /// The run of a program, whose marks are laid on the relations.
-fn one_run(alloc: Global, relations: &mut Vec<RowList>, prog: &Prog) -> Result<Ran, NoMemory>
-    requires column { AreColumn relations.old.items }
-    requires fits { FitsColumn prog.now }
-    ensures { OnOk result (AreColumn relations.new.items) }
+pub(crate) fn one_run(
+    alloc: Global,
+    relations: &mut Vec<RowList>,
+    prog: &Prog,
+) -> Result<Ran, NoMemory>
+    requires rows { AreRowsOfBoth relations.old.items }
+    requires fits { FitsBoth prog.now }
+    ensures { OnOk result (AreRowsOfBoth relations.new.items) }
 {
     let (reply, marks) = run_plain(alloc, prog, relations)?;
     lay(relations, &marks)?;
     Ok(Ran { reply, marks })
 }
 
-/// The programs one after another, from a relation without rows.
+/// The programs one after another, from relations without rows.
 pub(crate) fn one_after_another(alloc: Global, progs: &[Arc<Prog>]) -> Result<Serial, NoMemory>
-    requires { AllByRecursion FitsColumn (map arc_value progs.now) }
+    requires { AllByRecursion FitsBoth (map arc_value progs.now) }
 {
     let mut runs = Vec::new(alloc);
-    let mut relations = column(alloc)?;
+    let mut relations = no_rows(alloc)?;
     for prog in progs {
         let ran = one_run(alloc, &mut relations, prog)?;
         runs.push(ran)?;
     }
     Ok(Serial { runs, relations })
+}
+
+/// The run of a program's statements after those of another.
+pub(crate) fn run_after(alloc: Global, first: &str, second: &str) -> Result<Ran, NoMemory> {
+    let first = program(alloc, first)?;
+    let second = program(alloc, second)?;
+    let mut relations = no_rows(alloc)?;
+    one_run(alloc, &mut relations, &first)?;
+    one_run(alloc, &mut relations, &second)
 }

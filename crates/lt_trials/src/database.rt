@@ -1,5 +1,7 @@
 //! A database by hand, of one relation with two columns.
 ghost use Rattle.std.specs.Prelude.{◌≡◌, [], ◌∷◌, true, IfOk};
+ghost use Rattle.lt_model.specs.Fits.{IsWide};
+ghost use Rattle.lt_base.specs.Tables.{state_of};
 
 use crate::agree::{holds, same};
 use lt_base::{Database, Rows};
@@ -49,43 +51,80 @@ fn found(
     Some((there, rows.len()))
 }
 
+/// One relation of two columns.
+fn plain(alloc: Global) -> Result<Database, NoMemory>
+    ensures { IfOk result (λ db. state_of db ≡ record { width = 2; rows = [] } ∷ []) }
+{
+    let none = Database::empty(alloc);
+    let db = none.declared(2)?;
+    Ok(db)
+}
+
+/// Whether the database has one relation, and this index isn't there.
+fn is_plain(alloc: Global, db: &Database, perm: &Perm) -> bool {
+    db.count() == 1 && found(alloc, db, 0, perm, (7, 3)).is_none()
+}
+
+/// Whether a new relation is so.
+fn is_new_plain(alloc: Global) -> Result<bool, NoMemory> {
+    let perm = swapped(alloc)?;
+    let db = plain(alloc)?;
+    Ok(is_plain(alloc, &db, &perm))
+}
+
 #[test]
 fn an_index_is_there_once_it_is_made(rt: HostRuntime) -> Result<(), NoMemory> {
-    let perm = swapped(rt.alloc())?;
-    let none = Database::empty(rt.alloc());
-    let plain = none.declared(2)?;
-    same(&rt, (none.count(), plain.count()), (0, 1));
-    same(&rt, found(rt.alloc(), &plain, 0, &perm, (7, 3)), None);
+    same(&rt, Database::empty(rt.alloc()).count(), 0);
+    let is_so = is_new_plain(rt.alloc())?;
+    holds(&rt, is_so);
     Ok(())
 }
 
-/// A relation of two columns with an index, and the same with the row (3, 7).
-fn before_and_after(alloc: Global, perm: &Perm) -> Result<(Database, Database), NoMemory>
-    requires { perm.now ≡ 1 ∷ 0 ∷ [] }
+/// The same with the row (3, 7).
+fn laid(alloc: Global, db: &Database) -> Result<Database, NoMemory>
+    requires { IsWide (state_of db.now) 0 2 }
 {
-    let none = Database::empty(alloc);
-    let plain = none.declared(2)?;
-    let indexed = plain.with_index(0, perm)?;
     let marks = mark_on(alloc, 3, 7)?;
-    let laid = indexed.laid(&marks)?;
-    let shared = laid.share()?;
-    Ok((indexed, shared))
+    let laid = db.laid(&marks)?;
+    laid.share()
+}
+
+/// One relation of two columns with this index.
+fn indexed(alloc: Global, perm: &Perm) -> Result<Database, NoMemory>
+    requires { perm.now ≡ 1 ∷ 0 ∷ [] }
+    ensures { IfOk result (λ db. IsWide (state_of db) 0 2) }
+{
+    let plain = plain(alloc)?;
+    let db = plain.with_index(0, perm)?;
+    Ok(db)
+}
+
+/// Whether the database has the row (3, 7), also in its index, and no other.
+fn has_the_row(alloc: Global, db: &Database, perm: &Perm) -> bool {
+    db.count() == 1
+        && has(alloc, db, 0, 3, 7)
+        && !has(alloc, db, 0, 7, 3)
+        && !has(alloc, db, 1, 3, 7)
+        && db.rows(0).is_some()
+        && db.rows(1).is_none()
+        && found(alloc, db, 1, perm, (7, 3)).is_none()
+        && found(alloc, db, 0, perm, (7, 3)) == Some((true, 1))
+}
+
+/// Whether a database without the row has it once it is marked, and the old one is as it was.
+fn takes_the_marks(alloc: Global) -> Result<bool, NoMemory> {
+    let perm = swapped(alloc)?;
+    let before = indexed(alloc, &perm)?;
+    let after = laid(alloc, &before)?;
+    let was_there = has(alloc, &before, 0, 3, 7);
+    let is_there = has_the_row(alloc, &after, &perm);
+    Ok(!was_there && is_there)
 }
 
 #[test]
 fn each_index_takes_the_marks(rt: HostRuntime) -> Result<(), NoMemory> {
-    let alloc = rt.alloc();
-    let perm = swapped(alloc)?;
-    let (before, after) = before_and_after(alloc, &perm)?;
-    same(&rt, after.count(), 1);
-    holds(&rt, !has(alloc, &before, 0, 3, 7));
-    holds(&rt, has(alloc, &after, 0, 3, 7));
-    holds(&rt, !has(alloc, &after, 0, 7, 3));
-    holds(&rt, !has(alloc, &after, 1, 3, 7));
-    holds(&rt, after.rows(0).is_some());
-    holds(&rt, after.rows(1).is_none());
-    same(&rt, found(alloc, &after, 1, &perm, (7, 3)), None);
-    same(&rt, found(alloc, &after, 0, &perm, (7, 3)), Some((true, 1)));
+    let is_so = takes_the_marks(rt.alloc())?;
+    holds(&rt, is_so);
     Ok(())
 }
 

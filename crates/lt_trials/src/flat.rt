@@ -25,12 +25,20 @@ fn row(alloc: Global, pair: Pair) -> Row
     Row::from_cells(alloc, &[pair.0, pair.1])
 }
 
-/// The first pair of a set from this one on.
-fn pair_from<S: RowReads>(alloc: Global, set: &S, from: Pair) -> Option<Pair> {
-    match set.row_at_least(&row(alloc, from))?.cells() {
+/// The cells of a row.
+fn pair_of(row: Option<&Row>) -> Option<Pair> {
+    match row?.cells() {
         [a, b] => Some((*a, *b)),
         _ => None,
     }
+}
+
+/// The first pair of a set from this one on.
+fn pair_from<S: RowReads>(alloc: Global, set: &S, from: Pair) -> Option<Pair> {
+    let from = row(alloc, from);
+    let pair = pair_of(set.row_at_least(&from));
+    drop(from);
+    pair
 }
 
 /// The pairs of a set, as a walk by `row_at_least` meets them.

@@ -5,6 +5,16 @@ use crate::agree::{holds, same};
 use lt_model::{Kind, KindList, Name, theorems};
 use std::alloc::Global;
 
+/// Whether the name reads back as these bytes.
+fn reads(name: &Name, bytes: &[u8]) -> bool {
+    name.as_bytes() == bytes
+}
+
+/// Whether the first name is below the second.
+fn is_below(low: &Name, high: &Name) -> bool {
+    low < high && low != high
+}
+
 /// Whether two names are made and read back, and the first is below the second.
 fn ascend(alloc: Global, low: &[u8], high: &[u8]) -> bool
     requires low_some { 1 ≤ length low.now }
@@ -14,7 +24,9 @@ fn ascend(alloc: Global, low: &[u8], high: &[u8]) -> bool
 {
     let below = Name::from_bytes(alloc, low);
     let name = Name::from_bytes(alloc, high);
-    below.as_bytes() == low && name.as_bytes() == high && below < name && below != name
+    let read = (reads(&below, low), reads(&name, high));
+    let ascend = is_below(&below, &name);
+    read.0 && read.1 && ascend
 }
 
 #[test]

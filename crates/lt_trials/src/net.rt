@@ -47,12 +47,14 @@ fn the_inner_nodes_over_five_leaves(rt: HostRuntime) {
 
 #[test]
 fn codes_name_jobs(rt: HostRuntime) {
-    same(&rt, JobName::Leaf(4).code(), 12);
-    same(&rt, JobName::Merge(4).code(), 13);
-    same(&rt, JobName::Correct(4).code(), 14);
-    holds(&rt, JobName::of(12) == JobName::Leaf(4));
-    holds(&rt, JobName::of(13) == JobName::Merge(4));
-    holds(&rt, JobName::of(14) == JobName::Correct(4));
+    for (name, code) in [
+        (JobName::Leaf(4), 12),
+        (JobName::Merge(4), 13),
+        (JobName::Correct(4), 14),
+    ] {
+        same(&rt, name.code(), code);
+        holds(&rt, JobName::of(code) == name);
+    }
 }
 
 /// The opening of a batch of two programs.
@@ -91,23 +93,32 @@ fn an_opening_has_no_marks(rt: HostRuntime) -> Result<(), NoMemory> {
     Ok(())
 }
 
+/// Whether the opening of a batch of no programs is settled, and has no job that is pending.
+fn is_empty_settled(alloc: Global) -> Result<bool, NoMemory> {
+    let empty = Board::opening(alloc, 0)?;
+    let settled = empty.is_settled();
+    let none = empty.first_pending().is_none();
+    Ok(settled && none)
+}
+
 #[test]
 fn an_opening_of_no_leaves_is_settled(rt: HostRuntime) -> Result<(), NoMemory> {
-    let empty = Board::opening(rt.alloc(), 0)?;
-    same(
-        &rt,
-        (empty.is_settled(), empty.first_pending()),
-        (true, None),
-    );
+    let is_so = is_empty_settled(rt.alloc())?;
+    holds(&rt, is_so);
     Ok(())
+}
+
+/// Whether these are three places that hold nothing.
+fn are_three_nones(places: &[Option<JobState>]) -> bool {
+    match places {
+        [a, b, c] => a.is_none() && b.is_none() && c.is_none(),
+        _ => false,
+    }
 }
 
 #[test]
 fn as_many_nones(rt: HostRuntime) -> Result<(), NoMemory> {
     let places: Vec<Option<JobState>> = nones(rt.alloc(), 3)?;
-    same(&rt, places.len(), 3);
-    for place in &places {
-        holds(&rt, place.is_none());
-    }
+    holds(&rt, are_three_nones(&places));
     Ok(())
 }

@@ -165,11 +165,17 @@ fn other_literals_pin_nothing(rt: HostRuntime) -> Result<(), NoMemory> {
     Ok(())
 }
 
+/// `x = 3`
+fn bare(alloc: Global) -> Result<Body, NoMemory>
+    ensures { IfOk result (λ body. HasWidths body) }
+{
+    let body = body(alloc, Items::new(alloc), &[equal(X, Term::Cell(3))])?;
+    Ok(body)
+}
+
 #[test]
 fn no_atoms_no_levels(rt: HostRuntime) -> Result<(), NoMemory> {
-    let alloc = rt.alloc();
-    let body = body(alloc, Items::new(alloc), &[equal(X, Term::Cell(3))])?;
-    let plan = planned(body)?;
+    let plan = planned(bare(rt.alloc())?)?;
     same(&rt, (plan.levels.len(), plan.guides.len()), (0, 0));
     Ok(())
 }

@@ -1,6 +1,0 @@
-use Rattle.std.proofs.Common.{ap, [], ◌∷◌}
-use Rattle.lt_run_trials.proofs.FittingByHand.{fits_four, same_fits}
-use Rattle.lt_run_trials.proofs.by_hand.four_run.Goals as goal
-
-pub run_plain-requires : goal.run_plain-requires
-run_plain-requires c = same_fits _ _ _ _ fits_four (ap (λ rows. rows ∷ []) c.in_ok-rows.ensures) c.in_ok-prog.ensures

@@ -1,4 +1,0 @@
-use Rattle.lt_run_trials.proofs.queries.three.Goals as goal
-
-pub returns : goal.returns
-returns g c = rw (c.in_ok-push-3.ensures.ok, c.in_ok-push-2.ensures.ok, c.in_ok-push.ensures.ok, c.new-list.ensures)

@@ -1,0 +1,22 @@
+-- What tests run: programs over a relation of one column and one of two.
+use Rattle.std.specs.Prelude.{◌≡◌, List, [], ◌∷◌, map}
+use Rattle.lt_face.specs.State.{Row, Relation, State}
+use Rattle.lt_model.specs.declared.normal.Stmt.{Stmt}
+use Rattle.lt_model.specs.Fits.{Fits}
+use Rattle.lt_program.specs.Run.{lists}
+use Rattle.lt_batch.specs.Work.{IsSnapshot}
+
+-- the relations r(int) and e(int, int)
+abbrev pub AreBoth : State → Type 0
+AreBoth state = map (λ (r : Relation). r.width) state ≡ 1 ∷ 2 ∷ []
+
+-- a program that fits each such state
+abbrev pub FitsBoth : List Stmt → Type 0
+FitsBoth program = (state : State) → AreBoth state → Fits state program
+
+-- the rows of such a state
+pub record AreRowsOfBoth (rows : List (List Row)) : Type 0 where
+  pub state : State
+  pub has : lists state ≡ rows
+  pub is_snapshot : IsSnapshot state
+  pub are_both : AreBoth state

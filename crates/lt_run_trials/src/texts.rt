@@ -1,0 +1,158 @@
+//! Programs as text, over the relations r(int) and e(int, int), and databases with these.
+ghost use Rattle.std.specs.Prelude.{◌≡◌, ◌≤◌, [], ◌∷◌, length, map, IfOk, IfSome};
+ghost use Rattle.std.specs.Arc.{arc_value};
+ghost use Rattle.std.specs.List.{AllByRecursion};
+ghost use Rattle.lt_model.specs.Fits.{Fits, FitMarks};
+ghost use Rattle.lt_model.specs.Limits.{IsProgramWithin};
+ghost use Rattle.lt_base.specs.Tables.{state_of};
+ghost use Rattle.lt_run_trials.specs.Fitting.{AreBoth, FitsBoth};
+
+use lt_base::Database;
+use lt_check::check::{CheckFault, check};
+use lt_check::schema::{DeclareFault, Schema};
+use lt_delta::Marks;
+use lt_face::key::Key;
+use lt_face::memory::NoMemory;
+use lt_face::moves::Moves;
+use lt_model::kind::{Kind, KindList};
+use lt_model::name::Name;
+use lt_model::normal::Prog;
+use lt_program::{Tally, indexed, run};
+use lt_script::{Item, ProgramList, Reader, Step};
+use std::alloc::Global;
+use std::sync::Arc;
+
+/// The cell of the int 0.
+pub(crate) const ZERO: Key = 9_223_372_036_854_775_809;
+
+/// The relations by name.
+fn schema(alloc: Global) -> Result<Schema, DeclareFault>
+    ensures { IfOk result (λ schema. map (λ heading. length heading.1) schema ≡ 1 ∷ 2 ∷ []) }
+{
+    let mut schema = Schema::new(alloc);
+    let r = KindList::from_kinds(alloc, &[Kind::Int]);
+    schema.declare(Name::from_bytes(alloc, &[b'r']), r)?;
+    let e = KindList::from_kinds(alloc, &[Kind::Int, Kind::Int]);
+    schema.declare(Name::from_bytes(alloc, &[b'e']), e)?;
+    Ok(schema)
+}
+
+/// A script of one program.
+fn script_of(alloc: Global, statements: &str) -> Result<String, NoMemory> {
+    let mut script = String::from_str(alloc, "batch program p ")?;
+    script.push_str(statements)?;
+    script.push_str(" end; commit;")?;
+    Ok(script)
+}
+
+/// The programs of a script that begins with a batch.
+fn programs_of(alloc: Global, script: &str) -> Option<ProgramList>
+    ensures { IfSome result (λ programs. AllByRecursion IsProgramWithin programs) }
+{
+    let mut reader = Reader::over(script.as_bytes());
+    match reader.next_item(alloc) {
+        Step::Item(Item::Batch { programs }) => Some(programs),
+        _ => None,
+    }
+}
+
+/// The check of a first program. Where none is, the answer is as if memory had ended.
+fn checked(alloc: Global, programs: &ProgramList) -> Result<Prog, CheckFault>
+    requires { AllByRecursion IsProgramWithin programs.now }
+    ensures { IfOk result FitsBoth }
+{
+    let Ok(schema) = schema(alloc) else {
+        return Err(CheckFault::NoMemory);
+    };
+    match programs.as_slice() {
+        [program, ..] => check(alloc, program, &schema),
+        [] => Err(CheckFault::NoMemory),
+    }
+}
+
+/// The program of these statements. Where they have a fault or a code, the answer is as if memory had ended.
+pub(crate) fn program(alloc: Global, statements: &str) -> Result<Prog, NoMemory>
+    ensures { IfOk result FitsBoth }
+{
+    let script = script_of(alloc, statements)?;
+    let Some(programs) = programs_of(alloc, &script) else {
+        return Err(NoMemory);
+    };
+    match checked(alloc, &programs) {
+        Ok(prog) => Ok(prog),
+        Err(_) => Err(NoMemory),
+    }
+}
+
+/// So many programs, in the order of these texts, and after the last again from the first.
+pub(crate) fn programs(
+    alloc: Global,
+    texts: &[&str],
+    count: usize,
+) -> Result<Vec<Arc<Prog>>, NoMemory>
+    requires { 1 ≤ length texts.now }
+    ensures many { IfOk result (λ progs. length progs.items ≡ count) }
+    ensures fit { IfOk result (λ progs. AllByRecursion FitsBoth (map arc_value progs.items)) }
+{
+    let mut progs = Vec::new(alloc);
+    for i in 0..count {
+        let prog = program(alloc, texts[i % texts.len()])?;
+        let prog = Arc::new(alloc, prog)?;
+        progs.push(prog)?;
+    }
+    Ok(progs)
+}
+
+/// The relations without rows.
+pub(crate) fn bare(alloc: Global) -> Result<Database, NoMemory>
+    ensures { IfOk result (λ db. AreBoth (state_of db)) }
+{
+    let none = Database::empty(alloc);
+    let one = none.declared(1)?;
+    let both = one.declared(2)?;
+    Ok(both)
+}
+
+/// The run by joins.
+pub(crate) fn joined(alloc: Global, base: &Database, prog: Prog) -> Result<Tally, NoMemory>
+    requires { Fits (state_of base.now) prog }
+    ensures { IfOk result (λ tally. FitMarks (state_of base.now) tally.marks) }
+{
+    let db = indexed(base, &prog)?;
+    let shared = Arc::new(alloc, prog)?;
+    let mut moves: Moves<()> = Moves::new();
+    let tally = run(&shared, &db, &mut moves)?;
+    Ok(tally)
+}
+
+/// The relations with these marks laid on them.
+fn marked(base: &Database, marks: &Marks) -> Result<Database, NoMemory>
+    requires both { AreBoth (state_of base.now) }
+    requires fits { FitMarks (state_of base.now) marks.now }
+    ensures { IfOk result (λ db. AreBoth (state_of db)) }
+{
+    let db = base.laid(marks)?;
+    Ok(db)
+}
+
+/// The relations with what a program writes.
+fn after(alloc: Global, base: &Database, prog: Prog) -> Result<Database, NoMemory>
+    requires both { AreBoth (state_of base.now) }
+    requires fits { Fits (state_of base.now) prog }
+    ensures { IfOk result (λ db. AreBoth (state_of db)) }
+{
+    let tally = joined(alloc, base, prog)?;
+    let db = marked(base, tally.marks())?;
+    drop(tally);
+    Ok(db)
+}
+
+/// The relations with the rows that these statements leave.
+pub(crate) fn stocked(alloc: Global, statements: &str) -> Result<Database, NoMemory>
+    ensures { IfOk result (λ db. AreBoth (state_of db)) }
+{
+    let prog = program(alloc, statements)?;
+    let base = bare(alloc)?;
+    let db = after(alloc, &base, prog)?;
+    Ok(db)
+}
