@@ -2,7 +2,7 @@
 //! same searches in plain Rust.
 #![tactic(auto)]
 
-ghost use Rattle.std.specs.Prelude.{◌<◌};
+ghost use Rattle.std.specs.Prelude.{◌≡◌, ◌<◌};
 
 mod grid;
 mod random;
@@ -12,7 +12,7 @@ use grid::{ROWS_A_KEY, grid};
 use lt_flat::FlatRows;
 use searches::{find_rows, seek_keys, walk_down};
 use std::alloc::AllocError;
-use std::time::{Duration, Instant};
+use std::time::Instant;
 use std::{env, io};
 
 /// How many searches are timed.
@@ -30,35 +30,48 @@ fn main(rt: HostRuntime) -> io::Result<()> {
     }
 }
 
-/// Times the searches of a set with this many keys at its first level.
+/// Lays out a set with this many keys at its first level, and times the searches of it.
 fn measure(rt: &HostRuntime, keys: u32) -> io::Result<()>
     requires { 0 < keys }
 {
-    let alloc = rt.alloc();
-    let start = Instant::now(rt)?;
-    let rows = grid(alloc, keys, ROWS_A_KEY).map_err(|_| AllocError)?;
-    println!(rt;
-        "{} rows laid out: {} ms",
-        rows.len(),
-        start.elapsed(rt)?.as_millis()
-    )?;
+    let rows = grid(rt.alloc(), keys, ROWS_A_KEY).map_err(|_| AllocError)?;
     let start = Instant::now(rt)?;
     let set = FlatRows::from_sorted(2, rows).map_err(|_| AllocError)?;
-    println!(rt; "from_sorted: {} ns", start.elapsed(rt)?.as_nanos())?;
-
-    let start = Instant::now(rt)?;
-    let sum = find_rows(alloc, &set, keys, SEARCHES);
-    report(rt, "row_at_least", start.elapsed(rt)?, sum)?;
-    let start = Instant::now(rt)?;
-    let sum = seek_keys(alloc, &set, keys, SEARCHES);
-    report(rt, "copy and seek", start.elapsed(rt)?, sum)?;
-    let start = Instant::now(rt)?;
-    let sum = walk_down(alloc, &set, keys, SEARCHES);
-    report(rt, "open, seek, open, seek", start.elapsed(rt)?, sum)
+    search(rt, &set, keys, start)
 }
 
-/// Writes what one search took, and the sum that shows that it was made.
-fn report(rt: &HostRuntime, what: &str, spent: Duration, sum: u128) -> io::Result<()> {
-    let each = spent.as_nanos() / SEARCHES as u128;
+/// Writes how long the set took to be made, and times the searches of it.
+fn search(rt: &HostRuntime, set: &FlatRows, keys: u32, start: Instant) -> io::Result<()>
+    requires keys { 0 < keys }
+    requires pairs { set.now.width ≡ 2 }
+{
+    println!(rt; "from_sorted: {} ns", start.elapsed(rt)?.as_nanos())?;
+    let alloc = rt.alloc();
+    let start = Instant::now(rt)?;
+    report(
+        rt,
+        "row_at_least",
+        start,
+        find_rows(alloc, set, keys, SEARCHES),
+    )?;
+    let start = Instant::now(rt)?;
+    report(
+        rt,
+        "copy and seek",
+        start,
+        seek_keys(alloc, set, keys, SEARCHES),
+    )?;
+    let start = Instant::now(rt)?;
+    report(
+        rt,
+        "open, seek, open, seek",
+        start,
+        walk_down(alloc, set, keys, SEARCHES),
+    )
+}
+
+/// Writes what one search took since the start, and the sum that shows that it was made.
+fn report(rt: &HostRuntime, what: &str, start: Instant, sum: u128) -> io::Result<()> {
+    let each = start.elapsed(rt)?.as_nanos() / SEARCHES as u128;
     println!(rt; "{what}: {each} ns (sum {sum})")
 }
