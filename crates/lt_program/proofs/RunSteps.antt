@@ -1,10 +1,11 @@
 -- One more statement of a run.
-use Rattle.std.proofs.Common.{◌≡◌, ℕ, suc, ◌+◌, ◌<◌, List, ◌∷◌, length, drop, drop-cons, add-one, get_or, sym, ap, ◌∙◌, subst}
+use Rattle.std.proofs.Common.{◌≡◌, ℕ, suc, ◌+◌, ◌<◌, false, List, [], ◌∷◌, length, drop, drop-cons, add-one, get_or, sym, ap, ◌∙◌, subst}
 use Rattle.std.specs.List.{AllByRecursion}
 use Rattle.lt_face.specs.Rows.{IsCell}
 use Rattle.lt_face.specs.State.{State}
 use Rattle.lt_model.specs.declared.normal.Stmt.{Stmt}
 use Rattle.lt_model.specs.declared.reply.Reply.{Reply}
+use Rattle.lt_model.specs.declared.reply.Reply.TheVariants.{Refused}
 use Rattle.lt_model.specs.Effect as model
 use Rattle.lt_model.specs.Laws.{Rises}
 use Rattle.lt_model.specs.Marks.{Marks, AreMarks, laid}
@@ -22,6 +23,15 @@ written_cells : (e : Effect) → WritesCells e → HaveCells (written e)
 written_cells (Writes marks) h = h
 written_cells (Needs holds) h = tt
 written_cells (Prints kinds rows) h = tt
+
+-- a requirement that isn't met ends the run
+pub refused_step : (base : State) (e : Effect) (p : Progress) (prog : List Stmt) (i : ℕ) (stmt : Stmt) (all : Reply × Marks) → bare p.relations.items ≡ laid base p.marks → view e ≡ model.Needs false → i < length prog → stmt ≡ get_or prog i stmt
+    → view e ≡ model.effect stmt (bare p.relations.items) → run_from (i + 1) (drop i prog) base (so_far p) ≡ all → (Refused (i + 1), []) ≡ all
+refused_step base e p prog i stmt all lays unmet lt is told h =
+    let seen : model.Needs false ≡ model.effect stmt (laid base p.marks) = sym unmet ∙ (told ∙ ap (model.effect stmt) lays) in
+    let left : drop i prog ≡ stmt ∷ drop (i + 1) prog = rw add-one (drop-cons prog i stmt lt ∙ ap (λ s. s ∷ drop (suc i) prog) (sym is)) in
+    ap (λ v. run_on (i + 1) (so_far p) v (run_from (i + 1 + 1) (drop (i + 1) prog) base)) seen
+    ∙ (sym (ap (λ (stmts : List Stmt). run_from (i + 1) stmts base (so_far p)) left) ∙ h)
 
 module _ (base : State) (number : ℕ) (e : Effect) (p q : Progress) (follows : Follows number e p q) (lays : bare p.relations.items ≡ laid base p.marks) (ascending : AreMarks p.marks) where
   pub rest_step : (prog : List Stmt) (i : ℕ) (stmt : Stmt) (all : Reply × Marks) → number ≡ i + 1 → i < length prog → stmt ≡ get_or prog i stmt → view e ≡ model.effect stmt (bare p.relations.items)

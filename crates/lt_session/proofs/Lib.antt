@@ -9,3 +9,4 @@ pub mod Telling
 pub mod Shown
 pub mod Showing
 pub mod Fronts
+pub mod Ends

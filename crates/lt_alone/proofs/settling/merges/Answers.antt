@@ -1,6 +1,6 @@
-use Rattle.std.proofs.Common.{◌≡◌, ◌+◌, ◌-◌, ◌*◌, arith}
+use Rattle.std.proofs.Common.{◌≡◌, ◌+◌, ◌-◌, ◌*◌, length, arith}
 use Rattle.lt_alone.specs.Alone.{merges_down}
-use Rattle.lt_alone.proofs.Steps.{way_next, merges_first}
+use Rattle.lt_alone.proofs.Steps.{way_next, way_few, merges_first, later_then}
 use Rattle.lt_alone.proofs.settling.merges.Goals as goal
 
 pub loop-v-preserved : goal.loop-v-preserved
@@ -9,3 +9,12 @@ loop-v-preserved g c =
     let ok = c.in_ok-run_if_pending.ensures in
     way_next (3 * (c.loop-v.v - 1) + 1) (merges_down (c.loop-v.v - 1)) c.loop-v.invariant (merges_first c.loop-v.v (c.loop-v.v - 1) back)
     ok.ran ok.free ok.shape ok.later ok.few
+
+pub returns-in_err-run_if_pending-clause-later : goal.returns-in_err-run_if_pending-clause-later
+returns-in_err-run_if_pending-clause-later g c = later_then (g.S.Solo.journal_of c.args.solo.now) (g.S.Solo.journal_of c.loop-v.solo) (g.S.Solo.journal_of c.run_if_pending.new.self) c.loop-v.invariant.later c.run_if_pending.ensures.later
+
+pub returns-in_err-run_if_pending-clause-few : goal.returns-in_err-run_if_pending-clause-few
+returns-in_err-run_if_pending-clause-few g c =
+    let back : c.loop-v.v ≡ c.loop-v.v - 1 + 1 = omega (arith, c.loop-v-test.true) in
+    way_few (3 * (c.loop-v.v - 1) + 1) (merges_down (c.loop-v.v - 1)) c.loop-v.invariant (merges_first c.loop-v.v (c.loop-v.v - 1) back)
+    (length (g.S.Solo.journal_of c.run_if_pending.new.self)) c.run_if_pending.ensures.few

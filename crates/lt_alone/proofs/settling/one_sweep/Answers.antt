@@ -1,4 +1,5 @@
 use Rattle.std.proofs.Common.{◌≡◌, ◌-◌, ◌*◌, length, arith}
+use Rattle.lt_alone.proofs.Steps.{later_then}
 use Rattle.lt_alone.proofs.Turns.{merges_few, sweep_ran, sweep_few}
 use Rattle.lt_alone.proofs.settling.one_sweep.Goals as goal
 
@@ -28,3 +29,9 @@ returns-clause-few g c =
     sweep_few (g.S.Solo.shape_of c.args.solo.now) (g.S.Solo.state_of c.args.solo.now) c.args.leaves c.saturating_sub-count.result all
     (g.S.Solo.shape_of c.merges.new.solo) (g.S.Solo.state_of c.merges.new.solo) c.in_ok-merges.ensures.shape c.in_ok-merges.ensures.ran
     (length (g.S.Solo.journal_of c.args.solo.now)) (length (g.S.Solo.journal_of c.merges.new.solo)) (length (g.S.Solo.journal_of c.corrects.new.solo)) c.merges.ensures.few c.corrects.ensures.few
+
+pub returns-in_err-corrects-clause-later : goal.returns-in_err-corrects-clause-later
+returns-in_err-corrects-clause-later g c = later_then (g.S.Solo.journal_of c.args.solo.now) (g.S.Solo.journal_of c.merges.new.solo) (g.S.Solo.journal_of c.corrects.new.solo) c.merges.ensures.later c.corrects.ensures.later
+
+pub returns-clause-later : goal.returns-clause-later
+returns-clause-later g c = later_then (g.S.Solo.journal_of c.args.solo.now) (g.S.Solo.journal_of c.merges.new.solo) (g.S.Solo.journal_of c.corrects.new.solo) c.merges.ensures.later c.corrects.ensures.later

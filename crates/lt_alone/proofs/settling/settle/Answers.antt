@@ -1,3 +1,4 @@
+use Rattle.lt_alone.proofs.Steps.{later_then}
 use Rattle.std.proofs.Common.{rules, ◌≡◌, suc, ◌+◌, ◌-◌, length, arith}
 use Rattle.lt_alone.proofs.Ways.{rounds_next, round_within, settled_from, sweep_within, settled_is, alone_from}
 use Rattle.lt_alone.proofs.settling.settle.Goals as goal
@@ -42,3 +43,12 @@ returns-clause-few g c =
 
 pub loop-round-init : goal.loop-round-init
 loop-round-init g c = search rules
+
+pub returns-in_err-one_round-clause-later : goal.returns-in_err-one_round-clause-later
+returns-in_err-one_round-clause-later g c = later_then (g.S.Solo.journal_of c.args.solo.now) (g.S.Solo.journal_of c.loop-round.solo) (g.S.Solo.journal_of c.one_round.new.solo) c.loop-round.invariant.later c.one_round.ensures.later
+
+pub returns-in_err-one_sweep-clause-later : goal.returns-in_err-one_sweep-clause-later
+returns-in_err-one_sweep-clause-later g c = later_then (g.S.Solo.journal_of c.args.solo.now) (g.S.Solo.journal_of c.loop-round.solo) (g.S.Solo.journal_of c.one_sweep.new.solo) c.loop-round.invariant.later c.one_sweep.ensures.later
+
+pub returns-clause-later : goal.returns-clause-later
+returns-clause-later g c = later_then (g.S.Solo.journal_of c.args.solo.now) (g.S.Solo.journal_of c.loop-round.solo) (g.S.Solo.journal_of c.one_sweep.new.solo) c.loop-round.invariant.later c.one_sweep.ensures.later

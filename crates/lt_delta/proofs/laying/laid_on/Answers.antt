@@ -1,4 +1,6 @@
-use Rattle.std.proofs.Common.{◌∙◌}
+use Rattle.std.proofs.Common.{ap, ◌∙◌, arith}
+use Rattle.std.proofs.lemmas.List.{take_all}
+use Rattle.lt_delta.specs.Laying.{rows_laid}
 use Rattle.lt_delta.proofs.Laid.{row_written, row_passed}
 use Rattle.lt_delta.proofs.laying.laid_on.Goals as goal
 use Rattle.lt_delta.proofs.laying.laid_on.Goals.{then-mark-relation+in_ok-put, else-mark-relation}
@@ -21,3 +23,11 @@ loop-i-preserved g c =
         width = rw w.set-is c.loop-i.invariant.width;
       }
     ]
+
+pub loop-i-init : goal.loop-i-init
+loop-i-init g c = record { rows = c.in_ok-set.ensures.rows; width = c.in_ok-set.ensures.width }
+
+pub returns-clause-rows : goal.returns-clause-rows
+returns-clause-rows g c =
+    c.loop-i.invariant.rows
+    ∙ ap (rows_laid c.args.relation (g.R.RowReads.rows c.args.rows.now)) (take_all c.loop-i.i c.args.marks.now (omega (arith, c.len-i-end.ensures, c.loop-i-test.false)))

@@ -101,3 +101,21 @@ returns-clause-moved g c =
     let one = c.turn-gap.ensures.moves in
     let up = c.search.ensures.moves in
     omega arith
+
+pub returns-in_err-key-clause-keys : goal.returns-in_err-key-clause-keys
+returns-in_err-key-clause-keys g c = c.search.ensures.keys ∙ c.turn-gap.ensures.keys
+
+pub returns-in_err-key-clause-still : goal.returns-in_err-key-clause-still
+returns-in_err-key-clause-still g c = c.search.ensures.still ∙ c.turn-gap.ensures.still
+
+pub returns-in_err-key-clause-moves : goal.returns-in_err-key-clause-moves
+returns-in_err-key-clause-moves g c = omega (arith, c.search.ensures.moves, c.turn-gap.ensures.moves)
+
+pub returns-clause-keys : goal.returns-clause-keys
+returns-clause-keys g c = c.search.ensures.keys ∙ c.turn-gap.ensures.keys
+
+pub returns-clause-still : goal.returns-clause-still
+returns-clause-still g c = c.search.ensures.still ∙ c.turn-gap.ensures.still
+
+pub returns-clause-moves : goal.returns-clause-moves
+returns-clause-moves g c = omega (arith, c.search.ensures.moves, c.turn-gap.ensures.moves)

@@ -118,3 +118,45 @@ returns-in_err-gap-clause-given_up g c =
     let hi = subst (λ (ks : List (List ℕ)). c.turn-gap.result.hi ≡ least_from (keys_at ks j) old.greatest) inv.keys c.turn-gap.ensures.hi in
     let is_move = rw inv.keys at c.turn-gap.ensures.is_move in
     on_err _ (given_up-last _ _ _ _ _ _ _ _ _ _ j _ c.turn-gap.result inv.state.made is_move c.in_err-gap.ensures.err moved hi c.turn-gap.ensures.moves)
+
+pub overflow_sub-last : goal.overflow_sub-last
+overflow_sub-last g c = omega (arith, c.requires.some, c.len-last.ensures)
+
+pub key_at-least-requires-clause-turn : goal.key_at-least-requires-clause-turn
+key_at-least-requires-clause-turn g c = omega (arith, c.requires.some)
+
+pub key_at-least-requires-clause-place : goal.key_at-least-requires-clause-place
+key_at-least-requires-clause-place g c = omega (arith, c.requires.in_range 0 c.requires.some, length-map c.args.iters.now.items g.I.KeyIter.here)
+
+pub key_at-greatest-requires-clause-turn : goal.key_at-greatest-requires-clause-turn
+key_at-greatest-requires-clause-turn g c = omega (arith, c.requires.some, c.len-last.ensures)
+
+pub key_at-greatest-requires-clause-place : goal.key_at-greatest-requires-clause-place
+key_at-greatest-requires-clause-place g c = omega (arith, c.requires.in_range (c.len-last.result - 1) (omega (arith, c.requires.some, c.len-last.ensures)), length-map c.args.iters.now.items g.I.KeyIter.here)
+
+pub turn-gap-requires-clause-ring : goal.turn-gap-requires-clause-ring
+turn-gap-requires-clause-ring g c = rw c.loop-least.invariant.keys c.loop-least.invariant.state.is_ring
+
+pub turn-gap-requires-clause-goes_on : goal.turn-gap-requires-clause-goes_on
+turn-gap-requires-clause-goes_on g c = λ at_end.
+    let s = c.loop-least.invariant.state in
+    let up = s.is_ring.rises 0 (c.len-last.result - 1) (omega arith) (omega (arith, s.last_is)) in
+    c.loop-least-test.true (omega (arith, s.least_is, s.greatest_is, at_end, s.within, up))
+
+pub returns-in_err-gap-clause-keys : goal.returns-in_err-gap-clause-keys
+returns-in_err-gap-clause-keys g c = c.turn-gap.ensures.keys ∙ c.loop-least.invariant.keys
+
+pub returns-in_err-gap-clause-still : goal.returns-in_err-gap-clause-still
+returns-in_err-gap-clause-still g c = c.turn-gap.ensures.still ∙ c.loop-least.invariant.still
+
+pub returns-in_err-gap-clause-moves : goal.returns-in_err-gap-clause-moves
+returns-in_err-gap-clause-moves g c = omega (arith, c.loop-least.invariant.state.more, c.turn-gap.ensures.moves)
+
+pub returns-else-greatest-clause-notes : goal.returns-else-greatest-clause-notes
+returns-else-greatest-clause-notes g c = rw (let e : c.len-last.result ≡ length c.args.ring.now.items = omega (arith, c.len-last.ensures) in e) at c.loop-least.invariant.state.notes
+
+pub returns-after-loop-least-clause-notes : goal.returns-after-loop-least-clause-notes
+returns-after-loop-least-clause-notes g c = rw (let e : c.len-last.result ≡ length c.args.ring.now.items = omega (arith, c.len-last.ensures) in e) at c.loop-least.invariant.state.notes
+
+pub returns-else-greatest-clause-found : goal.returns-else-greatest-clause-found
+returns-else-greatest-clause-found g c = λ other. absurd (other c.if-greatest.false)

@@ -8,7 +8,7 @@ use Rattle.lt_net.specs.Net.{read, claimed}
 use Rattle.lt_net.specs.Tree.{circuit_net, code_of, inputs_of, tree_of}
 use Rattle.lt_net.specs.Board.{inputs_list, standing, state_of}
 use Rattle.lt_net.proofs.Fitting.{all_read}
-use Rattle.lt_circuit.proofs.Steps.{all_fit, claim_circuit, is_inside, is_small, is_there, leaf_there, pending_busy}
+use Rattle.lt_circuit.proofs.Steps.{all_fit, claim_circuit, is_inside, is_small, is_there, leaf_there, pending_busy, roomier}
 use Rattle.lt_circuit.proofs.Tasks.{from_fits, inputs_long, is_claimed}
 use Rattle.lt_circuit.proofs.circuit.Circuit.take.Goals as goal
 
@@ -87,3 +87,10 @@ returns-clause-ok g c =
     rw (← c.self.view_is) (is_claimed (g.W.LeafWork.stands_for w) (g.W.LeafWork.fits w) does w (arc_value c.in_ok-work.work) b c.hold.new.self c.self.inside.journal.items c.push_reserved.new.self.items
     c.self.inside.tallies.items c.self.invariant.are_tallies c.args.worker c.args.code name c.in_ok-captured.captured.given c.take_task-task.result
     c.in_ok-work.ensures c.of-name.ensures.code c.take_task-task.ensures.task c.hold.ensures.leaves pending long given (c.hold.ensures.state does) more)
+
+pub invariant_of-self : goal.invariant_of-self
+invariant_of-self g c =
+    rw (c.in_err-reserve.ensures.items, c.in_err-reserve.ensures.len) (roomier _ _ _ _ _ _ _ _ _ c.self.invariant (vec_capacity c.reserve.new.self) c.in_err-reserve.ensures.capacity)
+
+pub push_reserved-requires : goal.push_reserved-requires
+push_reserved-requires g c = omega (arith, c.in_ok-reserve.ensures.ok, c.in_ok-reserve.ensures.len)

@@ -3,6 +3,7 @@ use Rattle.lt_face.proofs.KeyLemmas.{least_above}
 use Rattle.lt_leap.specs.Common.{common_keys}
 use Rattle.lt_leap.proofs.Changed.{changed-all}
 use Rattle.std.proofs.lemmas.List.{length-map}
+use Rattle.lt_leap.proofs.Leading.{on_err}
 use Rattle.lt_leap.proofs.Advanced.{found}
 use Rattle.lt_leap.proofs.Paid.{paid-more}
 use Rattle.lt_leap.proofs.leap.Leap.next.Goals as goal
@@ -45,3 +46,47 @@ returns-clause-potential g c =
     let found = c.self.invariant goes in
     rw (← c.self.view_is)
     (paid-more _ _ _ _ _ _ _ (c.self.inside.key + 1) _ _ found (omega arith) c.advance.ensures.keys (λ rose i lt. c.advance.ensures.left rose i (let l = length-map c.self.inside.iters.items g.I.KeyIter.here in omega arith)))
+
+pub advance-requires-clause-ring : goal.advance-requires-clause-ring
+advance-requires-clause-ring g c =
+    let found = c.self.invariant (rw (← c.self.view_is) at c.requires) in
+    found.is_ring
+
+pub advance-requires-clause-goes_on : goal.advance-requires-clause-goes_on
+advance-requires-clause-goes_on g c = λ at_end.
+    let found = c.self.invariant (rw (← c.self.view_is) at c.requires) in
+    (rw (← c.self.view_is) at c.requires) (sym (found.together _ (found.is_ring.in_range 0 found.is_ring.some)) ∙ at_end)
+
+pub advance-requires-clause-ahead : goal.advance-requires-clause-ahead
+advance-requires-clause-ahead g c = λ j lt.
+    let found = c.self.invariant (rw (← c.self.view_is) at c.requires) in
+    omega (arith, found.together j (omega (arith, lt, length-map c.self.inside.iters.items g.I.KeyIter.here)))
+
+pub advance-requires-clause-bound : goal.advance-requires-clause-bound
+advance-requires-clause-bound g c =
+    let found = c.self.invariant (rw (← c.self.view_is) at c.requires) in
+    omega (arith, found.low)
+
+pub returns-in_err-self-inside-clause-keys : goal.returns-in_err-self-inside-clause-keys
+returns-in_err-self-inside-clause-keys g c = rw (← c.self.view_is) c.advance.ensures.keys
+
+pub returns-in_err-self-inside-clause-still : goal.returns-in_err-self-inside-clause-still
+returns-in_err-self-inside-clause-still g c = rw (← c.self.view_is) c.advance.ensures.still
+
+pub returns-in_err-self-inside-clause-given_up : goal.returns-in_err-self-inside-clause-given_up
+returns-in_err-self-inside-clause-given_up g c = rw (← c.self.view_is) (on_err _ c.in_err-self-inside.ensures.given_up)
+
+pub returns-clause-keys : goal.returns-clause-keys
+returns-clause-keys g c = rw (← c.self.view_is) c.advance.ensures.keys
+
+pub returns-clause-still : goal.returns-clause-still
+returns-clause-still g c = rw (← c.self.view_is) c.advance.ensures.still
+
+pub returns-clause-here : goal.returns-clause-here
+returns-clause-here g c = rw (← c.self.view_is) c.in_ok-self-inside.ensures.exact
+
+pub returns-clause-notes : goal.returns-clause-notes
+returns-clause-notes g c = rw (← c.self.view_is) c.in_ok-self-inside.ensures.notes
+
+pub returns-clause-made : goal.returns-clause-made
+returns-clause-made g c = rw (← c.self.view_is) c.in_ok-self-inside.ensures.made
