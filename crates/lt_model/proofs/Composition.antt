@@ -252,9 +252,9 @@ widths-change n f [] = refl
 widths-change zero f (x ∷ s) = refl
 widths-change (suc n) f (x ∷ s) = ap (λ (ws : List ℕ). x.width ∷ ws) (widths-change n f s)
 
-widths-laid : (s : State) (marks : Marks) → map (λ (r : Relation). r.width) (laid s marks) ≡ map (λ (r : Relation). r.width) s
-widths-laid s [] = refl
-widths-laid s (m ∷ marks) = widths-laid (lay s m) marks ∙ widths-change m.relation (write m) s
+pub same_widths : (s : State) (marks : Marks) → map (λ (r : Relation). r.width) (laid s marks) ≡ map (λ (r : Relation). r.width) s
+same_widths s [] = refl
+same_widths s (m ∷ marks) = same_widths (lay s m) marks ∙ widths-change m.relation (write m) s
 
 length-laid : (s : State) (marks : Marks) → length (laid s marks) ≡ length s
 length-laid s [] = refl
@@ -267,7 +267,7 @@ both_laid (Some p) y b = refl
 pub laid_twice : LaidTwice
 laid_twice s a b up ascending =
     states_same (laid (laid s a) b) (laid s (and_then a b))
-    (widths-laid (laid s a) b ∙ widths-laid s a ∙ sym (widths-laid s (and_then a b)))
+    (same_widths (laid s a) b ∙ same_widths s a ∙ sym (same_widths s (and_then a b)))
     (Rises-laid (laid s a) b (Rises-laid s a up))
     (Rises-laid s (and_then a b) up)
     (λ relation row h.

@@ -1,11 +1,12 @@
 -- The programs of the tests fit the two relations, also after each other.
-use Rattle.std.proofs.Common.{◌≡◌, ◌≤◌, ℕ, zero, suc, List, [], ◌∷◌, map, refl, sym, ap, ◌∙◌, arith}
+use Rattle.std.proofs.Common.{◌≡◌, ◌≤◌, List, [], ◌∷◌, refl, sym, ap, ◌∙◌, arith}
 use Rattle.std.specs.List.{AllByRecursion}
-use Rattle.lt_face.specs.State.{Row, Relation, State}
+use Rattle.lt_face.specs.State.{Row, State}
 use Rattle.lt_face.proofs.RowLemmas.{each_weaker}
 use Rattle.lt_model.specs.declared.normal.Stmt.{Stmt}
 use Rattle.lt_model.specs.Fits.{Fits, FitMarks}
-use Rattle.lt_model.specs.Marks.{Marks, write, change, lay, laid}
+use Rattle.lt_model.specs.Marks.{Marks, laid}
+use Rattle.lt_model.proofs.Composition.{same_widths}
 use Rattle.lt_delta.proofs.Kept.{IsState-laid}
 use Rattle.lt_program.specs.Run.{IsFitting, lists}
 use Rattle.lt_program.specs.Walk.{bare}
@@ -16,20 +17,6 @@ use Rattle.lt_batch.proofs.Widths.{widths-laid}
 -- programs that fit both fit a state that has both
 pub all_fit : (s : State) (programs : List (List Stmt)) → AreBoth s → AllByRecursion FitsBoth programs → AllByRecursion (Fits s) programs
 all_fit s programs both fit = each_weaker FitsBoth (Fits s) (λ program fits. fits s both) programs fit
-
--- ---- widths
-
-abbrev widths : State → List ℕ
-widths state = map (λ (r : Relation). r.width) state
-
-widths-change : (n : ℕ) (f : List Row → List Row) (state : State) → widths (change n f state) ≡ widths state
-widths-change n f [] = refl
-widths-change zero f (relation ∷ state) = refl
-widths-change (suc n) f (relation ∷ state) = ap (λ (rest : List ℕ). relation.width ∷ rest) (widths-change n f state)
-
-same_widths : (state : State) (marks : Marks) → widths (laid state marks) ≡ widths state
-same_widths state [] = refl
-same_widths state (m ∷ marks) = same_widths (lay state m) marks ∙ widths-change m.relation (write m) state
 
 -- marks leave both there
 pub both_laid : (state : State) (marks : Marks) → AreBoth state → AreBoth (laid state marks)
