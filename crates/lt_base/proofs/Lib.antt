@@ -9,3 +9,5 @@ pub mod Finds
 pub mod States
 pub mod Replaced
 pub mod Tabled
+pub mod Apart
+pub mod Edited

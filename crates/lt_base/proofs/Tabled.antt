@@ -1,9 +1,9 @@
 -- What every relation of a database keeps.
-use Rattle.std.proofs.Common.{◌≡◌, ℕ, zero, suc, ◌+◌, ◌<◌, ◌≤◌, List, [], ◌∷◌, length, map, take, get_or, add-one, sym, subst, arith}
+use Rattle.std.proofs.Common.{◌≡◌, ℕ, zero, suc, ◌+◌, ◌<◌, ◌≤◌, List, [], ◌∷◌, length, map, take, get_or, add-one, subst, arith}
 use Rattle.std.specs.List.{AllByRecursion}
 use Rattle.lt_face.specs.Rows.{IsRowSet}
 use Rattle.lt_face.specs.State.{Relation}
-use Rattle.lt_flat.specs.Flat.{FlatView}
+use Rattle.lt_face.specs.State.{Relation}
 use Rattle.lt_model.specs.State.{IsState}
 use Rattle.lt_base.specs.Tables.{Table, IsTable, state_of}
 
@@ -21,7 +21,7 @@ widths_known [] all = tt
 widths_known (t ∷ tables) all = ((all.0.some, all.0.few), widths_known tables all.1)
 
 -- a relation whose rows were looked at
-pub table_seen : (t d : Table) (seen : FlatView) (w : ℕ) → d ≡ t → seen.width ≡ d.width → seen.rows ≡ d.rows → 1 ≤ d.width → w ≡ seen.width → w ≤ 8 → IsRowSet seen.width seen.rows → IsTable t
+pub table_seen : (t d : Table) (seen : Relation) (w : ℕ) → d ≡ t → seen.width ≡ d.width → seen.rows ≡ d.rows → 1 ≤ d.width → w ≡ seen.width → w ≤ 8 → IsRowSet seen.width seen.rows → IsTable t
 table_seen t d seen w is width rows some value few set =
     subst IsTable is (record {
       is_set = subst (λ n. IsRowSet n d.rows) width (subst (IsRowSet seen.width) rows set);

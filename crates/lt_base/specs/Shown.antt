@@ -1,14 +1,8 @@
--- Sets of rows as relations, and marks laid on the relations of a database.
+-- Marks laid on the relations of a database.
 use Rattle.std.specs.Prelude.{ℕ, ◌+◌, List, [], ◌∷◌}
-use Rattle.lt_face.specs.State.{Relation}
-use Rattle.lt_flat.specs.Flat.{FlatView}
 use Rattle.lt_model.specs.Marks.{Marks}
 use Rattle.lt_delta.specs.Laying.{rows_laid}
 use Rattle.lt_base.specs.Tables.{Table}
-
--- a relation that has these rows
-abbrev pub set_of : FlatView → Relation
-set_of set = record { width = set.width; rows = set.rows }
 
 abbrev pub table_laid : ℕ → Table → Marks → Table
 table_laid number table marks = record { width = table.width; rows = rows_laid number table.rows marks; others = table.others }

@@ -12,7 +12,7 @@ ghost use Rattle.lt_model.specs.State.{IsState};
 ghost use Rattle.lt_delta.specs.Laying.{rows_laid};
 ghost use Rattle.lt_base.specs.Columns.{IsPermOf};
 ghost use Rattle.lt_base.specs.Tables.{Table, IsTable, state_of, has_index};
-ghost use Rattle.lt_base.specs.Shown.{set_of, table_laid, tables_laid};
+ghost use Rattle.lt_base.specs.Shown.{table_laid, tables_laid};
 
 use crate::relation::Relation;
 use lt_delta::Marks;
@@ -21,13 +21,13 @@ use lt_face::items::Perm;
 use lt_face::memory::NoMemory;
 use lt_face::row::Row;
 use lt_face::row_set::RowReads;
-use lt_flat::FlatRows;
+use lt_over::FlatOver;
 use std::alloc::Global;
 use std::marker::Model;
 use std::sync::Arc;
 
 /// The rows of a relation, or of an index.
-pub type Rows = FlatRows;
+pub type Rows = FlatOver;
 
 /// Relations by number, from 0 on. Databases share the relations in which they don't differ.
 #[derive(Drop)]
@@ -99,6 +99,32 @@ fn shared(relations: &Vec<Arc<Relation>>) -> Result<Vec<Arc<Relation>>, NoMemory
     Ok(shared)
 }
 
+/// The same relation, with nothing laid over its rows where that was long.
+fn relation_folded(alloc: Global, relation: &Arc<Relation>) -> Result<Arc<Relation>, NoMemory>
+    ensures { IfOk result (λ folded. arc_value folded ≡ arc_value relation.now) }
+{
+    if relation.is_edited() {
+        let folded = relation.folded()?;
+        let folded = Arc::new(alloc, folded)?;
+        return Ok(folded);
+    }
+    let same = relation.clone()?;
+    Ok(same)
+}
+
+/// The same relations, with nothing laid over the rows of those where that was long.
+fn all_folded(relations: &Vec<Arc<Relation>>) -> Result<Vec<Arc<Relation>>, NoMemory>
+    ensures { IfOk result (λ folded. map arc_value folded.items ≡ map arc_value relations.now.items) }
+{
+    let alloc = *relations.allocator();
+    let mut folded = Vec::new(alloc);
+    for relation in relations {
+        let relation = relation_folded(alloc, relation)?;
+        folded.push(relation)?;
+    }
+    Ok(folded)
+}
+
 impl Database {
     /// The database without relations.
     pub fn empty(alloc: Global) -> Database
@@ -152,7 +178,7 @@ impl Database {
 
     /// The rows of a relation.
     pub fn rows(&self, relation: u32) -> Option<&Rows>
-        ensures { option_map set_of (option_copied result) ≡ slice_get (state_of self.now) relation }
+        ensures { option_copied result ≡ slice_get (state_of self.now) relation }
     {
         match self.relation(relation) {
             Some(relation) => Some(relation.rows()),
@@ -201,6 +227,14 @@ impl Database {
             has_index db relation columns ≡ has_index self.now relation columns) }
     {
         let relations = all_laid(&self.relations, marks)?;
+        Ok(Database { relations })
+    }
+
+    /// The same database, where long lists of rows that are laid over others are folded in: to be called once for many marks.
+    pub fn folded(&self) -> Result<Database, NoMemory>
+        ensures { IfOk result (λ db. db ≡ self.now) }
+    {
+        let relations = all_folded(&self.relations)?;
         Ok(Database { relations })
     }
 

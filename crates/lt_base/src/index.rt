@@ -1,17 +1,18 @@
 //! One index: the rows of a relation, with their cells in another order of the columns.
-ghost use Rattle.std.specs.Prelude.{◌≡◌, ◌<◌, ◌≤◌, IfOk, OnOk, length};
+ghost use Rattle.std.specs.Prelude.{◌≡◌, ◌≤◌, ℕ, map, IfOk};
 ghost use Rattle.std.specs.List.{AllByRecursion};
-ghost use Rattle.lt_face.specs.Rows.{IsRow};
+ghost use Rattle.std.specs.List.Sorted.{IsPermutation, IsSorted};
+ghost use Rattle.lt_face.specs.Rows.{IsRow, row_cmp};
+ghost use Rattle.lt_face.specs.State.{permuted};
 ghost use Rattle.lt_model.specs.declared.mark.Mark.{Mark as MarkType};
-ghost use Rattle.lt_model.specs.Marks.{write};
 ghost use Rattle.lt_base.specs.Columns.{IsPermOf};
-ghost use Rattle.lt_base.specs.Indexed.{IsIndexed, permuted_mark, index_laid};
+ghost use Rattle.lt_base.specs.Indexed.{IsIndexed, index_laid};
 
 use crate::columns::permuted_row;
 use crate::database::Rows;
 use crate::walk::permuted_rows;
-use lt_delta::{Mark, Marks};
-use lt_face::items::{Items, Perm};
+use lt_delta::Marks;
+use lt_face::items::{Items, Perm, RowList};
 use lt_face::memory::NoMemory;
 use lt_face::row_set::{RowReads, RowSet};
 
@@ -22,21 +23,18 @@ pub(crate) struct Index {
     pub(crate) rows: Rows,
 }
 
-/// The mark's row in the index, or out of it.
-fn put(mark: &Mark, columns: &Perm, rows: &mut Rows) -> Result<(), NoMemory>
-    requires perm { IsPermOf rows.old.width columns.now }
-    requires fits { IsRow rows.old.width mark.now.row }
-    ensures rows { OnOk result (rows.new.rows ≡ write (permuted_mark columns.now mark.now) rows.old.rows) }
-    ensures width { rows.new.width ≡ rows.old.width }
+/// The rows with their cells in the order of the columns, ascending.
+fn sorted_by(columns: &Perm, rows: &RowList) -> Result<RowList, NoMemory>
+    requires { (width : ℕ) × IsPermOf width columns.now × (width ≤ 8) × AllByRecursion (IsRow width) rows.now }
+    ensures moved { IfOk result (λ list. IsPermutation (map (permuted columns.now) rows.now) list) }
+    ensures sorted { IfOk result (λ list. IsSorted row_cmp list) }
 {
-    let _width = rows.width();
-    let row = permuted_row(columns.allocator(), columns.as_slice(), &mark.row);
-    if mark.plus {
-        rows.insert(row)?;
-    } else {
-        rows.remove(&row)?;
+    let mut list = Vec::with_capacity(columns.allocator(), rows.len())?;
+    for row in rows.as_slice() {
+        list.push(permuted_row(columns.allocator(), columns.as_slice(), row))?;
     }
-    Ok(())
+    list.sort_unstable();
+    Ok(Items::from_vec(list))
 }
 
 impl Index {
@@ -60,14 +58,21 @@ impl Index {
         requires fit { AllByRecursion (λ (m : MarkType). m.relation ≡ relation → IsRow self.now.rows.width m.row) marks.now }
         ensures { IfOk result (λ index. index ≡ index_laid relation marks.now self.now) }
     {
+        let _width = self.rows.width();
         let columns = self.columns.copy()?;
-        let mut rows = self.rows.share()?;
-        for i in 0..marks.len() {
-            let mark = marks.mark(i);
-            if mark.relation == relation {
-                put(mark, &columns, &mut rows)?;
-            }
-        }
+        let edits = marks.edits(columns.allocator(), relation)?;
+        let gone = sorted_by(&columns, &edits.gone)?;
+        let come = sorted_by(&columns, &edits.come)?;
+        let rows = self.rows.laid(gone, come)?;
+        Ok(Index { columns, rows })
+    }
+
+    /// The same index, with nothing laid over its rows.
+    pub(crate) fn folded(&self) -> Result<Index, NoMemory>
+        ensures { IfOk result (λ index. index ≡ self.now) }
+    {
+        let columns = self.columns.copy()?;
+        let rows = self.rows.folded(columns.allocator())?;
         Ok(Index { columns, rows })
     }
 

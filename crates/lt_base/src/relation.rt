@@ -79,6 +79,18 @@ fn all_shared(others: &Vec<Index>) -> Result<Vec<Index>, NoMemory>
     Ok(shared)
 }
 
+/// The same indexes, with nothing laid over their rows.
+fn all_folded(others: &Vec<Index>) -> Result<Vec<Index>, NoMemory>
+    ensures { IfOk result (λ folded. folded.items ≡ others.now.items) }
+{
+    let mut folded = Vec::new(*others.allocator());
+    for index in others {
+        let index = index.folded()?;
+        folded.push(index)?;
+    }
+    Ok(folded)
+}
+
 impl Relation {
     /// A relation of this width, without rows.
     pub(crate) fn empty(alloc: Global, width: usize) -> Result<Relation, NoMemory>
@@ -127,13 +139,28 @@ impl Relation {
         Ok(Relation { first, others })
     }
 
+    /// Whether rows were laid over the relation's since it was folded.
+    pub(crate) fn is_edited(&self) -> bool {
+        self.first.is_edited()
+    }
+
+    /// The same relation, with nothing laid over its rows.
+    pub(crate) fn folded(&self) -> Result<Relation, NoMemory>
+        ensures { IfOk result (λ relation. relation ≡ self.now) }
+    {
+        let first = self.first.folded(*self.others.allocator())?;
+        let others = all_folded(&self.others)?;
+        Ok(Relation { first, others })
+    }
+
     /// The relation of this number with the marks laid on all its indexes.
     pub(crate) fn laid(&self, number: u32, marks: &Marks) -> Result<Relation, NoMemory>
         requires { AllByRecursion (λ (m : MarkType). m.relation ≡ number → IsRow self.now.width m.row) marks.now }
         ensures { IfOk result (λ relation. relation ≡ record self.now { rows = rows_laid number self.now.rows marks.now }) }
     {
         let _width = self.first.width();
-        let first = marks.lay_on(number, &self.first)?;
+        let edits = marks.edits(*self.others.allocator(), number)?;
+        let first = self.first.laid(edits.gone, edits.come)?;
         let others = all_laid(&self.others, number, marks)?;
         Ok(Relation { first, others })
     }

@@ -1,17 +1,14 @@
 -- What a program that fits the snapshot does on a correction that fits, fits.
-use Rattle.std.proofs.Common.{ℕ, ◌+◌, ◌≤◌, true, false, List, [], ◌∷◌, ◌++◌, sym}
+use Rattle.std.proofs.Common.{ℕ, ◌≤◌, List, [], ◌∷◌, sym}
 use Rattle.std.specs.List.{AllByRecursion}
 use Rattle.lt_face.specs.State.{Relation, State}
 use Rattle.lt_face.proofs.RowLemmas.{each_weaker}
 use Rattle.lt_model.specs.declared.normal.Stmt.{Stmt}
-use Rattle.lt_model.specs.declared.reply.Reply.{Reply}
 use Rattle.lt_model.specs.Fits.{Fits, FitMarks}
-use Rattle.lt_model.specs.Effect.{Effect, Writes, Needs, Prints, effect}
-use Rattle.lt_model.specs.Marks.{Marks, AreMarks, and_then, laid}
-use Rattle.lt_model.specs.Run.{Progress, run_on, run_from, run}
+use Rattle.lt_model.specs.Marks.{Marks, laid}
+use Rattle.lt_model.specs.Run.{run}
 use Rattle.lt_model.specs.State.{IsState}
 use Rattle.lt_model.specs.Laws.{Rises}
-use Rattle.lt_model.proofs.Composition.{AreMarks-and_then}
 use Rattle.lt_delta.proofs.Kept.{IsState-laid}
 use Rattle.lt_program.proofs.FittingRuns.{IsGoodEnd, run_fits}
 use Rattle.lt_batch.specs.Work.{IsSnapshot, AreRunnable}
@@ -27,22 +24,6 @@ run_fits_snapshot snapshot program correction can fits marks =
     let now = laid snapshot correction in
     let good = run_fits now program (IsState-laid snapshot correction can.snapshot.is_state marks) (widths-laid (λ w. w ≤ 8) snapshot correction can.snapshot.narrow) (program_fits snapshot now (λ r. sym (as_wide-laid snapshot correction r)) program fits) in
     (marks_fit now snapshot (as_wide-laid snapshot correction) (run program now).1 good.0, good.1)
-
--- ---- the marks of a run ascend
-
-taken_ascends : (j : ℕ) (p : Progress) (e : Effect) (rest : Progress → Reply × Marks) → AreMarks p.marks → ((q : Progress) → AreMarks q.marks → AreMarks (rest q).1) → AreMarks (run_on j p e rest).1
-taken_ascends j p (Writes marks) rest up on = on (record p { marks = and_then p.marks marks }) (AreMarks-and_then p.marks marks up)
-taken_ascends j p (Needs true) rest up on = on p up
-taken_ascends j p (Needs false) rest up on = tt
-taken_ascends j p (Prints kinds rows) rest up on = on (record p { prints = p.prints ++ record { statement = j; kinds = kinds; rows = rows } ∷ [] }) up
-
-from_ascends : (j : ℕ) (program : List Stmt) (state : State) (p : Progress) → AreMarks p.marks → AreMarks (run_from j program state p).1
-from_ascends j [] state p up = up
-from_ascends j (s ∷ program) state p up =
-    taken_ascends j p (effect s (laid state p.marks)) (run_from (j + 1) program state) up (λ q. from_ascends (j + 1) program state q)
-
-pub run_ascends : (program : List Stmt) (state : State) → AreMarks (run program state).1
-run_ascends program state = from_ascends 1 program state (record { marks = []; prints = [] }) tt
 
 -- ---- what a database tells of its relations
 

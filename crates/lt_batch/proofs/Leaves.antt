@@ -8,7 +8,8 @@ use Rattle.lt_model.specs.Marks.{Marks, laid}
 use Rattle.lt_base.specs.Tables.{state_of}
 use Rattle.lt_batch.specs.Batch.{program_at, does_at}
 use Rattle.lt_batch.specs.Work.{AreRunnable, BatchView, IsLeaf, batch_does}
-use Rattle.lt_batch.proofs.FittingRuns.{run_fits_snapshot, run_ascends}
+use Rattle.lt_program.proofs.FittingRuns.{run_ascends}
+use Rattle.lt_batch.proofs.FittingRuns.{run_fits_snapshot}
 use Rattle.lt_batch.proofs.Widths.{as_wide-laid, program_fits}
 
 -- program i fits the snapshot

@@ -1,3 +1,4 @@
 pub mod Batch
 pub mod Work
 pub mod LeafRun
+pub mod Priors

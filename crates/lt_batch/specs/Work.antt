@@ -4,11 +4,11 @@ use Rattle.std.specs.List.{AllByRecursion}
 use Rattle.lt_face.specs.State.{State, Relation}
 use Rattle.lt_model.specs.declared.normal.Stmt.{Stmt}
 use Rattle.lt_model.specs.Fits.{Fits, FitMarks}
-use Rattle.lt_model.specs.Marks.{Marks, AreMarks}
+use Rattle.lt_model.specs.Marks.{Marks, AreMarks, laid}
 use Rattle.lt_model.specs.State.{IsState}
 use Rattle.lt_base.specs.Tables.{Table, state_of}
 use Rattle.lt_program.specs.Tally.{HasIndexes}
-use Rattle.lt_batch.specs.Batch.{does_at}
+use Rattle.lt_batch.specs.Batch.{program_at, does_at}
 
 -- a state that programs can run on: its relations are sets of rows with at most 8 cells
 pub record IsSnapshot (state : State) : Type 0 where
@@ -29,6 +29,10 @@ pub record BatchView : Type 0 where
 pub record IsBatch (snapshot : List Table) (programs : List (List Stmt)) : Type 0 where
   pub runnable : AreRunnable (state_of snapshot) programs
   pub indexed : AllByRecursion (HasIndexes snapshot) programs
+
+-- the state that a program with this correction runs on
+abbrev pub corrected : BatchView → Marks → State
+corrected work on = laid (state_of work.snapshot) on
 
 -- what program i writes where the correction is laid on the snapshot
 abbrev pub batch_does : BatchView → ℕ → Marks → Marks

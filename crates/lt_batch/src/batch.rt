@@ -19,16 +19,22 @@ use lt_circuit::Circuit;
 use lt_edges::Gate;
 use lt_face::memory::NoMemory;
 use lt_model::normal::Prog;
+use lt_workers::settle;
 use std::alloc::Global;
-use std::sync::Arc;
+use std::sync::{Arc, Wait};
+use std::thread::Threads;
 
 /// The circuit over the programs, settled, with the work that it does.
-fn settled(
+fn settled<R: Threads + Wait + Sync, G: Gate>(
+    rt: &R,
     alloc: Global,
     db: &Database,
     progs: &[Arc<Prog>],
+    workers: u32,
+    gate: &G,
 ) -> Result<(Arc<BatchWork>, Circuit<BatchWork>), NoMemory>
     requires few { length progs.now ≤ 256 }
+    requires workers { (1 ≤ workers) × (workers ≤ 16) }
     requires fit { AllByRecursion (Fits (state_of db.now)) (map arc_value progs.now) }
     ensures work { IfOk result (λ out. out.1.work ≡ arc_value out.0) }
     ensures programs { IfOk result (λ out. out.1.work.programs ≡ map arc_value progs.now) }
@@ -41,8 +47,8 @@ fn settled(
     let work = BatchWork::new(alloc, db, progs)?;
     let work = Arc::new(alloc, work)?;
     let leaves = progs.len() as u32;
-    let mut circuit = Circuit::start(alloc, work.clone()?, leaves)?;
-    circuit.settle_alone()?;
+    let circuit = Circuit::start(alloc, work.clone()?, leaves)?;
+    let circuit = settle(rt, alloc, circuit, workers, gate)?;
     let _entries = circuit.journal();
     Ok((work, circuit))
 }
@@ -51,16 +57,17 @@ fn settled(
 /// and the database left are those of the programs one after another. The circuit that did it is settled, and its
 /// journal replays to it.
 ///
-/// One worker does all jobs for now: `workers` is how many there may be, and `gate` is passed to none.
-pub fn run_batch<G: Gate>(
+/// So many workers do its jobs, each in a thread of its own. A worker passes `gate` before each of its jobs.
+pub fn run_batch<R: Threads + Wait + Sync, G: Gate>(
+    rt: &R,
     alloc: Global,
     db: &Database,
     progs: &[Arc<Prog>],
-    _workers: u32,
-    _gate: &G,
+    workers: u32,
+    gate: &G,
 ) -> Result<Outcome, NoMemory>
     requires few { length progs.now ≤ 256 }
-    requires workers { (1 ≤ _workers) × (_workers ≤ 16) }
+    requires workers { (1 ≤ workers) × (workers ≤ 16) }
     requires fit { AllByRecursion (Fits (state_of db.now)) (map arc_value progs.now) }
     ensures replies { IfOk result (λ out. out.replies ≡ serial_replies (map arc_value progs.now) (state_of db.now)) }
     ensures effects { IfOk result (λ out. out.effects ≡ serial_effects (map arc_value progs.now) (state_of db.now)) }
@@ -75,7 +82,7 @@ pub fn run_batch<G: Gate>(
     ensures widths { IfOk result (λ out. (relation width : ℕ) → IsWide (state_of db.now) relation width → IsWide (state_of out.db) relation width) }
     ensures printed { IfOk result (λ out. AllByRecursion AreReplied out.replies) }
 {
-    let (work, circuit) = settled(alloc, db, progs)?;
+    let (work, circuit) = settled(rt, alloc, db, progs, workers, gate)?;
     let (replies, effects) = gathered(alloc, &circuit, progs.len() as u32)?;
     let db = left(work.snapshot(), &circuit)?;
     Ok(Outcome {

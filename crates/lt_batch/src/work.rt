@@ -1,13 +1,17 @@
 //! The work of a batch: its programs as the leaves of a circuit.
-ghost use Rattle.std.specs.Prelude.{◌≡◌, ◌<◌, ℕ, List, true, map, length, IfOk};
+ghost use Rattle.std.specs.Prelude.{◌≡◌, ◌<◌, ◌≤◌, ◌+◌, ℕ, List, true, map, length, IfOk, IfSome};
 ghost use Rattle.std.specs.Arc.{arc_value};
-ghost use Rattle.std.specs.List.{AllByRecursion, list_any};
+ghost use Rattle.std.specs.List.{AllByRecursion};
+ghost use Rattle.std.specs.Option.{option_map};
 ghost use Rattle.lt_model.specs.Fits.{Fits, FitMarks};
-ghost use Rattle.lt_model.specs.Marks.{laid};
+ghost use Rattle.lt_model.specs.Marks.{Marks as MarksView, laid};
 ghost use Rattle.lt_model.specs.Run.{run as run_of};
 ghost use Rattle.lt_base.specs.Tables.{state_of, has_index};
-ghost use Rattle.lt_program.specs.Run.{reads_rows};
-ghost use Rattle.lt_batch.specs.Work.{AreRunnable, IsLeaf};
+ghost use Rattle.lt_program.specs.Tally.{HasIndexes, IsRun, ends_at, has_ended};
+ghost use Rattle.lt_restate.specs.Touches.{cost_again};
+ghost use Rattle.lt_batch.specs.LeafRun.{StandsFor};
+ghost use Rattle.lt_batch.specs.Priors.{IsPriorOf, IsRestated, leaf_bound};
+ghost use Rattle.lt_batch.specs.Work.{AreRunnable, FitsBatch, IsLeaf};
 
 use crate::indexing::all_indexed;
 use crate::leaf::LeafTally;
@@ -17,7 +21,8 @@ use lt_delta::Marks;
 use lt_face::memory::NoMemory;
 use lt_face::moves::Moves;
 use lt_model::normal::Prog;
-use lt_program::{reads, run};
+use lt_program::{Tally, run};
+use lt_restate::restate_marks;
 use std::alloc::Global;
 use std::marker::Model;
 use std::sync::Arc;
@@ -61,21 +66,72 @@ fn look_over(db: &Database, progs: &[Arc<Prog>])
     db.look_over();
 }
 
-/// The database that a program with this correction runs on: the snapshot with the correction laid on it, or the snapshot
-/// itself where the program reads no relation, since it does the same there.
-fn corrected(snapshot: &Database, prog: &Prog, correction: &Marks) -> Result<Database, NoMemory>
+/// The database that a program with this correction runs on.
+fn corrected(snapshot: &Database, _prog: &Prog, correction: &Marks) -> Result<Database, NoMemory>
     requires { FitMarks (state_of snapshot.now) correction.now }
-    ensures laid { IfOk result (λ db. list_any reads_rows prog.now ≡ true → state_of db ≡ laid (state_of snapshot.now) correction.now) }
-    ensures fits { IfOk result (λ db. Fits (state_of snapshot.now) prog.now → Fits (state_of db) prog.now) }
+    ensures base { IfOk result (λ db. state_of db ≡ laid (state_of snapshot.now) correction.now) }
+    ensures fits { IfOk result (λ db. Fits (state_of snapshot.now) _prog.now → Fits (state_of db) _prog.now) }
     ensures indexes { IfOk result (λ db. (relation : ℕ) (columns : List ℕ) → has_index db relation columns ≡ has_index snapshot.now relation columns) }
-    ensures run { IfOk result (λ db. run_of prog.now (state_of db) ≡ run_of prog.now (laid (state_of snapshot.now) correction.now)) }
 {
-    if reads(prog.as_slice()) {
-        let laid = snapshot.laid(correction)?;
-        Ok(laid)
-    } else {
-        let same = snapshot.share()?;
-        Ok(same)
+    let laid = snapshot.laid(correction)?;
+    Ok(laid)
+}
+
+/// The run of a program on another state than that of an old tally.
+fn restated<L>(
+    _prog: &Arc<Prog>,
+    base: &Database,
+    old: &LeafTally,
+    correction: &Marks,
+    moves: &mut Moves<L>,
+) -> Result<Tally, NoMemory>
+    requires fits { Fits (state_of base.now) (arc_value _prog.now) }
+    requires indexes { HasIndexes base.now (arc_value _prog.now) }
+    requires prior { IsPriorOf (arc_value _prog.now) (state_of base.now) correction.now old.now }
+    ensures program { IfOk result (λ t. t.program ≡ arc_value _prog.now) }
+    ensures base { IfOk result (λ t. t.base ≡ base.now) }
+    ensures ended { IfOk result (λ t. has_ended t ≡ true) }
+    ensures parts { IfOk result (λ t. IsRun t) }
+    ensures reply { IfOk result (λ t. t.reply ≡ (run_of (arc_value _prog.now) (state_of base.now)).0) }
+    ensures marks { IfOk result (λ t. t.marks ≡ (run_of (arc_value _prog.now) (state_of base.now)).1) }
+    ensures restated { IfOk result (IsRestated old.now.run) }
+    ensures moves { moves.new ≤ moves.old + cost_again old.now.run (state_of base.now) (ends_at (arc_value _prog.now) (state_of base.now)) }
+    ensures rises { moves.old ≤ moves.new }
+{
+    let (run, _touches) = restate_marks(&old.run, base, &old.correction, correction, moves)?;
+    Ok(run)
+}
+
+/// The run of a program on a state, by an old tally of it where there is one.
+fn run_on<L>(
+    prog: &Arc<Prog>,
+    base: &Database,
+    prior: Option<&LeafTally>,
+    correction: &Marks,
+    moves: &mut Moves<L>,
+) -> Result<Tally, NoMemory>
+    requires fits { Fits (state_of base.now) (arc_value prog.now) }
+    requires indexes { HasIndexes base.now (arc_value prog.now) }
+    requires prior { IfSome prior (λ old. IsPriorOf (arc_value prog.now) (state_of base.now) correction.now old.now) }
+    ensures program { IfOk result (λ t. t.program ≡ arc_value prog.now) }
+    ensures base { IfOk result (λ t. t.base ≡ base.now) }
+    ensures ended { IfOk result (λ t. has_ended t ≡ true) }
+    ensures parts { IfOk result (λ t. IsRun t) }
+    ensures reply { IfOk result (λ t. t.reply ≡ (run_of (arc_value prog.now) (state_of base.now)).0) }
+    ensures marks { IfOk result (λ t. t.marks ≡ (run_of (arc_value prog.now) (state_of base.now)).1) }
+    ensures restated { IfOk result (λ t. IfSome prior.entry (λ old. IsRestated old.now.run t)) }
+    ensures moves { IfSome prior.entry (λ old. moves.new ≤ moves.old + cost_again old.now.run (state_of base.now) (ends_at (arc_value prog.now) (state_of base.now))) }
+    ensures rises { moves.old ≤ moves.new }
+{
+    match prior {
+        None => {
+            let run = run(prog, base, moves)?;
+            Ok(run)
+        }
+        Some(old) => {
+            let run = restated(prog, base, old, correction, moves)?;
+            Ok(run)
+        }
     }
 }
 
@@ -103,12 +159,12 @@ impl BatchWork {
 }
 
 impl LeafWork for BatchWork {
-    ghost use Rattle.std.specs.Prelude.{None};
     ghost use Rattle.lt_model.specs.Fits.{IsMarkOf};
     ghost use Rattle.lt_model.proofs.Composition.{AreMarks-and_then};
     ghost use Rattle.lt_delta.proofs.Composes.{each_after};
     ghost use Rattle.lt_base.specs.Tables.{state_of};
     ghost use Rattle.lt_batch.specs.LeafRun.{StandsFor};
+    ghost use Rattle.lt_batch.specs.Priors.{leaf_bound};
     ghost use Rattle.lt_batch.specs.Work.{IsLeaf, FitsBatch, batch_does};
 
     type Tally = LeafTally;
@@ -121,7 +177,7 @@ impl LeafWork for BatchWork {
 
     ghost stands_for = { StandsFor };
 
-    ghost bound = { λ work prior leaf correction. None };
+    ghost bound = { leaf_bound };
 
     ghost fits_marks = { λ work marks fit. fit.1 };
 
@@ -134,14 +190,22 @@ impl LeafWork for BatchWork {
     fn work<L>(
         &self,
         leaf: u32,
-        _prior: Option<&LeafTally>,
+        prior: Option<&LeafTally>,
         correction: &Marks,
         moves: &mut Moves<L>,
-    ) -> Result<LeafTally, NoMemory> {
+    ) -> Result<LeafTally, NoMemory>
+        requires leaf { IsLeaf self.now leaf }
+        requires correction { FitsBatch self.now correction.now }
+        requires prior { IfSome prior (λ old. (c : MarksView) × FitsBatch self.now c × StandsFor self.now old.now leaf c) }
+        ensures stands { IfOk result (λ tally. StandsFor self.now tally leaf correction.now) }
+        ensures moves { IfSome (leaf_bound self.now (option_map (λ old. old.now) prior.entry) leaf correction.now) (λ most. moves.new ≤ moves.old + most) }
+        ensures rises { moves.old ≤ moves.new }
+        ensures restated { IfOk result (λ tally. IfSome prior.entry (λ old. IsRestated old.now.run tally.run)) }
+    {
         let prog = &self.programs[leaf as usize];
         let base = corrected(&self.snapshot, prog, correction)?;
+        let run = run_on(prog, &base, prior, correction, moves)?;
         let correction = correction.share()?;
-        let run = run(prog, &base, moves)?;
         Ok(LeafTally { run, correction })
     }
 

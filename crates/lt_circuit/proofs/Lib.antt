@@ -1,6 +1,17 @@
+pub mod Opening
+pub mod Standing
+pub mod Walk
+pub mod Tables
+pub mod Stores
+pub mod Readers
+pub mod Waking
+pub mod Finishes
 pub mod Tallies
 pub mod Steps
 pub mod Tasks
 pub mod Settling
 pub mod OneJob
+pub mod OnWay
+pub mod SweepParts
+pub mod OnRounds
 pub mod Hands

@@ -9,9 +9,9 @@ use Rattle.lt_net.specs.declared.job.JobName.TheVariants.{Leaf}
 use Rattle.lt_net.specs.Kept.{IsKept}
 use Rattle.lt_net.specs.Net.{Net, IsSettled, is_held}
 use Rattle.lt_net.specs.Tree.{IsSerial, code_of, leaf_value, then_all}
-use Rattle.lt_net.specs.Board.{BoardView, state_of, claim_from, standing}
+use Rattle.lt_circuit.specs.Board.{BoardView, state_of, claim_from, standing}
 use Rattle.lt_net.proofs.Serial.{serial_of}
-use Rattle.lt_net.proofs.Standing.{none_at}
+use Rattle.lt_circuit.proofs.Standing.{none_at}
 use Rattle.lt_circuit.specs.declared.entry.Entry.{Entry}
 use Rattle.lt_circuit.specs.declared.task.Prior.{Prior}
 use Rattle.lt_circuit.specs.Circuit.{IsCircuit}
@@ -54,3 +54,10 @@ module _ {T : Type 0} (does : ℕ → List Mark → List Mark) (stands_for : T �
         let same : Some t.correction ≡ Some (then_all (leaf_value board.leaves (state_of board)) [] i) = sym k.last ∙ circuit_serial.stands_for i lt in
         let p : t.correction ≡ then_all (leaf_value board.leaves (state_of board)) [] i = cc in
         subst (stands_for t.tally i) p k.stands
+
+    pub tally_fits : (p : Prior T) → get_or tallies i None ≡ Some p → fits (then_all (leaf_value board.leaves (state_of board)) [] i)
+    tally_fits t e =
+        let k = h.are_tallies.each i t e in
+        let same : Some t.correction ≡ Some (then_all (leaf_value board.leaves (state_of board)) [] i) = sym k.last ∙ circuit_serial.stands_for i lt in
+        let p : t.correction ≡ then_all (leaf_value board.leaves (state_of board)) [] i = cc in
+        subst fits p k.fit

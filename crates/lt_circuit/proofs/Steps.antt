@@ -8,26 +8,28 @@ use Rattle.lt_model.specs.Marks.{and_then}
 use Rattle.lt_net.specs.declared.job.JobState.TheVariants.{Clean, Pending}
 use Rattle.lt_net.specs.declared.job.JobName.{JobName}
 use Rattle.lt_net.specs.declared.job.JobName.TheVariants.{Leaf, Merge, Correct}
-use Rattle.lt_net.specs.declared.cells.Held.{Held}
+use Rattle.lt_circuit.specs.declared.cells.Held.{Held}
 use Rattle.lt_net.specs.Kept.{IsKept}
 use Rattle.lt_net.specs.Net.{Net, State, Claim, Claims, Finishes, Abandons, is_held, update, claim_of, claimed, finished, abandoned, step, replay, opening}
 use Rattle.lt_net.specs.Tree.{tree_of, leaves_in, inputs_of, code_of, circuit_net}
-use Rattle.lt_net.specs.Board.{BoardView, state_of, claim_from, standing, table}
+use Rattle.lt_circuit.specs.Board.{BoardView, state_of, claim_from, standing, table}
 use Rattle.lt_net.proofs.Fitting.{AllFit, reached_fit}
 use Rattle.lt_net.proofs.Inside.{replay_more, replay_end, job_inside, leaf_inside, leaves_are}
 use Rattle.lt_net.proofs.Jobs.{job_of-code}
 use Rattle.lt_net.proofs.Kept.{at_update}
-use Rattle.lt_net.proofs.Opening.{get_same, length-table}
+use Rattle.lt_circuit.proofs.Opening.{get_same, length-table}
 use Rattle.lt_net.proofs.Serial.{reached_kept}
 use Rattle.lt_net.proofs.Shape.{eq_true, eq_false, lt_true}
-use Rattle.lt_net.proofs.Standing.{one_less, at_most_one_more}
+use Rattle.lt_circuit.proofs.Standing.{one_less, at_most_one_more}
 use Rattle.lt_circuit.specs.declared.entry.Entry.{Entry}
 use Rattle.lt_circuit.specs.declared.task.Prior.{Prior}
 use Rattle.lt_circuit.specs.declared.task.Task.{Task}
-use Rattle.lt_circuit.specs.declared.task.Task.TheVariants.{Run, Join, PassOn}
+use Rattle.lt_circuit.specs.declared.task.Task.TheVariants.{Leaf as LeafTask, Merge as MergeTask, Correct as CorrectTask}
 use Rattle.lt_circuit.specs.declared.task.Done.{Done}
-use Rattle.lt_circuit.specs.declared.task.Done.TheVariants.{Ran, Joined, PassedOn}
-use Rattle.lt_circuit.specs.Circuit.{event_of, IsReplay, IsCircuit, AreTallies}
+use Rattle.lt_circuit.specs.declared.task.Done.TheVariants.{Leaf as LeafDone, Merge as MergeDone, Correct as CorrectDone}
+use Rattle.lt_circuit.specs.declared.entry.Event.TheVariants.{Claim as ClaimEvent, Finish as FinishEvent, Abandon as AbandonEvent}
+use Rattle.lt_circuit.specs.Entry.{event_of}
+use Rattle.lt_circuit.specs.Circuit.{IsReplay, IsCircuit, AreTallies}
 use Rattle.lt_circuit.specs.Job.{task_name, task_inputs, task_prior, prior_correction, tallies_left, tallies_back, tallies_done, done_name, done_inputs, done_prior, IsTask, IsPrior, IsOutput}
 use Rattle.lt_circuit.proofs.Tallies.{claim_tallies, abandon_tallies, finish_tallies}
 
@@ -36,28 +38,6 @@ claim_of_task task = record { job = code_of (task_name task); inputs = task_inpu
 
 abbrev pub claim_of_done : {T : Type 0} → Done T → Claim
 claim_of_done did = record { job = code_of (done_name did); inputs = done_inputs did; prior = done_prior did }
-
--- ---- entries as events
-
-claim_event : (w j : ℕ) → event_of (record { worker = w; code = 3 * j }) ≡ Claims w j
-claim_event w j =
-    let a : (3 * j % 3 == 0) ≡ true = ap (λ n. n == 0) (let z : 3 * j % 3 ≡ 0 = omega arith in z) in
-    let d : 3 * j / 3 ≡ j = omega arith in
-    rw (a, d)
-
-finish_event : (w j : ℕ) → event_of (record { worker = w; code = 3 * j + 1 }) ≡ Finishes w j
-finish_event w j =
-    let a : ((3 * j + 1) % 3 == 0) ≡ false = eq_false ((3 * j + 1) % 3) 0 (omega arith) in
-    let b : ((3 * j + 1) % 3 == 1) ≡ true = ap (λ n. n == 1) (let z : (3 * j + 1) % 3 ≡ 1 = omega arith in z) in
-    let d : (3 * j + 1) / 3 ≡ j = omega arith in
-    rw (a, b, d)
-
-abandon_event : (w j : ℕ) → event_of (record { worker = w; code = 3 * j + 2 }) ≡ Abandons w j
-abandon_event w j =
-    let a : ((3 * j + 2) % 3 == 0) ≡ false = eq_false ((3 * j + 2) % 3) 0 (omega arith) in
-    let b : ((3 * j + 2) % 3 == 1) ≡ false = eq_false ((3 * j + 2) % 3) 1 (omega arith) in
-    let d : (3 * j + 2) / 3 ≡ j = omega arith in
-    rw (a, b, d)
 
 -- a claim of another worker
 pub other_claim : {X : Type 0} (f : ℕ → X) (w : ℕ) (x : X) (v : ℕ) → v ≢ w → update f w x v ≡ f v
@@ -122,11 +102,11 @@ module _ {T : Type 0} (does : ℕ → List Mark → List Mark) (stands_for : T �
 
     pub claim_circuit : (board' : BoardView) (held : Held) (more : ℕ) → board'.leaves ≡ board.leaves → state_of board' ≡ claimed (circuit_net does (tree_of board.leaves)) (state_of board) w (code_of name)
         → board'.claims ≡ set board.claims w (Some held) → used + standing board.claims + 2 ≤ more
-        → IsCircuit does stands_for fits has board' (journal ++ record { worker = w; code = 3 * code_of name } ∷ []) (tallies_left name tallies) (used + 1) more
+        → IsCircuit does stands_for fits has board' (journal ++ record { worker = w; job = name; event = ClaimEvent } ∷ []) (tallies_left name tallies) (used + 1) more
     claim_circuit board' held more same st claims le =
-        let stepped : step net (state_of board) (event_of (record { worker = w; code = 3 * code_of name })) ≡ Some (state_of board') = rw (claim_event w (code_of name), free, pending) (ap Some (sym st)) in
+        let stepped : step net (state_of board) (event_of (record { worker = w; job = name; event = ClaimEvent })) ≡ Some (state_of board') = rw (free, pending) (ap Some (sym st)) in
         record {
-          replayed = one_event board' (record { worker = w; code = 3 * code_of name }) same stepped;
+          replayed = one_event board' (record { worker = w; job = name; event = ClaimEvent }) same stepped;
           few = omega (arith, same, h.few);
           leaves_there = λ i lt. h.leaves_there i (omega (arith, same));
           tallies_long = long name ∙ h.tallies_long ∙ sym same;
@@ -163,26 +143,26 @@ module _ {T : Type 0} (does : ℕ → List Mark → List Mark) (stands_for : T �
   done_busy w did cl = held_busy w (claim_of_done did) cl
 
   task_prior_fits : (task : Task T) → IsTask stands_for fits has task → (l : ℕ) → task_name task ≡ Leaf l → IsPrior stands_for fits l (task_prior task)
-  task_prior_fits (Run leaf correction prior) ok l e = let f : leaf ≡ l = cc in subst (λ n. IsPrior stands_for fits n prior) f ok.2
-  task_prior_fits (Join node left right) ok l e = cc
-  task_prior_fits (PassOn node correction left) ok l e = cc
+  task_prior_fits (LeafTask leaf correction prior) ok l e = let f : leaf ≡ l = cc in subst (λ n. IsPrior stands_for fits n prior) f ok.2
+  task_prior_fits (MergeTask node left right) ok l e = cc
+  task_prior_fits (CorrectTask node correction left) ok l e = cc
 
   back_long : (task : Task T) → length (tallies_back task tallies) ≡ length tallies
-  back_long (Run leaf correction prior) = length-set tallies leaf prior
-  back_long (Join node left right) = refl
-  back_long (PassOn node correction left) = refl
+  back_long (LeafTask leaf correction prior) = length-set tallies leaf prior
+  back_long (MergeTask node left right) = refl
+  back_long (CorrectTask node correction left) = refl
 
   done_long : (did : Done T) → length (tallies_done did tallies) ≡ length tallies
-  done_long (Ran leaf tally again prior effect) = length-set tallies leaf (Some tally)
-  done_long (Joined node left right effect) = refl
-  done_long (PassedOn node correction left to_right) = refl
+  done_long (LeafDone leaf tally again prior effect) = length-set tallies leaf (Some tally)
+  done_long (MergeDone node left right effect) = refl
+  done_long (CorrectDone node correction left to_right) = refl
 
   pub abandon_circuit : (w : ℕ) (task : Task T) (board' : BoardView) → (state_of board).claim w ≡ Some (claim_of_task task) → board'.leaves ≡ board.leaves
       → state_of board' ≡ abandoned (state_of board) w (claim_of_task task) → board'.claims ≡ set board.claims w None → IsTask stands_for fits has task
-      → IsCircuit does stands_for fits has board' (journal ++ record { worker = w; code = 3 * code_of (task_name task) + 2 } ∷ []) (tallies_back task tallies) (used + 1) capacity
+      → IsCircuit does stands_for fits has board' (journal ++ record { worker = w; job = task_name task; event = AbandonEvent } ∷ []) (tallies_back task tallies) (used + 1) capacity
   abandon_circuit w task board' cl same st fewer ok =
-      let e : Entry = record { worker = w; code = 3 * code_of (task_name task) + 2 } in
-      let stepped : step net (state_of board) (event_of e) ≡ Some (state_of board') = rw (abandon_event w (code_of (task_name task)), own_claim w (claim_of_task task) cl) (ap Some (sym st)) in
+      let e : Entry = record { worker = w; job = task_name task; event = AbandonEvent } in
+      let stepped : step net (state_of board) (event_of e) ≡ Some (state_of board') = rw (own_claim w (claim_of_task task) cl) (ap Some (sym st)) in
       record {
         replayed = one_event board' e same stepped;
         few = omega (arith, same, h.few);
@@ -201,10 +181,10 @@ module _ {T : Type 0} (does : ℕ → List Mark → List Mark) (stands_for : T �
 
   pub finish_circuit : (w : ℕ) (did : Done T) (board' : BoardView) → (state_of board).claim w ≡ Some (claim_of_done did) → board'.leaves ≡ board.leaves
       → state_of board' ≡ finished (circuit_net does (tree_of board.leaves)) (state_of board) w (claim_of_done did) → board'.claims ≡ set board.claims w None → IsOutput does stands_for fits did
-      → IsCircuit does stands_for fits has board' (journal ++ record { worker = w; code = 3 * code_of (done_name did) + 1 } ∷ []) (tallies_done did tallies) (used + 1) capacity
+      → IsCircuit does stands_for fits has board' (journal ++ record { worker = w; job = done_name did; event = FinishEvent } ∷ []) (tallies_done did tallies) (used + 1) capacity
   finish_circuit w did board' cl same st fewer ok =
-      let e : Entry = record { worker = w; code = 3 * code_of (done_name did) + 1 } in
-      let stepped : step net (state_of board) (event_of e) ≡ Some (state_of board') = rw (finish_event w (code_of (done_name did)), own_claim w (claim_of_done did) cl) (ap Some (sym st)) in
+      let e : Entry = record { worker = w; job = done_name did; event = FinishEvent } in
+      let stepped : step net (state_of board) (event_of e) ≡ Some (state_of board') = rw (own_claim w (claim_of_done did) cl) (ap Some (sym st)) in
       let busy = done_busy w did cl in
       record {
         replayed = one_event board' e same stepped;

@@ -11,9 +11,9 @@ use Rattle.lt_net.specs.Tree.{code_of}
 use Rattle.lt_net.proofs.Kept.{at_update, still_held, update_same}
 use Rattle.lt_circuit.specs.declared.task.Prior.{Prior}
 use Rattle.lt_circuit.specs.declared.task.Task.{Task}
-use Rattle.lt_circuit.specs.declared.task.Task.TheVariants.{Run, Join, PassOn}
+use Rattle.lt_circuit.specs.declared.task.Task.TheVariants.{Leaf as LeafTask, Merge as MergeTask, Correct as CorrectTask}
 use Rattle.lt_circuit.specs.declared.task.Done.{Done}
-use Rattle.lt_circuit.specs.declared.task.Done.TheVariants.{Ran, Joined, PassedOn}
+use Rattle.lt_circuit.specs.declared.task.Done.TheVariants.{Leaf as LeafDone, Merge as MergeDone, Correct as CorrectDone}
 use Rattle.lt_circuit.specs.Circuit.{IsTally, AreTallies}
 use Rattle.lt_circuit.specs.Job.{tallies_left, tallies_back, tallies_done, task_name, task_prior, prior_correction, done_name, IsPrior, HasTally, done_inputs}
 
@@ -86,14 +86,14 @@ module _ {T : Type 0} (stands_for : T → ℕ → List Mark → Type 0) (fits : 
         (λ k ne. refl) (λ k ne. ap is_held (update_other s.status c.job Pending k ne)) (others task job) (own task job captured inside)
       where
         others : (task : Task T) → c.job ≡ code_of (task_name task) → (i : ℕ) → 3 * i ≢ c.job → get_or (tallies_back task tallies) i None ≡ get_or tallies i None
-        others (Run l correction prior) job i ne = set_other tallies l i prior (λ e. ne (e ∙ sym job))
-        others (Join v left right) job i ne = refl
-        others (PassOn v correction left) job i ne = refl
+        others (LeafTask l correction prior) job i ne = set_other tallies l i prior (λ e. ne (e ∙ sym job))
+        others (MergeTask v left right) job i ne = refl
+        others (CorrectTask v correction left) job i ne = refl
 
         own : (task : Task T) → c.job ≡ code_of (task_name task) → prior_correction (task_prior task) ≡ s.done (code_of (task_name task))
             → ((l : ℕ) → task_name task ≡ Leaf l → l < length tallies × IsPrior stands_for fits l (task_prior task))
             → (i : ℕ) → 3 * i ≡ c.job → IsOwn (abandoned s w c) (tallies_back task tallies) i
-        own (Run l correction prior) job captured inside i e =
+        own (LeafTask l correction prior) job captured inside i e =
             let at : 3 * i ≡ 3 * l = e ∙ job in
             let same : i ≡ l = omega arith in
             let back : get_or (set tallies l prior) i None ≡ prior = set_own tallies l i prior (inside l refl).0 at in
@@ -110,8 +110,8 @@ module _ {T : Type 0} (stands_for : T → ℕ → List Mark → Type 0) (fits : 
                   let k = prior_is prior m (captured ∙ sym (ap s.done at) ∙ d) in
                   (k.0, back ∙ k.1);
             }
-        own (Join v left right) job captured inside i e = absurd (omega arith)
-        own (PassOn v correction left) job captured inside i e = absurd (omega arith)
+        own (MergeTask v left right) job captured inside i e = absurd (omega arith)
+        own (CorrectTask v correction left) job captured inside i e = absurd (omega arith)
 
     -- ---- a finished claim
     module _ (net : Net) (c : Claim) where
@@ -132,14 +132,14 @@ module _ {T : Type 0} (stands_for : T → ℕ → List Mark → Type 0) (fits : 
           (done_other (net.is_leaf c.job)) held_other (others did job) (own did job ins ok inside)
         where
           others : (did : Done T) → c.job ≡ code_of (done_name did) → (i : ℕ) → 3 * i ≢ c.job → get_or (tallies_done did tallies) i None ≡ get_or tallies i None
-          others (Ran l tally kept prior effect) job i ne = set_other tallies l i (Some tally) (λ e. ne (e ∙ sym job))
-          others (Joined v left right effect) job i ne = refl
-          others (PassedOn v correction left to_right) job i ne = refl
+          others (LeafDone l tally kept prior effect) job i ne = set_other tallies l i (Some tally) (λ e. ne (e ∙ sym job))
+          others (MergeDone v left right effect) job i ne = refl
+          others (CorrectDone v correction left to_right) job i ne = refl
 
           own : (did : Done T) → c.job ≡ code_of (done_name did) → c.inputs ≡ done_inputs did → HasTally stands_for fits did
               → ((l : ℕ) → done_name did ≡ Leaf l → l < length tallies × (net.is_leaf c.job ≡ true))
               → (i : ℕ) → 3 * i ≡ c.job → IsOwn (finished net s w c) (tallies_done did tallies) i
-          own (Ran l tally kept prior effect) job ins ok inside i e =
+          own (LeafDone l tally kept prior effect) job ins ok inside i e =
               let at : 3 * i ≡ 3 * l = e ∙ job in
               let same : i ≡ l = omega arith in
               let new : get_or (set tallies l (Some tally)) i None ≡ Some tally = set_own tallies l i (Some tally) (inside l refl).0 at in
@@ -155,5 +155,5 @@ module _ {T : Type 0} (stands_for : T → ℕ → List Mark → Type 0) (fits : 
                     (record { last = last; fit = ok.0; stands = subst (λ n. stands_for tally.tally n tally.correction) (sym same) ok.1 });
                 there = λ m d f. (tally, new);
               }
-          own (Joined v left right effect) job ins ok inside i e = absurd (omega arith)
-          own (PassedOn v correction left to_right) job ins ok inside i e = absurd (omega arith)
+          own (MergeDone v left right effect) job ins ok inside i e = absurd (omega arith)
+          own (CorrectDone v correction left to_right) job ins ok inside i e = absurd (omega arith)

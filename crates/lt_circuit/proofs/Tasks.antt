@@ -6,18 +6,19 @@ use Rattle.lt_model.specs.declared.mark.Mark.{Mark}
 use Rattle.lt_net.specs.declared.job.JobState.TheVariants.{Pending}
 use Rattle.lt_net.specs.declared.job.JobName.{JobName}
 use Rattle.lt_net.specs.declared.job.JobName.TheVariants.{Leaf, Merge, Correct}
-use Rattle.lt_net.specs.declared.cells.Inputs.{Inputs}
-use Rattle.lt_net.specs.declared.cells.Inputs.TheVariants.{One, Two}
+use Rattle.lt_circuit.specs.declared.cells.Inputs.{Inputs}
+use Rattle.lt_circuit.specs.declared.cells.Inputs.TheVariants.{One, Two}
 use Rattle.lt_net.specs.Net.{Cell, Correction, Effect, State, Claim, read, is_held, claimed}
 use Rattle.lt_net.specs.Tree.{Tree, tree_of, right_in, leaves_in, node_in, if_inner, inputs_of, code_of, circuit_net}
-use Rattle.lt_net.specs.Board.{BoardView, state_of, inputs_list}
+use Rattle.lt_circuit.specs.Board.{BoardView, state_of, done_of, inputs_list}
 use Rattle.lt_net.proofs.Kept.{update_same}
 use Rattle.lt_net.proofs.Jobs.{job_of-code}
 use Rattle.lt_net.proofs.Shape.{eq_false}
 use Rattle.lt_circuit.specs.declared.task.Prior.{Prior}
 use Rattle.lt_circuit.specs.declared.task.Task.{Task}
 use Rattle.lt_circuit.specs.Circuit.{AreTallies}
-use Rattle.lt_circuit.specs.Job.{arity, task_from, task_name, task_inputs, task_prior, prior_correction, IsTask, IsPrior}
+use Rattle.lt_circuit.specs.Job.{arity, task_from, task_name, task_inputs, task_prior, prior_correction, prior_of, tallies_left, IsTask, IsPrior}
+use Rattle.lt_circuit.specs.declared.entry.Event.TheVariants.{Claim as ClaimEvent}
 use Rattle.lt_circuit.specs.declared.entry.Entry.{Entry}
 use Rattle.lt_circuit.specs.Claiming.{IsClaimed}
 use Rattle.lt_circuit.proofs.Steps.{claim_of_task, other_claim}
@@ -43,6 +44,11 @@ module _ {T : Type 0} (tallies : List (Option (Prior T))) where
   from_name (Merge v) inputs = refl
   from_name (Correct v) inputs = refl
 
+  pub takes_prior : (name : JobName) (inputs : Inputs) → task_prior (task_from name inputs tallies) ≡ prior_of name tallies
+  takes_prior (Leaf i) inputs = refl
+  takes_prior (Merge v) inputs = refl
+  takes_prior (Correct v) inputs = refl
+
   from_inputs : (name : JobName) (inputs : Inputs) → length (inputs_list inputs) ≡ arity name → task_inputs (task_from name inputs tallies) ≡ inputs_list inputs
   from_inputs (Leaf i) (One a) h = refl
   from_inputs (Leaf i) (Two a b) h = absurd (omega arith)
@@ -60,8 +66,8 @@ module _ {T : Type 0} (tallies : List (Option (Prior T))) where
 
     from_prior : (name : JobName) (inputs : Inputs) → (state_of b).status (code_of name) ≡ Pending → prior_correction (task_prior (task_from name inputs tallies)) ≡ (state_of b).done (code_of name)
     from_prior (Leaf i) inputs pending = leaf_prior i (get_or tallies i None) ((state_of b).done (code_of (Leaf i))) refl refl (ap is_held pending)
-    from_prior (Merge v) inputs pending = let no : ((3 * v + 1) % 3 == 0) ≡ false = eq_false ((3 * v + 1) % 3) 0 (omega arith) in rw no
-    from_prior (Correct v) inputs pending = let no : ((3 * v + 2) % 3 == 0) ≡ false = eq_false ((3 * v + 2) % 3) 0 (omega arith) in rw no
+    from_prior (Merge v) inputs pending = ap (done_of b.done) (sym (job_of-code (Merge v)))
+    from_prior (Correct v) inputs pending = ap (done_of b.done) (sym (job_of-code (Correct v)))
 
     prior_stands : (i : ℕ) (o : Option (Prior T)) → get_or tallies i None ≡ o → IsPrior stands_for fits i o
     prior_stands i None e = tt
@@ -92,23 +98,25 @@ module _ {T : Type 0} (tallies : List (Option (Prior T))) where
 -- ---- what a claim answers
 
 module _ {W T : Type 0} (stands_for : T → ℕ → List Mark → Type 0) (fits : List Mark → Type 0) (does : ℕ → List Mark → List Mark) (work second : W) (b after : BoardView)
-    (journal longer : List Entry) (tallies : List (Option (Prior T))) (a : AreTallies stands_for fits (state_of b) tallies) (w code : ℕ) (name : JobName) (inputs : Inputs) (task : Task T) where
-  pub is_claimed : second ≡ work → code_of name ≡ code → task ≡ task_from name inputs tallies → after.leaves ≡ b.leaves → (state_of b).status (code_of name) ≡ Pending
+    (journal longer : List Entry) (tallies : List (Option (Prior T))) (a : AreTallies stands_for fits (state_of b) tallies) (w : ℕ) (name : JobName) (inputs : Inputs) (task : Task T) (left : List (Option (Prior T))) where
+  pub is_claimed : second ≡ work → task ≡ task_from name inputs tallies → after.leaves ≡ b.leaves → (state_of b).status (code_of name) ≡ Pending
       → length (inputs_list inputs) ≡ arity name → inputs_list inputs ≡ read (state_of b).value (inputs_of (tree_of b.leaves) name)
-      → state_of after ≡ claimed (circuit_net does (tree_of b.leaves)) (state_of b) w code → longer ≡ journal ++ record { worker = w; code = 3 * code } ∷ []
-      → IsClaimed does (record { work = work; board = b; journal = journal }) (record { work = work; board = after; journal = longer }) w (record { work = second; task = task })
-  is_claimed same code_is task_is leaves pending long ins st more =
+      → state_of after ≡ claimed (circuit_net does (tree_of b.leaves)) (state_of b) w (code_of name) → longer ≡ journal ++ record { worker = w; job = name; event = ClaimEvent } ∷ []
+      → left ≡ tallies_left name tallies
+      → IsClaimed does (record { work = work; board = b; journal = journal; tallies = tallies }) (record { work = work; board = after; journal = longer; tallies = left }) w (record { work = second; task = task })
+  is_claimed same task_is leaves pending long ins st more fewer =
       let net = circuit_net does (tree_of b.leaves) in
       let named : task_name task ≡ name = ap task_name task_is ∙ from_name tallies name inputs in
-      let coded : code_of (task_name task) ≡ code = ap code_of named ∙ code_is in
       record {
         of_work = same;
         work = refl;
         leaves = leaves;
         pending = ap (state_of b).status (ap code_of named) ∙ pending;
-        stepped = st ∙ ap (claimed net (state_of b) w) (sym coded);
-        held = ap (λ (s : State). s.claim w) (st ∙ ap (claimed net (state_of b) w) (sym code_is))
+        stepped = st ∙ ap (λ n. claimed net (state_of b) w (code_of n)) (sym named);
+        held = ap (λ (s : State). s.claim w) st
             ∙ from_claim tallies stands_for fits b a does w name inputs long ins pending ∙ ap (λ k. Some (claim_of_task k)) (sym task_is);
-        others = λ v ne. ap (λ (s : State). s.claim v) st ∙ other_claim (state_of b).claim w (Some (record { job = code; inputs = read (state_of b).value (net.inputs code); prior = (state_of b).done code })) v ne;
-        journal = more ∙ ap (λ j. journal ++ record { worker = w; code = 3 * j } ∷ []) (sym coded);
+        others = λ v ne. ap (λ (s : State). s.claim v) st ∙ other_claim (state_of b).claim w (Some (record { job = code_of name; inputs = read (state_of b).value (net.inputs (code_of name)); prior = (state_of b).done (code_of name) })) v ne;
+        journal = more ∙ ap (λ n. journal ++ record { worker = w; job = n; event = ClaimEvent } ∷ []) (sym named);
+        prior = ap task_prior task_is ∙ takes_prior tallies name inputs ∙ ap (λ n. prior_of n tallies) (sym named);
+        tallies = fewer ∙ ap (λ n. tallies_left n tallies) (sym named);
       }

@@ -1,25 +1,22 @@
 -- What a contract sees of a circuit, and what holds of each.
-use Rattle.std.specs.Prelude.{◌≡◌, ℕ, ◌/◌, ◌%◌, ◌+◌, ◌≤◌, ◌<◌, ◌==◌, if◌then◌else◌, false, List, map, Option, Some, None, length, slice_index_or}
+use Rattle.std.specs.Prelude.{◌≡◌, ℕ, ◌+◌, ◌≤◌, ◌<◌, false, List, map, Option, Some, None, length, slice_index_or}
 use Rattle.lt_model.specs.declared.mark.Mark.{Mark}
 use Rattle.lt_net.specs.declared.job.JobName.TheVariants.{Leaf}
-use Rattle.lt_net.specs.Net.{State, Event, Claims, Finishes, Abandons, is_held, replay, opening}
+use Rattle.lt_net.specs.Net.{State, is_held, replay, opening}
 use Rattle.lt_net.specs.Tree.{circuit_net, tree_of, code_of}
-use Rattle.lt_net.specs.Board.{BoardView, state_of, standing}
+use Rattle.lt_circuit.specs.Board.{BoardView, state_of, standing}
 use Rattle.lt_circuit.specs.declared.entry.Entry.{Entry}
+use Rattle.lt_circuit.specs.Entry.{event_of}
 use Rattle.lt_circuit.specs.declared.task.Prior.{Prior}
 
--- the entry's code is three times the job's, plus 1 for a finish and 2 for an abandon
-abbrev pub event_of : Entry → Event
-event_of e =
-    if e.code % 3 == 0 then Claims e.worker (e.code / 3)
-    else (if e.code % 3 == 1 then Finishes e.worker (e.code / 3) else Abandons e.worker (e.code / 3))
-
-pub record CircuitView (W : Type 0) : Type 0 where
+-- The tallies are per leaf. While a worker holds the leaf's job, the leaf's tally is with it.
+pub record CircuitView (W T : Type 0) : Type 0 where
   pub work : W
   pub board : BoardView
   pub journal : List Entry
+  pub tallies : List (Option (Prior T))
 
-abbrev pub state : {W : Type 0} → CircuitView W → State
+abbrev pub state : {W T : Type 0} → CircuitView W T → State
 state c = state_of c.board
 
 -- the circuit is the replay of its journal. `does` is what the work's leaves do

@@ -1,16 +1,18 @@
 //! What a circuit tells. It takes no memory.
-ghost use Rattle.std.specs.Prelude.{◌≡◌, ◌≢◌, ◌≤◌, ◌<◌, ℕ, [], None, IfSome, IsTrue, ◌↔◌};
+ghost use Rattle.std.specs.Prelude.{◌≡◌, ◌≢◌, ◌≤◌, ◌<◌, ◌^◌, ℕ, [], None, Some, IfSome, IsTrue, ◌↔◌, slice_index_or};
 ghost use Rattle.lt_net.specs.declared.job.JobState.TheVariants.{Pending};
-ghost use Rattle.lt_net.specs.Board.{standing};
+ghost use Rattle.lt_circuit.specs.Board.{standing};
 ghost use Rattle.lt_net.specs.Net.{IsSettled, Effect};
-ghost use Rattle.lt_net.specs.Tree.{leaf_value, then_all};
+ghost use Rattle.lt_net.specs.Tree.{code_of, leaf_value, then_all};
+ghost use Rattle.lt_circuit.specs.declared.task.Prior.{Prior as PriorType};
 ghost use Rattle.lt_circuit.specs.Circuit.{state, IsReplay};
 
 use crate::circuit::Circuit;
 use crate::entry::Entry;
+use crate::tree::node_of;
 use crate::work::LeafWork;
 use lt_delta::Marks;
-use lt_net::tree::node_of;
+use lt_net::JobName;
 
 impl<W: LeafWork> Circuit<W> {
     /// All events in their order. The circuit is their replay.
@@ -37,24 +39,27 @@ impl<W: LeafWork> Circuit<W> {
         self.board.in_flight()
     }
 
-    /// The first Pending job, by its code.
-    pub(crate) fn first_pending(&self) -> Option<u32>
-        ensures some { IfSome result (λ job. (state self.now).status job ≡ Pending) }
+    /// A Pending job, if any.
+    pub(crate) fn next_pending(&self) -> Option<JobName>
+        ensures some { IfSome result (λ job. (state self.now).status (code_of job) ≡ Pending) }
+        ensures small { IfSome result (λ job. code_of job < 2 ^ 32) }
         ensures none { result ≡ None → (job : ℕ) → (state self.now).status job ≢ Pending }
     {
-        self.board.first_pending()
+        self.board.next_pending()
     }
 
-    /// Whether the job of this code is Pending.
-    pub(crate) fn is_pending(&self, code: u32) -> bool
-        ensures { IsTrue result ↔ ((state self.now).status code ≡ Pending) }
+    /// Whether the job is Pending. A name that is no job's of the circuit isn't.
+    pub(crate) fn is_pending(&self, name: JobName) -> bool
+        requires { code_of name < 2 ^ 32 }
+        ensures { IsTrue result ↔ ((state self.now).status (code_of name) ≡ Pending) }
     {
-        self.board.is_pending(code)
+        self.board.is_pending(name)
     }
 
     /// The effect of all leaves. In a settled circuit it is that of the leaves one after another.
     pub fn root_effect(&self) -> &Marks
         ensures value { result.now ≡ (state self.now).value (Effect 0) }
+        ensures fits { W.fits self.now.work result.now }
         ensures serial { IsSettled (state self.now) → result.now ≡ then_all (leaf_value self.now.board.leaves (state self.now)) [] self.now.board.leaves }
     {
         self.board.effect(0)
@@ -64,6 +69,7 @@ impl<W: LeafWork> Circuit<W> {
     pub fn effect(&self, leaf: u32) -> &Marks
         requires { leaf < self.now.board.leaves }
         ensures value { result.now ≡ leaf_value self.now.board.leaves (state self.now) leaf }
+        ensures fits { W.fits self.now.work result.now }
         ensures serial { IsSettled (state self.now) → result.now ≡ W.does self.now.work leaf (then_all (leaf_value self.now.board.leaves (state self.now)) [] leaf) }
     {
         let leaves = self.board.leaves();
@@ -74,7 +80,9 @@ impl<W: LeafWork> Circuit<W> {
     pub fn tally(&self, leaf: u32) -> &W::Tally
         requires settled { IsSettled (state self.now) }
         requires leaf { leaf < self.now.board.leaves }
-        ensures { W.stands_for self.now.work result.now leaf (then_all (leaf_value self.now.board.leaves (state self.now)) [] leaf) }
+        ensures stands { W.stands_for self.now.work result.now leaf (then_all (leaf_value self.now.board.leaves (state self.now)) [] leaf) }
+        ensures fits { W.fits self.now.work (then_all (leaf_value self.now.board.leaves (state self.now)) [] leaf) }
+        ensures place { (prior : PriorType W.Tally) × (slice_index_or self.now.tallies leaf None ≡ Some prior) × (prior.tally ≡ result.now) }
     {
         match &self.tallies[leaf as usize] {
             Some(prior) => &prior.tally,

@@ -4,14 +4,14 @@ ghost use Rattle.std.specs.Vec.{vec_len, vec_capacity};
 ghost use Rattle.std.specs.Arc.{arc_value};
 ghost use Rattle.lt_net.specs.Net.{opening};
 ghost use Rattle.lt_net.specs.Tree.{circuit_net, tree_of};
-ghost use Rattle.lt_alone.specs.Alone.{IsUnclaimed};
+ghost use Rattle.lt_net.specs.Alone.{IsUnclaimed};
 ghost use Rattle.lt_circuit.specs.Circuit.{CircuitView, IsCircuit, state};
 
+use crate::board::{Board, nones};
 use crate::entry::Entry;
 use crate::task::Prior;
 use crate::work::LeafWork;
 use lt_face::NoMemory;
-use lt_net::board::{Board, nones};
 use std::alloc::Global;
 use std::marker::Model;
 use std::sync::Arc;
@@ -26,9 +26,9 @@ pub struct Circuit<W: LeafWork> {
 }
 
 impl<W: LeafWork> Model for Circuit<W> {
-    ghost Value = { CircuitView W };
+    ghost Value = { CircuitView W W.Tally };
 
-    ghost view = { λ c. record { work = arc_value c.work; board = c.board; journal = c.journal.items } };
+    ghost view = { λ c. record { work = arc_value c.work; board = c.board; journal = c.journal.items; tallies = c.tallies.items } };
 
     ghost invariant = { λ c. IsCircuit (W.does (arc_value c.work)) (W.stands_for (arc_value c.work)) (W.fits (arc_value c.work)) (W.has (arc_value c.work)) c.board c.journal.items c.tallies.items (vec_len c.journal) (vec_capacity c.journal) };
 }

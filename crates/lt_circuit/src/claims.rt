@@ -2,13 +2,14 @@
 ghost use Rattle.std.specs.Prelude.{◌≡◌, ◌<◌, ℕ, None, IfOk, OnErr};
 ghost use Rattle.std.specs.Arc.{arc_value};
 ghost use Rattle.lt_net.specs.declared.job.JobState.TheVariants.{Pending};
+ghost use Rattle.lt_net.specs.Tree.{code_of};
 ghost use Rattle.lt_circuit.specs.Circuit.{state};
-ghost use Rattle.lt_circuit.specs.Claiming.{IsAnswer, IsClaimed, IsThis};
-ghost use Rattle.lt_circuit.specs.Job.{claim_of_job};
+ghost use Rattle.lt_circuit.specs.Claiming.{IsAnswer, IsClaimed, IsCoded, IsThis};
+ghost use Rattle.lt_circuit.specs.Job.{name_of_job};
 
 use crate::circuit::Circuit;
 use crate::claim::{Claim, This};
-use crate::entry::Entry;
+use crate::entry::{Entry, Event};
 use crate::job::Job;
 use crate::task::take_task;
 use crate::work::LeafWork;
@@ -18,7 +19,7 @@ use std::alloc::Global;
 use std::sync::Arc;
 
 /// A second owner of the work.
-fn shared<W: LeafWork>(work: &Arc<W, Global>) -> Result<Arc<W, Global>, NoMemory>
+fn share_work<W: LeafWork>(work: &Arc<W, Global>) -> Result<Arc<W, Global>, NoMemory>
     ensures { IfOk result (λ second. arc_value second ≡ arc_value work.now) }
 {
     let second = work.clone()?;
@@ -27,24 +28,24 @@ fn shared<W: LeafWork>(work: &Arc<W, Global>) -> Result<Arc<W, Global>, NoMemory
 
 impl<W: LeafWork> Circuit<W> {
     /// Claims a Pending job. It first takes the journal's room for its own entry and its end.
-    fn take(&mut self, worker: u32, code: u32) -> Result<Job<W>, NoMemory>
+    fn take(&mut self, worker: u32, name: JobName) -> Result<Job<W>, NoMemory>
         requires worker { worker < 16 }
         requires free { (state self.old).claim worker ≡ None }
-        requires pending { (state self.old).status code ≡ Pending }
+        requires pending { (state self.old).status (code_of name) ≡ Pending }
         ensures ok { IfOk result (λ job. IsClaimed (W.does self.old.work) self.old self.new worker job) }
-        ensures code { IfOk result (λ job. (claim_of_job job).job ≡ code) }
+        ensures name { IfOk result (λ job. name_of_job job ≡ name) }
         ensures err { OnErr result (self.new ≡ self.old) }
     {
-        let name = JobName::of(code);
         let captured = self.board.capture(name)?;
-        let work = shared(&self.work)?;
+        let work = share_work(&self.work)?;
         let in_flight = self.board.in_flight();
         self.journal.reserve(in_flight as usize + 2)?;
-        self.board.hold(worker, code, captured.held, captured.prior);
+        self.board.hold(worker, name, captured.held, captured.prior);
         let task = take_task(&mut self.tallies, name, captured.given);
         self.journal.push_reserved(Entry {
             worker,
-            code: 3 * code,
+            job: name,
+            event: Event::Claim,
         });
         Ok(Job { work, task })
     }
@@ -53,10 +54,11 @@ impl<W: LeafWork> Circuit<W> {
     pub fn claim(&mut self, worker: u32) -> Claim<W>
         requires worker { worker < 16 }
         requires free { (state self.old).claim worker ≡ None }
-        ensures { IsAnswer (W.does self.old.work) self.old self.new worker result }
+        ensures answer { IsAnswer (W.does self.old.work) self.old self.new worker result }
+        ensures coded { IsCoded result }
     {
-        match self.first_pending() {
-            Some(code) => match self.take(worker, code) {
+        match self.next_pending() {
+            Some(name) => match self.take(worker, name) {
                 Ok(job) => Claim::Job(job),
                 Err(_refused) => Claim::NoMemory,
             },
@@ -77,10 +79,11 @@ impl<W: LeafWork> Circuit<W> {
         requires free { (state self.old).claim worker ≡ None }
         ensures { IsThis (W.does self.old.work) self.old self.new worker code result }
     {
-        if !self.is_pending(code) {
+        let name = JobName::of(code);
+        if !self.is_pending(name) {
             return This::NotPending;
         }
-        match self.take(worker, code) {
+        match self.take(worker, name) {
             Ok(job) => This::Job(job),
             Err(_refused) => This::NoMemory,
         }

@@ -1,22 +1,46 @@
 //! The ends of claims. They take no memory.
-ghost use Rattle.std.specs.Prelude.{◌≡◌, ◌≢◌, ◌+◌, ◌*◌, ◌<◌, [], ◌∷◌, ◌++◌, ℕ, List, Some, None, length, slice_set};
+ghost use Rattle.std.specs.Prelude.{◌≡◌, ◌≢◌, ◌<◌, [], ◌∷◌, ◌++◌, ℕ, List, Some, None, length, slice_set};
 ghost use Rattle.lt_model.specs.declared.mark.Mark.{Mark};
-ghost use Rattle.lt_net.specs.Board.{state_of};
 ghost use Rattle.lt_net.specs.Net.{Claim, abandoned, finished};
 ghost use Rattle.lt_net.specs.Tree.{circuit_net, code_of, inputs_of, tree_of};
+ghost use Rattle.lt_circuit.specs.declared.entry.Event.TheVariants.{Finish, Abandon};
+ghost use Rattle.lt_circuit.specs.Board.{state_of};
 ghost use Rattle.lt_circuit.specs.Circuit.{state};
-ghost use Rattle.lt_circuit.specs.Job.{claim_of_job, claim_of_output, done_inputs, done_name, Gave, tallies_done};
+ghost use Rattle.lt_circuit.specs.Job.{claim_of_job, claim_of_output, done_inputs, done_name, name_of_job, name_of_output, Gave, tallies_back, tallies_done};
 
+use crate::board::Board;
 use crate::circuit::Circuit;
-use crate::entry::Entry;
+use crate::entry::{Entry, Event};
 use crate::job::Job;
 use crate::output::Output;
 use crate::task::{Done, Prior, give_back};
 use crate::work::LeafWork;
-use lt_net::board::Board;
+use lt_delta::Marks;
+use std::alloc::Global;
+use std::sync::Arc;
+
+/// What a finish has no more use for. Whoever shares the circuit drops it when no other waits.
+#[derive(Drop)]
+pub struct Spent<W: LeafWork> {
+    work: Arc<W, Global>,
+    first: Marks,
+    second: Option<Marks>,
+}
+
+/// The marks that stood where a job's outputs stand now.
+#[derive(Drop)]
+struct Stood {
+    first: Marks,
+    second: Option<Marks>,
+}
 
 /// What was done stands in the tables, and a leaf's tally in its place.
-fn store<T: Drop>(board: &mut Board, tallies: &mut Vec<Option<Prior<T>>>, worker: u32, did: Done<T>)
+fn store<T: Drop>(
+    board: &mut Board,
+    tallies: &mut Vec<Option<Prior<T>>>,
+    worker: u32,
+    did: Done<T>,
+) -> Stood
     requires worker { worker < 16 }
     requires job { inputs_of (tree_of board.old.leaves) (done_name did) ≢ [] }
     requires tallies { length tallies.old.items ≡ board.old.leaves }
@@ -27,38 +51,50 @@ fn store<T: Drop>(board: &mut Board, tallies: &mut Vec<Option<Prior<T>>>, worker
     ensures tallies { tallies.new.items ≡ tallies_done did tallies.old.items }
 {
     match did {
-        Done::Ran {
+        Done::Leaf {
             leaf,
             tally,
             kept,
             prior: _prior,
             effect,
         } => {
-            board.finish_leaf(worker, leaf, kept, effect);
+            let first = board.finish_leaf(worker, leaf, kept, effect);
             tallies[leaf as usize] = Some(tally);
+            Stood {
+                first,
+                second: None,
+            }
         }
-        Done::Joined {
+        Done::Merge {
             node,
             left: _left,
             right: _right,
             effect,
         } => {
-            board.finish_merge(worker, node, effect);
+            let first = board.finish_merge(worker, node, effect);
+            Stood {
+                first,
+                second: None,
+            }
         }
-        Done::PassedOn {
+        Done::Correct {
             node,
             correction,
             left: _left,
             to_right,
         } => {
-            board.finish_correct(worker, node, correction, to_right);
+            let (left, right) = board.finish_correct(worker, node, correction, to_right);
+            Stood {
+                first: left,
+                second: Some(right),
+            }
         }
     }
 }
 
 impl<W: LeafWork> Circuit<W> {
     /// The worker's job is done, and this is its output.
-    pub fn finish(&mut self, worker: u32, output: Output<W>)
+    pub fn finish(&mut self, worker: u32, output: Output<W>) -> Spent<W>
         requires worker { worker < 16 }
         requires work { output.work ≡ self.old.work }
         requires claim { (state self.old).claim worker ≡ Some (claim_of_output output) }
@@ -66,19 +102,26 @@ impl<W: LeafWork> Circuit<W> {
         ensures leaves { self.new.board.leaves ≡ self.old.board.leaves }
         ensures state { state self.new ≡ finished (circuit_net (W.does self.old.work) (tree_of self.old.board.leaves)) (state self.old) worker (claim_of_output output) }
         ensures others { (v : ℕ) → v ≢ worker → (state self.new).claim v ≡ (state self.old).claim v }
-        ensures journal { self.new.journal ≡ self.old.journal ++ record { worker = worker; code = 3 * (claim_of_output output).job + 1 } ∷ [] }
+        ensures journal { self.new.journal ≡ self.old.journal ++ record { worker = worker; job = name_of_output output; event = Finish } ∷ [] }
+        ensures tallies { self.new.tallies ≡ tallies_done output.did self.old.tallies }
     {
         let _leaves = self.board.leaves();
-        let Output { work: _work, did } = output;
-        let code = did.name().code();
-        store(&mut self.board, &mut self.tallies, worker, did);
+        let Output { work, did } = output;
+        let job = did.name();
+        let Stood { first, second } = store(&mut self.board, &mut self.tallies, worker, did);
         self.journal.push_reserved(Entry {
             worker,
-            code: 3 * code + 1,
+            job,
+            event: Event::Finish,
         });
+        Spent {
+            work,
+            first,
+            second,
+        }
     }
 
-    /// The worker gives its job up, and a leaf's tally goes back.
+    /// The worker gives its job up, and the tally that a leaf's claim took goes back.
     pub fn abandon(&mut self, worker: u32, job: Job<W>)
         requires worker { worker < 16 }
         requires work { job.work ≡ self.old.work }
@@ -87,16 +130,18 @@ impl<W: LeafWork> Circuit<W> {
         ensures leaves { self.new.board.leaves ≡ self.old.board.leaves }
         ensures state { state self.new ≡ abandoned (state self.old) worker (claim_of_job job) }
         ensures others { (v : ℕ) → v ≢ worker → (state self.new).claim v ≡ (state self.old).claim v }
-        ensures journal { self.new.journal ≡ self.old.journal ++ record { worker = worker; code = 3 * (claim_of_job job).job + 2 } ∷ [] }
+        ensures journal { self.new.journal ≡ self.old.journal ++ record { worker = worker; job = name_of_job job; event = Abandon } ∷ [] }
+        ensures tallies { self.new.tallies ≡ tallies_back job.task self.old.tallies }
     {
         let _leaves = self.board.leaves();
         let Job { work: _work, task } = job;
-        let code = task.name().code();
-        self.board.abandon(worker, code);
+        let name = task.name();
+        self.board.abandon(worker, name);
         give_back(&mut self.tallies, task);
         self.journal.push_reserved(Entry {
             worker,
-            code: 3 * code + 2,
+            job: name,
+            event: Event::Abandon,
         });
     }
 }

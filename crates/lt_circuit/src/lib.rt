@@ -4,6 +4,8 @@
 
 mod alone;
 mod answers;
+pub mod board;
+pub mod cells;
 mod circuit;
 mod claim;
 mod claims;
@@ -13,11 +15,13 @@ mod job;
 mod output;
 mod run;
 mod task;
+pub mod tree;
 mod work;
 
 pub use circuit::Circuit;
 pub use claim::{Claim, This};
-pub use entry::Entry;
+pub use ends::Spent;
+pub use entry::{Entry, Event};
 pub use job::Job;
 pub use lt_net::{JobName, every_event_keeps, settled_is_serial};
 pub use output::Output;

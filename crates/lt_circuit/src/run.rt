@@ -2,7 +2,7 @@
 ghost use Rattle.std.specs.Prelude.{◌≡◌, ◌+◌, ◌≤◌, List, IfOk, IfErr, IfSome};
 ghost use Rattle.std.specs.Option.{option_map};
 ghost use Rattle.lt_model.specs.declared.mark.Mark.{Mark};
-ghost use Rattle.lt_circuit.specs.Job.{claim_of_job, claim_of_output, task_bound};
+ghost use Rattle.lt_circuit.specs.Job.{claim_of_job, claim_of_output, name_of_job, name_of_output, task_bound};
 
 use crate::job::Job;
 use crate::output::Output;
@@ -34,6 +34,7 @@ fn run_leaf<W: LeafWork, L>(
     ensures kept { IfOk result (λ ran. ran.kept ≡ correction.now) }
     ensures effect { IfOk result (λ ran. ran.effect ≡ W.does work.now leaf correction.now) }
     ensures moves { IfSome (W.bound work.now (option_map (λ old. old.now) prior.entry) leaf correction.now) (λ most. moves.new ≤ moves.old + most) }
+    ensures rises { moves.old ≤ moves.new }
 {
     let tally = work.work(leaf, prior, correction, moves)?;
     let kept = correction.share()?;
@@ -51,12 +52,14 @@ impl<W: LeafWork> Job<W> {
     pub fn work<L>(self, moves: &mut Moves<L>) -> Result<Output<W>, Job<W>>
         ensures work { IfOk result (λ output. output.work ≡ self.work) }
         ensures claim { IfOk result (λ output. claim_of_output output ≡ claim_of_job self) }
+        ensures name { IfOk result (λ output. name_of_output output ≡ name_of_job self) }
         ensures err { IfErr result (λ job. job ≡ self) }
         ensures moves { IfSome (task_bound (W.bound self.work) self.task) (λ most. moves.new ≤ moves.old + most) }
+        ensures rises { moves.old ≤ moves.new }
     {
         let Job { work, task } = self;
         match task {
-            Task::Run {
+            Task::Leaf {
                 leaf,
                 correction,
                 prior,
@@ -74,7 +77,7 @@ impl<W: LeafWork> Job<W> {
                             effect,
                         } = ran;
                         let tally = Prior { tally, correction };
-                        let did = Done::Ran {
+                        let did = Done::Leaf {
                             leaf,
                             tally,
                             kept,
@@ -84,7 +87,7 @@ impl<W: LeafWork> Job<W> {
                         Ok(Output { work, did })
                     }
                     Err(_refused) => {
-                        let task = Task::Run {
+                        let task = Task::Leaf {
                             leaf,
                             correction,
                             prior,
@@ -93,9 +96,9 @@ impl<W: LeafWork> Job<W> {
                     }
                 }
             }
-            Task::Join { node, left, right } => match Marks::and_then(&left, &right) {
+            Task::Merge { node, left, right } => match Marks::and_then(&left, &right) {
                 Ok(effect) => {
-                    let did = Done::Joined {
+                    let did = Done::Merge {
                         node,
                         left,
                         right,
@@ -104,17 +107,17 @@ impl<W: LeafWork> Job<W> {
                     Ok(Output { work, did })
                 }
                 Err(_refused) => {
-                    let task = Task::Join { node, left, right };
+                    let task = Task::Merge { node, left, right };
                     Err(Job { work, task })
                 }
             },
-            Task::PassOn {
+            Task::Correct {
                 node,
                 correction,
                 left,
             } => match Marks::and_then(&correction, &left) {
                 Ok(to_right) => {
-                    let did = Done::PassedOn {
+                    let did = Done::Correct {
                         node,
                         correction,
                         left,
@@ -123,7 +126,7 @@ impl<W: LeafWork> Job<W> {
                     Ok(Output { work, did })
                 }
                 Err(_refused) => {
-                    let task = Task::PassOn {
+                    let task = Task::Correct {
                         node,
                         correction,
                         left,

@@ -1,12 +1,12 @@
 //! What a job is to do, and what it did, with the inputs that it captured.
 ghost use Rattle.std.specs.Prelude.{◌≡◌, ◌<◌, ℕ, length};
 ghost use Rattle.lt_net.specs.declared.job.JobName.TheVariants.{Leaf};
-ghost use Rattle.lt_net.specs.Board.{inputs_list};
+ghost use Rattle.lt_circuit.specs.Board.{inputs_list};
 ghost use Rattle.lt_circuit.specs.Job.{arity, done_name, tallies_back, tallies_left, task_from, task_name};
 
+use crate::cells::Inputs;
 use lt_delta::Marks;
 use lt_net::JobName;
-use lt_net::cells::Inputs;
 
 /// A leaf's tally, and the correction that it is of.
 #[derive(Drop)]
@@ -19,19 +19,19 @@ pub struct Prior<T> {
 #[derive(Drop)]
 pub enum Task<T> {
     /// The leaf on its correction.
-    Run {
+    Leaf {
         leaf: u32,
         correction: Marks,
         prior: Option<Prior<T>>,
     },
     /// The effects of both children, one after the other.
-    Join {
+    Merge {
         node: u32,
         left: Marks,
         right: Marks,
     },
     /// The children's corrections.
-    PassOn {
+    Correct {
         node: u32,
         correction: Marks,
         left: Marks,
@@ -42,22 +42,22 @@ pub enum Task<T> {
 #[derive(Drop)]
 pub enum Done<T> {
     /// The leaf's tally on its correction, that correction once more, and the tally's marks.
-    Ran {
+    Leaf {
         leaf: u32,
         tally: Prior<T>,
         kept: Marks,
         prior: Option<Prior<T>>,
         effect: Marks,
     },
-    /// The effects joined.
-    Joined {
+    /// The effects, one after the other.
+    Merge {
         node: u32,
         left: Marks,
         right: Marks,
         effect: Marks,
     },
     /// The right child's correction. The left child has the node's.
-    PassedOn {
+    Correct {
         node: u32,
         correction: Marks,
         left: Marks,
@@ -71,9 +71,9 @@ impl<T> Task<T> {
         ensures { result ≡ task_name self.now }
     {
         match self {
-            Task::Run { leaf, .. } => JobName::Leaf(*leaf),
-            Task::Join { node, .. } => JobName::Merge(*node),
-            Task::PassOn { node, .. } => JobName::Correct(*node),
+            Task::Leaf { leaf, .. } => JobName::Leaf(*leaf),
+            Task::Merge { node, .. } => JobName::Merge(*node),
+            Task::Correct { node, .. } => JobName::Correct(*node),
         }
     }
 }
@@ -84,9 +84,9 @@ impl<T> Done<T> {
         ensures { result ≡ done_name self.now }
     {
         match self {
-            Done::Ran { leaf, .. } => JobName::Leaf(*leaf),
-            Done::Joined { node, .. } => JobName::Merge(*node),
-            Done::PassedOn { node, .. } => JobName::Correct(*node),
+            Done::Leaf { leaf, .. } => JobName::Leaf(*leaf),
+            Done::Merge { node, .. } => JobName::Merge(*node),
+            Done::Correct { node, .. } => JobName::Correct(*node),
         }
     }
 }
@@ -106,7 +106,7 @@ pub fn take_task<T: Drop>(
         JobName::Leaf(leaf) => match inputs {
             Inputs::One(correction) => {
                 let prior = tallies[leaf as usize].take();
-                Task::Run {
+                Task::Leaf {
                     leaf,
                     correction,
                     prior,
@@ -115,11 +115,11 @@ pub fn take_task<T: Drop>(
             Inputs::Two(_first, _second) => unreachable!(),
         },
         JobName::Merge(node) => match inputs {
-            Inputs::Two(left, right) => Task::Join { node, left, right },
+            Inputs::Two(left, right) => Task::Merge { node, left, right },
             Inputs::One(_first) => unreachable!(),
         },
         JobName::Correct(node) => match inputs {
-            Inputs::Two(correction, left) => Task::PassOn {
+            Inputs::Two(correction, left) => Task::Correct {
                 node,
                 correction,
                 left,
@@ -135,19 +135,19 @@ pub fn give_back<T: Drop>(tallies: &mut Vec<Option<Prior<T>>>, task: Task<T>)
     ensures { tallies.new.items ≡ tallies_back task tallies.old.items }
 {
     match task {
-        Task::Run {
+        Task::Leaf {
             leaf,
             correction: _correction,
             prior,
         } => {
             tallies[leaf as usize] = prior;
         }
-        Task::Join {
+        Task::Merge {
             node: _node,
             left: _left,
             right: _right,
         } => {}
-        Task::PassOn {
+        Task::Correct {
             node: _node,
             correction: _correction,
             left: _left,

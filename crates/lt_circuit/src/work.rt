@@ -38,7 +38,8 @@ pub trait LeafWork: Drop {
         requires correction { fits self.now correction.now }
         requires prior { IfSome prior (λ old. (c : List Mark) × fits self.now c × stands_for self.now old.now leaf c) }
         ensures stands { IfOk result (λ tally. stands_for self.now tally leaf correction.now) }
-        ensures moves { IfSome (bound self.now (option_map (λ old. old.now) prior.entry) leaf correction.now) (λ most. moves.new ≤ moves.old + most) };
+        ensures moves { IfSome (bound self.now (option_map (λ old. old.now) prior.entry) leaf correction.now) (λ most. moves.new ≤ moves.old + most) }
+        ensures rises { moves.old ≤ moves.new };
 
     /// The marks of a tally.
     fn effect<'a>(&self, tally: &'a Self::Tally) -> &'a Marks

@@ -6,3 +6,5 @@ pub mod Ends
 pub mod Composes
 pub mod Laid
 pub mod Kept
+pub mod Finds
+pub mod Edited

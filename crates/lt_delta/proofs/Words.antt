@@ -50,7 +50,7 @@ mark_on-word (m ∷ marks) k =
     ∙ ap (λ b. later (word marks k) (if b then Some m.plus else None)) (sym same)
 
 -- nothing is said of a row below all marks
-silent_below : (k : Mark) (marks : Marks) → AllByRecursion (λ n. mark_cmp k n ≡ Less) marks → word marks k ≡ None
+pub silent_below : (k : Mark) (marks : Marks) → AllByRecursion (λ n. mark_cmp k n ≡ Less) marks → word marks k ≡ None
 silent_below k [] above = refl
 silent_below k (m ∷ marks) above = rw (silent_below k marks above.1, mark_turned k m above.0) refl
 

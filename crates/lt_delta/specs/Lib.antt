@@ -1,2 +1,3 @@
 pub mod LastRow
 pub mod Laying
+pub mod Finding

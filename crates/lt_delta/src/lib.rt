@@ -1,6 +1,8 @@
 //! Marks: what a program writes, as rows that come into their relations or go.
 #![tactic(auto)]
 
+mod edits;
+mod finding;
 pub mod laws;
 mod laying;
 mod marks;
@@ -8,5 +10,6 @@ mod merging;
 mod order;
 mod sorting;
 
+pub use edits::Edits;
 pub use lt_model::mark::{Mark, MarkList};
 pub use marks::Marks;

@@ -1,12 +1,15 @@
 //! `Marks`: a list of marks, shared by count, and each of them too.
 ghost use Rattle.std.specs.Prelude.{◌≡◌, ◌<◌, ◌↔◌, [], map, length, slice_get, Some, IfOk, IsTrue};
 ghost use Rattle.std.specs.Arc.{arc_value};
+ghost use Rattle.lt_model.specs.Laws.{mark_on};
 ghost use Rattle.lt_model.specs.Marks.{AreMarks, and_then};
 
+use crate::finding::sign_on;
 use crate::merging::merged;
 use crate::order::is_same;
 use crate::sorting::settled;
 use lt_face::memory::NoMemory;
+use lt_face::row::Row;
 use lt_model::mark::{Mark, MarkList};
 use std::alloc::Global;
 use std::marker::Model;
@@ -90,6 +93,13 @@ impl Marks {
     {
         let mark: &Arc<Mark> = &self.list[i];
         mark
+    }
+
+    /// Whether the mark on the row is a plus, where there is one. It is found by a binary search.
+    pub fn sign(&self, relation: u32, row: &Row) -> Option<bool>
+        ensures { result ≡ mark_on self.now relation row.now }
+    {
+        sign_on(&self.list, relation, row)
     }
 
     /// Whether both have the same marks.

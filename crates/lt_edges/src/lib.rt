@@ -2,6 +2,7 @@
 #![tactic(auto)]
 
 mod gate;
+mod meet_gate;
 mod mem_sink;
 mod mem_source;
 mod sink;
@@ -10,6 +11,7 @@ mod standard;
 mod sure;
 
 pub use gate::{Gate, OpenGate};
+pub use meet_gate::MeetGate;
 pub use mem_sink::MemSink;
 pub use mem_source::MemSource;
 pub use sink::Sink;

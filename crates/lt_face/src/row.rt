@@ -65,7 +65,14 @@ impl Row {
     pub fn copy_row(&self) -> Row
         ensures { result ≡ self.now }
     {
-        Row::from_cells(*self.cells.allocator(), self.cells.as_slice())
+        let cells = self.cells.as_slice();
+        let mut all = [0; 8];
+        for i in 0..cells.len() {
+            all[i] = cells[i];
+        }
+        Row {
+            cells: SmallVec::from_buf_and_len(*self.cells.allocator(), all, cells.len()),
+        }
     }
 
     /// Adds a cell at the end. The row has fewer than eight.

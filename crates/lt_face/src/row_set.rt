@@ -1,9 +1,12 @@
 //! Sets of rows, however they are kept.
-ghost use Rattle.std.specs.Prelude.{◌≡◌, ◌≤◌, ℕ, List, [], length, IfOk, OnOk, OnErr, not};
+ghost use Rattle.std.specs.Prelude.{◌≡◌, ◌<◌, ◌≤◌, ℕ, List, [], ◌∷◌, ◌++◌, length, IfOk, OnOk, OnErr, not};
 ghost use Rattle.std.specs.Option.{option_copied};
 ghost use Rattle.lt_face.specs.Rows.{IsRow, IsRowSet, has_row, first_from, with_row, without_row};
 
+use crate::items::RowList;
+use crate::key::Key;
 use crate::memory::NoMemory;
+use crate::near::Near;
 use crate::row::Row;
 use std::alloc::Global;
 
@@ -32,6 +35,12 @@ pub trait RowReads: Sized {
     /// The least row that is at least `from`, or None where there is none. `from` may have any width.
     fn row_at_least(&self, from: &Row) -> Option<&Row>
         ensures { option_copied result ≡ first_from (rows self.now) from.now };
+
+    /// The least row that is at least the prefix and then the bound, or None where there is none. The search begins where
+    /// `near` says, and tells it where it ends.
+    fn row_near(&self, near: &mut Near, prefix: &Row, bound: Key) -> Option<&Row>
+        requires { length prefix.now < width_of self.now }
+        ensures { option_copied result ≡ first_from (rows self.now) (prefix.now ++ bound ∷ []) };
 }
 
 /// A set of rows of one width, in ascending order.
@@ -40,6 +49,14 @@ pub trait RowSet: RowReads + Drop + Send + Sync {
     fn empty(alloc: Global, width: usize) -> Result<Self, NoMemory>
         requires { width ≤ 8 }
         ensures rows { IfOk result (λ set. Self.rows set ≡ []) }
+        ensures width { IfOk result (λ set. Self.width_of set ≡ width) };
+
+    /// The set of these rows, which ascend strictly and have this width; it is the set's, also where there is no row. A set
+    /// of n rows is made by one sort and this call, without n inserts.
+    fn from_sorted(width: usize, rows: RowList) -> Result<Self, NoMemory>
+        requires narrow { width ≤ 8 }
+        requires sorted { IsRowSet width rows }
+        ensures rows { IfOk result (λ set. Self.rows set ≡ rows) }
         ensures width { IfOk result (λ set. Self.width_of set ≡ width) };
 
     /// Adds a row, and answers whether it was new. Want of memory leaves the set as it was.

@@ -1,9 +1,11 @@
 //! `FlatRows`, and what it does as a set of rows.
-ghost use Rattle.std.specs.Prelude.{◌≡◌, ◌≤◌, IfOk};
-ghost use Rattle.lt_face.specs.Rows.{IsRowSet};
+ghost use Rattle.std.specs.Prelude.{◌≡◌, fold, IfOk};
+ghost use Rattle.lt_face.specs.Rows.{IsRowSet, with_row};
+ghost use Rattle.lt_flat.specs.Flat.{kept};
 
-use crate::list::{insert_at, place_from, remove_at, search};
-use lt_face::{NoMemory, Row, RowList, RowReads, RowSet};
+use crate::list::{insert_at, place_from, place_near, remove_at, search};
+use crate::merging::{remaining, united};
+use lt_face::{Key, Near, NoMemory, Row, RowList, RowReads, RowSet};
 use std::alloc::Global;
 use std::marker::Model;
 use std::sync::Arc;
@@ -20,9 +22,9 @@ impl Model for FlatRows {
     ghost use Rattle.std.specs.Prelude.{◌≤◌};
     ghost use Rattle.std.specs.Arc.{arc_value};
     ghost use Rattle.lt_face.specs.Rows.{IsRowSet};
-    ghost use Rattle.lt_flat.specs.Flat.{FlatView};
+    ghost use Rattle.lt_face.specs.State.{Relation};
 
-    ghost Value = { FlatView };
+    ghost Value = { Relation };
 
     ghost view = { λ s. record { width = s.width; rows = (arc_value s.rows).items } };
 
@@ -30,17 +32,54 @@ impl Model for FlatRows {
 }
 
 impl FlatRows {
-    /// The set of these rows, which ascend strictly and have this width; it is the set's, also where there is no row.
-    /// A set of n rows is made by one sort and this call, without n inserts. The list's vector becomes the set's.
-    pub fn from_sorted(width: usize, rows: RowList) -> Result<FlatRows, NoMemory>
-        requires narrow { width ≤ 8 }
-        requires sorted { IsRowSet width rows }
-        ensures rows { IfOk result (λ set. set.rows ≡ rows) }
-        ensures width { IfOk result (λ set. set.width ≡ width) }
+    /// The rows, ascending.
+    pub fn as_slice(&self) -> &[Row]
+        ensures rows { result.now ≡ self.now.rows }
+        ensures is_set { IsRowSet self.now.width self.now.rows }
     {
-        let alloc = rows.allocator();
-        let rows = Arc::new(alloc, rows.into_vec())?;
-        Ok(FlatRows { width, rows })
+        &self.rows
+    }
+
+    /// The rows that one of the two has, or both. Where one has none, the other's vector is shared.
+    pub fn union(&self, more: &FlatRows) -> Result<FlatRows, NoMemory>
+        requires { more.now.width ≡ self.now.width }
+        ensures rows { IfOk result (λ set. set.rows ≡ fold with_row self.now.rows more.now.rows) }
+        ensures width { IfOk result (λ set. set.width ≡ self.now.width) }
+    {
+        let _rows = more.as_slice();
+        if self.len() == 0 {
+            let same = more.share()?;
+            return Ok(same);
+        }
+        if more.len() == 0 {
+            let same = self.share()?;
+            return Ok(same);
+        }
+        let alloc = *self.rows.allocator();
+        let rows = united(alloc, &self.rows, &more.rows)?;
+        let rows = Arc::new(alloc, rows)?;
+        Ok(FlatRows {
+            width: self.width,
+            rows,
+        })
+    }
+
+    /// The rows that the other lacks. Where that has none, the vector is shared.
+    pub fn difference(&self, less: &FlatRows) -> Result<FlatRows, NoMemory>
+        ensures rows { IfOk result (λ set. set.rows ≡ kept self.now.rows less.now.rows) }
+        ensures width { IfOk result (λ set. set.width ≡ self.now.width) }
+    {
+        if less.len() == 0 {
+            let same = self.share()?;
+            return Ok(same);
+        }
+        let alloc = *self.rows.allocator();
+        let rows = remaining(alloc, &self.rows, &less.rows)?;
+        let rows = Arc::new(alloc, rows)?;
+        Ok(FlatRows {
+            width: self.width,
+            rows,
+        })
     }
 }
 
@@ -64,11 +103,23 @@ impl RowReads for FlatRows {
     fn row_at_least(&self, from: &Row) -> Option<&Row> {
         self.rows.get(place_from(&self.rows, from))
     }
+
+    fn row_near(&self, near: &mut Near, prefix: &Row, bound: Key) -> Option<&Row> {
+        let place = place_near(&self.rows, near.at, prefix.cells(), bound);
+        near.at = place;
+        self.rows.get(place)
+    }
 }
 
 impl RowSet for FlatRows {
     fn empty(alloc: Global, width: usize) -> Result<FlatRows, NoMemory> {
         let rows = Arc::new(alloc, Vec::new(alloc))?;
+        Ok(FlatRows { width, rows })
+    }
+
+    fn from_sorted(width: usize, rows: RowList) -> Result<FlatRows, NoMemory> {
+        let alloc = rows.allocator();
+        let rows = Arc::new(alloc, rows.into_vec())?;
         Ok(FlatRows { width, rows })
     }
 

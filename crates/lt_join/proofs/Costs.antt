@@ -8,7 +8,7 @@ use Rattle.lt_join.specs.Walked.{at, CostsAt}
 use Rattle.lt_join.proofs.Steps.{at_push, length_push, drop_at}
 use Rattle.lt_query.specs.declared.plans.Level.{Level}
 use Rattle.lt_query.specs.declared.plans.Plan.{Plan}
-use Rattle.lt_sense.specs.declared.sense.Sense.{Sense}
+use Rattle.lt_sense.specs.Kept.{Sense}
 use Rattle.lt_face.specs.Lists.{IsIn}
 use Rattle.lt_face.specs.State.{State}
 use Rattle.lt_join.specs.Explored.{with_key}
@@ -89,13 +89,17 @@ cost-all plan state keys level begun now left key here paid =
     let most = sum_below-le key (child_cost plan state keys) (common_keys (iterators_at state plan.guides level (length keys) (at keys))) in
     rw (drop_at plan.levels (length keys) level here) (let p = paid.paid in omega arith)
 
--- a walk that stops below a key
-pub cost-stopped : (plan : Plan) (state : State) (keys : List ℕ) (level : Level) (begun now left key back : ℕ) → slice_get plan.levels (length keys) ≡ Some level → key < 2 ^ 128 - 1 → IsPaid plan state keys level begun now left key → back ≤ now + cost_from state plan.guides (drop (length (keys ++ key ∷ [])) plan.levels) (length (keys ++ key ∷ [])) (at (keys ++ key ∷ [])) → back ≤ begun + cost_from state plan.guides (drop (length keys) plan.levels) (length keys) (at keys)
-cost-stopped plan state keys level begun now left key back here at_key paid child =
+-- a walk that stops below a key, or on the way to the level's next one
+pub cost-stopped : (plan : Plan) (state : State) (keys : List ℕ) (level : Level) (begun now left key end : ℕ) → slice_get plan.levels (length keys) ≡ Some level → key < 2 ^ 128 - 1 → IsPaid plan state keys level begun now left key → end ≤ now + cost_from state plan.guides (drop (length (keys ++ key ∷ [])) plan.levels) (length (keys ++ key ∷ [])) (at (keys ++ key ∷ [])) + left → end ≤ begun + cost_from state plan.guides (drop (length keys) plan.levels) (length keys) (at keys)
+cost-stopped plan state keys level begun now left key end here at_key paid child =
     let cost = child_is plan state keys key in
     let more = sum_below_more key (key + 1) (child_cost plan state keys) (common_keys (iterators_at state plan.guides level (length keys) (at keys))) (paid.is_common at_key) (omega arith) in
     let most = sum_below-le (key + 1) (child_cost plan state keys) (common_keys (iterators_at state plan.guides level (length keys) (at keys))) in
     rw (drop_at plan.levels (length keys) level here) (let p = paid.paid in omega arith)
+
+-- a walk that stops where a level is opened
+pub cost-opened : (plan : Plan) (state : State) (keys : List ℕ) (level : Level) (begun now : ℕ) → slice_get plan.levels (length keys) ≡ Some level → now ≤ begun + join_cost (iterators_at state plan.guides level (length keys) (at keys)) → now ≤ begun + cost_from state plan.guides (drop (length keys) plan.levels) (length keys) (at keys)
+cost-opened plan state keys level begun now here within = rw (drop_at plan.levels (length keys) level here) (omega arith)
 
 -- ---- what the sense gains
 

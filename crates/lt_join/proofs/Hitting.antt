@@ -11,7 +11,7 @@ use Rattle.lt_trie.specs.Trie.{TrieView}
 use Rattle.lt_query.specs.declared.plans.Guide.{Guide}
 use Rattle.lt_query.specs.Plan.{Keys, levels_of}
 use Rattle.lt_sense.specs.declared.covering.Hit.{Hit}
-use Rattle.lt_sense.specs.declared.sense.Sense.{Sense}
+use Rattle.lt_sense.specs.Kept.{Sense}
 use Rattle.lt_sense.specs.Sense.{IsTight}
 use Rattle.lt_join.specs.Explored.{before, hit_of}
 use Rattle.lt_leap.specs.Common.{has_key}

@@ -16,7 +16,7 @@ use Rattle.lt_model.specs.Answers.{rows_under, Assignment, Values, cell_of, cell
 use Rattle.lt_model.specs.Cells.{is_cell, sum_of}
 use Rattle.lt_model.specs.Bound.{is_var, stands, is_bound, are_bound}
 use Rattle.lt_query.specs.Answering.{AreTestsBound}
-use Rattle.lt_sense.specs.declared.sense.Sense.{Sense}
+use Rattle.lt_sense.specs.Kept.{Sense}
 use Rattle.lt_sense.specs.declared.covering.Hit.{Hit}
 use Rattle.lt_face.specs.State.{Has}
 use Rattle.lt_query.specs.Answering.{Stands, IsAnswer}

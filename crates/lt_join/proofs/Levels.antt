@@ -22,7 +22,7 @@ use Rattle.lt_query.specs.declared.plans.Level.{Level}
 use Rattle.lt_query.specs.declared.plans.Plan.{Plan}
 use Rattle.lt_model.specs.Cells.{is_cell}
 use Rattle.lt_query.specs.Plan.{Keys, levels_of}
-use Rattle.lt_sense.specs.declared.sense.Sense.{Sense}
+use Rattle.lt_sense.specs.Kept.{Sense}
 use Rattle.lt_sense.specs.Sense.{IsTight}
 use Rattle.lt_join.specs.declared.seat.Seat.{Seat}
 use Rattle.lt_join.specs.declared.seat.Seat.TheVariants.{Walks, Single}
@@ -143,7 +143,7 @@ least-least (xs ∷ ws ∷ xss) (ys ∷ []) h = absurd h.1
 least-least (xs ∷ ws ∷ xss) (ys ∷ zs ∷ yss) h =
     less_least (length xs) (least_length (ws ∷ xss)) (length ys) (least_length (zs ∷ yss)) h.0.short (least-least (ws ∷ xss) (zs ∷ yss) h.1)
 
-cost-least : (xss yss : List (List ℕ)) → AllZip SameKeys xss yss → join_cost yss ≤ join_cost xss
+pub cost-least : (xss yss : List (List ℕ)) → AllZip SameKeys xss yss → join_cost yss ≤ join_cost xss
 cost-least xss yss h =
     let n = zip_long SameKeys xss yss h in
     let same : length yss ≡ length xss = omega arith in
@@ -472,7 +472,7 @@ few_atoms (g ∷ guides) l =
     let r = few_atoms guides l in
     elim (has_key (levels_of g) l) as (λ b. length (map OfAtom (cond b (g ∷ filter (λ w. has_key (levels_of w) l) guides) (filter (λ w. has_key (levels_of w) l) guides))) ≤ length (g ∷ guides)) [ true ↦ omega arith | false ↦ omega arith ]
 
-length_append : {X : Type 0} (xs ys : List X) → length (xs ++ ys) ≡ length xs + length ys
+pub length_append : {X : Type 0} (xs ys : List X) → length (xs ++ ys) ≡ length xs + length ys
 length_append [] ys = omega arith
 length_append (x ∷ xs) ys = let r = length_append xs ys in omega arith
 

@@ -20,3 +20,4 @@ pub mod Usable
 pub mod SortedRows
 pub mod KnownValues
 pub mod Prepared
+pub mod Within

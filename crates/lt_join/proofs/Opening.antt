@@ -15,7 +15,7 @@ use Rattle.lt_query.specs.declared.plans.Guide.{Guide}
 use Rattle.lt_query.specs.declared.plans.Plan.{Plan}
 use Rattle.lt_query.specs.Plan.{Keys, levels_of}
 use Rattle.lt_sense.specs.declared.covering.KeptGap.{KeptGap}
-use Rattle.lt_sense.specs.declared.sense.Sense.{Sense}
+use Rattle.lt_sense.specs.Kept.{Sense}
 use Rattle.lt_sense.specs.Sense.{IsTight, lies_in}
 use Rattle.lt_join.specs.declared.seat.Seat.{Seat}
 use Rattle.lt_join.specs.declared.seat.Seat.TheVariants.{Walks}

@@ -9,7 +9,7 @@ use Rattle.lt_model.specs.declared.normal.Body.{Body}
 use Rattle.lt_face.specs.Lists.{IsIn}
 use Rattle.lt_face.specs.State.{Row, State, row_eq}
 use Rattle.lt_model.specs.Answers.{Assignment, cells_of, holds, rows_under, picks, assignment_of, answer_of, answers, fits_pick, some_answer, rows_eq}
-use Rattle.lt_sense.specs.declared.sense.Sense.{Sense}
+use Rattle.lt_sense.specs.Kept.{Sense}
 use Rattle.lt_sense.specs.declared.covering.KeptGap.{KeptGap}
 use Rattle.lt_sense.specs.declared.covering.Hit.{Hit}
 use Rattle.lt_sense.specs.Sense.{covers, gap_covers, hit_covers, lies_in, AgreeWhereCovered, IsTight}

@@ -4,7 +4,7 @@ use Rattle.std.proofs.Common.{refl, sym, subst, inl, inr, arith, cond}
 use Rattle.lt_query.specs.declared.plans.Level.{Level}
 use Rattle.lt_query.specs.declared.plans.Guide.{Guide}
 use Rattle.lt_query.specs.declared.plans.Plan.{Plan}
-use Rattle.lt_sense.specs.declared.sense.Sense.{Sense}
+use Rattle.lt_sense.specs.Kept.{Sense}
 use Rattle.lt_face.specs.Lists.{IsIn}
 use Rattle.lt_face.specs.Lists.{AnyByRecursion}
 use Rattle.lt_query.specs.Plan.{levels_of}

@@ -17,7 +17,7 @@ use Rattle.lt_query.specs.declared.plans.Level.{Level}
 use Rattle.lt_query.specs.declared.plans.Guide.{Guide}
 use Rattle.lt_query.specs.declared.plans.Plan.{Plan}
 use Rattle.lt_sense.specs.declared.covering.Hit.{Hit}
-use Rattle.lt_sense.specs.declared.sense.Sense.{Sense}
+use Rattle.lt_sense.specs.Kept.{Sense}
 use Rattle.lt_join.specs.declared.Found.{Found}
 use Rattle.lt_face.specs.Lists.{IsIn}
 use Rattle.lt_face.specs.State.{Row, State}

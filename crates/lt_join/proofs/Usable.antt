@@ -16,7 +16,7 @@ use Rattle.lt_query.specs.declared.plans.Level.{Level}
 use Rattle.lt_query.specs.declared.plans.Plan.{Plan}
 use Rattle.lt_model.specs.Cells.{is_cell}
 use Rattle.lt_query.specs.Plan.{Keys, levels_of, IsGuideOf, IsPlanOf, term_at}
-use Rattle.lt_sense.specs.declared.sense.Sense.{Sense}
+use Rattle.lt_sense.specs.Kept.{Sense}
 use Rattle.lt_join.specs.Explored.{with_key, hit_of}
 use Rattle.lt_leap.specs.Common.{has_key}
 use Rattle.lt_join.specs.Walked.{at, Grows, HitsAbove, IsReached}

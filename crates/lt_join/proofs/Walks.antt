@@ -14,7 +14,7 @@ use Rattle.lt_face.specs.Lists.{IsIn}
 use Rattle.lt_face.specs.State.{Row, State}
 use Rattle.lt_model.specs.Answers.{rows_under, Assignment, cell_of, cells_of, holds, passes}
 use Rattle.lt_model.specs.Cells.{is_cell}
-use Rattle.lt_sense.specs.declared.sense.Sense.{Sense}
+use Rattle.lt_sense.specs.Kept.{Sense}
 use Rattle.lt_sense.specs.declared.covering.Hit.{Hit}
 use Rattle.lt_sense.specs.Sense.{covers, lies_in, IsTight}
 use Rattle.lt_face.specs.State.{permuted, Has}

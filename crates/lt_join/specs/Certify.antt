@@ -4,7 +4,7 @@ use Rattle.std.specs.List.{AllByRecursion}
 use Rattle.lt_model.specs.declared.normal.Term.{Term}
 use Rattle.lt_model.specs.declared.normal.Atom.{Atom}
 use Rattle.lt_model.specs.declared.normal.Body.{Body}
-use Rattle.lt_sense.specs.declared.sense.Sense.{Sense}
+use Rattle.lt_sense.specs.Kept.{Sense}
 use Rattle.lt_model.specs.Answers.{Assignment, cells_of, holds, some_answer}
 use Rattle.lt_face.specs.Lists.{AnyByRecursion}
 use Rattle.lt_face.specs.State.{Row, State, Has}

@@ -7,7 +7,7 @@ use Rattle.lt_trie.specs.Under.{next_cell}
 use Rattle.lt_query.specs.declared.plans.Level.{Level}
 use Rattle.lt_query.specs.declared.plans.Guide.{Guide}
 use Rattle.lt_query.specs.declared.plans.Plan.{Plan}
-use Rattle.lt_sense.specs.declared.sense.Sense.{Sense}
+use Rattle.lt_sense.specs.Kept.{Sense}
 use Rattle.lt_face.specs.State.{State, rows_in, permuted}
 use Rattle.lt_query.specs.Plan.{Keys, levels_of}
 use Rattle.lt_join.specs.Explored.{prefix_at, with_key}

@@ -43,7 +43,9 @@ pub fn answers<I: Indexes, L>(
     ensures tight { IfOk result (λ found. IsTight found.1 (I.state indexes.now)) }
     ensures gaps { IfOk result (λ found. moves.old + length found.1.gaps ≤ moves.new) }
     ensures hits { IfOk result (λ found. moves.old + length found.1.hits ≤ moves.new) }
-    ensures cost { IfOk result (λ _. moves.new ≤ moves.old + bound plan.now (I.state indexes.now)) }
+    // also where memory is refused
+    ensures cost { moves.new ≤ moves.old + bound plan.now (I.state indexes.now) }
+    ensures moves { moves.old ≤ moves.new }
 {
     let mut keys = Items::new(alloc);
     let roots = roots_of(alloc, indexes, plan)?;
@@ -75,7 +77,9 @@ pub fn some<I: Indexes, L>(
     ensures tight { IfOk result (λ found. IsTight found.1 (I.state indexes.now)) }
     ensures gaps { IfOk result (λ found. moves.old + length found.1.gaps ≤ moves.new) }
     ensures hits { IfOk result (λ found. moves.old + length found.1.hits ≤ moves.new) }
-    ensures cost { IfOk result (λ _. moves.new ≤ moves.old + bound plan.now (I.state indexes.now)) }
+    // also where memory is refused
+    ensures cost { moves.new ≤ moves.old + bound plan.now (I.state indexes.now) }
+    ensures moves { moves.old ≤ moves.new }
 {
     let mut keys = Items::new(alloc);
     let roots = roots_of(alloc, indexes, plan)?;

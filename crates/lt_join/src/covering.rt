@@ -4,7 +4,7 @@ ghost use Rattle.lt_model.specs.declared.normal.Term.{Term};
 ghost use Rattle.lt_model.specs.declared.normal.Body.{Body};
 ghost use Rattle.lt_face.specs.State.{State};
 ghost use Rattle.lt_model.specs.Answers.{answers, some_answer};
-ghost use Rattle.lt_sense.specs.declared.sense.Sense.{Sense};
+ghost use Rattle.lt_sense.specs.Kept.{Sense};
 ghost use Rattle.lt_sense.specs.Sense.{AgreeWhereCovered, IsTight};
 ghost use Rattle.lt_query.specs.Answering.{AreTestsBound};
 ghost use Rattle.lt_join.specs.Certify.{Certifies, Vouches};

@@ -45,7 +45,10 @@ pub(crate) fn open_walks<'a, I: Indexes, L>(
     requires walkable { AllByRecursion IsWalkable plan.now.guides }
     requires iters { AllZip (IsTrieOf (I.state _tables.now) (length keys.now) (at keys.now)) plan.now.guides iters.now }
     requires tight { IsTight sense.old (I.state _tables.now) }
-    ensures { IfOk result (λ seats. AreOpened plan.now (I.state _tables.now) keys.now plan.now.guides sense.old sense.new seats.items moves.old moves.new) }
+    ensures opened { IfOk result (λ seats. AreOpened plan.now (I.state _tables.now) keys.now plan.now.guides sense.old sense.new seats.items moves.old moves.new) }
+    // also where memory is refused
+    ensures within { moves.new ≤ moves.old + length (atoms_at plan.now.guides (length keys.now)) }
+    ensures moves { moves.old ≤ moves.new }
 {
     let depth = keys.len();
     let guides = plan.guides.as_slice();
@@ -149,6 +152,9 @@ pub(crate) fn open_level<'a, I: Indexes, L>(
     ensures gains { IfOk result (λ joined. LevelGains (length (atoms_at plan.now.guides (length keys.now))) sense.old sense.new moves.old moves.new joined.key) }
     ensures stands { IfOk result (λ joined. IsJoined plan.now (I.state tables.now) sense.old sense.new keys.now level.now 0
         (moves.old + join_cost (iterators_at (I.state tables.now) plan.now.guides level.now (length keys.now) (at keys.now))) moves.new joined.leap joined.key) }
+    // also where memory is refused
+    ensures within { moves.new ≤ moves.old + join_cost (iterators_at (I.state tables.now) plan.now.guides level.now (length keys.now) (at keys.now)) }
+    ensures moves { moves.old ≤ moves.new }
 {
     let mut seats = open_walks(alloc, tables, iters, plan, keys, sense, moves)?;
     add_keys(&mut seats, level, keys)?;
@@ -178,6 +184,9 @@ pub(crate) fn next_key<'a, I: Indexes, L>(
     ensures stands { OnOk result (IsJoined plan.now (I.state tables.now) sense.old sense.new keys.now level.now (joined.old.key + 1) (moves.old + left_of joined.old.leap) moves.new joined.new.leap joined.new.key) }
     ensures rises { OnOk result (joined.old.key < joined.new.key) }
     ensures ends { OnOk result (0 < length level.now.pins + length level.now.ties → (joined.new.key ≡ end_key) × (moves.new ≡ moves.old)) }
+    // also where memory is refused
+    ensures within { moves.new ≤ moves.old + left_of joined.old.leap }
+    ensures moves { moves.old ≤ moves.new }
 {
     if level.pins.len() > 0 || level.ties.len() > 0 {
         joined.key = END;

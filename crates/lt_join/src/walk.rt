@@ -169,7 +169,9 @@ pub(crate) fn descend<'a, I: Indexes, L>(
     requires iters { AllZip (IsTrieOf (I.state tables.now) (length keys.old) (at keys.old)) plan.now.guides iters.now }
     requires reached { IsReached plan.now found.old.sense keys.old }
     requires right { IsRight body.now terms.now (I.state tables.now) found.old }
-    ensures cost { IfOk result (λ _. moves.new ≤ moves.old + cost_from (I.state tables.now) plan.now.guides (drop (length keys.old) plan.now.levels) (length keys.old) (at keys.old)) }
+    // also where memory is refused
+    ensures cost { moves.new ≤ moves.old + cost_from (I.state tables.now) plan.now.guides (drop (length keys.old) plan.now.levels) (length keys.old) (at keys.old) }
+    ensures moves { moves.old ≤ moves.new }
     ensures gains { IfOk result (λ _. GainsFewer found.old.sense found.new.sense moves.old moves.new) }
     ensures back { IfOk result (λ _. keys.new ≡ keys.old) }
     ensures grows { IfOk result (λ _. FoundGrows found.old found.new) }

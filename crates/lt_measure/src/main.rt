@@ -9,6 +9,7 @@ mod random;
 mod searches;
 
 use grid::{ROWS_A_KEY, grid};
+use lt_face::RowSet;
 use lt_flat::FlatRows;
 use searches::{find_rows, seek_keys, walk_down};
 use std::alloc::AllocError;

@@ -2,5 +2,4 @@ pub mod Same
 pub mod Net
 pub mod Kept
 pub mod Tree
-pub mod Store
-pub mod Board
+pub mod Alone

@@ -1,12 +1,11 @@
-//! The circuit that repairs a batch, as a pure machine: jobs over a tree of leaves, the events that move them, and tables
-//! that stand for its state. After Veldhuizen, "Transaction Repair: Full Serializability Without Locks", 2014.
+//! The circuit that repairs a batch, as a pure machine: jobs over a tree of leaves, the events that move them, and what a
+//! worker alone gets done. After Veldhuizen, "Transaction Repair: Full Serializability Without Locks", 2014.
 #![tactic(auto)]
 
-pub mod board;
-pub mod cells;
+mod alone;
 mod job;
 mod laws;
-pub mod tree;
 
+pub use alone::{alone_settles, each_round_one_leaf, sweep_settles_inner};
 pub use job::{JobName, JobState};
 pub use laws::{every_event_keeps, settled_is_serial};

@@ -15,9 +15,10 @@ use Rattle.lt_model.specs.declared.normal.Body.{Body}
 use Rattle.lt_model.specs.declared.normal.Stmt.{Stmt}
 use Rattle.lt_model.specs.declared.normal.Stmt.TheVariants.{Insert, Delete, Replace, Need, Print}
 use Rattle.lt_model.specs.Answers.{assignment_of, cells_of, cell_of, fits_pick, picks, answer_of, ascending, answers, some_answer}
-use Rattle.lt_model.specs.Effect.{Needs, marks_of, effect}
+use Rattle.lt_model.specs.Effect.{Effect, Writes, Needs, Prints, marks_of, effect}
 use Rattle.lt_model.specs.Fits.{IsWide, IsBodyOf, IsHeadOf, FitsStatement, Fits, IsMarkOf, FitMarks}
-use Rattle.lt_model.specs.Marks.{Marks, and_then, laid}
+use Rattle.lt_model.specs.Marks.{Marks, AreMarks, and_then, laid}
+use Rattle.lt_model.proofs.Composition.{AreMarks-and_then}
 use Rattle.lt_model.specs.Run.{Progress, run_on, run_from, run}
 use Rattle.lt_model.specs.State.{IsState}
 use Rattle.lt_program.specs.Effect.{IsBody, AreTerms, IsReady, HaveCells}
@@ -141,3 +142,19 @@ run_from_fits state is narrow j (s ∷ program) p each fits =
 
 pub run_fits : (state : State) (program : List Stmt) → IsState state → IsNarrow state → Fits state program → IsGoodEnd state (run program state)
 run_fits state program is narrow fits = run_from_fits state is narrow 1 program (record { marks = []; prints = [] }) fits.each (record { marks = tt; prints = tt })
+
+-- ---- the marks of a run ascend
+
+taken_ascends : (j : ℕ) (p : Progress) (e : Effect) (rest : Progress → Reply × Marks) → AreMarks p.marks → ((q : Progress) → AreMarks q.marks → AreMarks (rest q).1) → AreMarks (run_on j p e rest).1
+taken_ascends j p (Writes marks) rest up on = on (record p { marks = and_then p.marks marks }) (AreMarks-and_then p.marks marks up)
+taken_ascends j p (Needs true) rest up on = on p up
+taken_ascends j p (Needs false) rest up on = tt
+taken_ascends j p (Prints kinds rows) rest up on = on (record p { prints = p.prints ++ record { statement = j; kinds = kinds; rows = rows } ∷ [] }) up
+
+from_ascends : (j : ℕ) (program : List Stmt) (state : State) (p : Progress) → AreMarks p.marks → AreMarks (run_from j program state p).1
+from_ascends j [] state p up = up
+from_ascends j (s ∷ program) state p up =
+    taken_ascends j p (effect s (laid state p.marks)) (run_from (j + 1) program state) up (λ q. from_ascends (j + 1) program state q)
+
+pub run_ascends : (program : List Stmt) (state : State) → AreMarks (run program state).1
+run_ascends program state = from_ascends 1 program state (record { marks = []; prints = [] }) tt

@@ -18,3 +18,6 @@ pub mod Widths
 pub mod Sounds
 pub mod Picked
 pub mod TallyCosts
+pub mod Recalls
+pub mod Stays
+pub mod Keeps

@@ -12,7 +12,7 @@ use Rattle.lt_model.specs.Answers.{picks, answer_of, ascending, answers, fits_pi
 use Rattle.lt_model.specs.Effect.{Writes, Needs, Prints, marks_of, effect}
 use Rattle.lt_query.specs.Needs.{body_of}
 use Rattle.lt_query.specs.Stated.{stated_plan}
-use Rattle.lt_sense.specs.declared.sense.Sense.{Sense}
+use Rattle.lt_sense.specs.Kept.{Sense}
 use Rattle.lt_join.specs.Certify.{IsMet, Certifies}
 use Rattle.lt_join.specs.Cost.{bound}
 use Rattle.lt_program.specs.declared.part.Part.{Part}

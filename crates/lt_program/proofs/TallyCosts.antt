@@ -1,10 +1,12 @@
 -- The moves of a run, one statement after another.
-use Rattle.std.proofs.Common.{◌≡◌, ℕ, suc, ◌+◌, ◌-◌, ◌<◌, ◌≤◌, false, List, [], ◌∷◌, length, sym, ap, ◌∙◌, subst, arith}
-use Rattle.std.specs.Prelude.{slice_get}
+use Rattle.std.proofs.Common.{◌≡◌, ℕ, zero, suc, ◌+◌, ◌-◌, ◌<◌, ◌≤◌, true, false, List, [], ◌∷◌, length, refl, sym, ap, ◌∙◌, inl, inr, subst, arith}
+use Rattle.std.specs.Prelude.{slice_get, ◌==◌, if◌then◌else◌}
+use Rattle.std.proofs.lemmas.Bool.{or_cases, cases_lt, eqb-true}
 use Rattle.std.proofs.lemmas.List.{length-append}
 use Rattle.lt_face.specs.State.{State}
 use Rattle.lt_model.specs.declared.normal.Stmt.{Stmt}
-use Rattle.lt_program.specs.Tally.{TallyView, IsRun, IsOneMore, has_ended, cost_on, cost_of_first, state_before}
+use Rattle.lt_base.specs.Tables.{Table, state_of}
+use Rattle.lt_program.specs.Tally.{TallyView, IsRun, IsOneMore, has_ended, is_refused, run_of_first, cost_on, cost_of_first, ends_from, ends_at, state_before}
 use Rattle.lt_program.proofs.TallyGrows.{going_on}
 
 pub one_longer : (old new : TallyView) → IsOneMore old new → length new.parts ≡ suc (length old.parts)
@@ -25,3 +27,72 @@ fewer_left old new one run going =
     let long = one_longer old new one in
     let same = ap length one.program in
     omega (arith, lt, long, same)
+
+-- ---- where the program ends
+
+module _ (t : TallyView) (run : IsRun t) (ended : has_ended t ≡ true) where
+  last : length t.parts < length t.program → is_refused (run_of_first (length t.parts) t.program (state_of t.base)).0 ≡ true
+  last lt = elim (or_cases (is_refused t.reply) (length t.parts == length t.program) ended) [
+    | inl refused ↦ ap is_refused (sym run.reply) ∙ refused
+    | inr all ↦ (let e = eqb-true (length t.parts) (length t.program) all in absurd (omega (arith, e, lt)))
+  ]
+
+  ends_is : (left j : ℕ) → j ≤ length t.parts → j + left ≡ length t.program → ends_from left j t.program (state_of t.base) ≡ length t.parts
+  ends_is zero j le sum = omega (arith, run.evaluated, le, sum)
+  ends_is (suc left) j le sum = elim (cases_lt j (length t.parts)) [
+    | inl lt ↦ ap (λ b. if b then j else ends_from left (j + 1) t.program (state_of t.base)) (run.went_on j lt) ∙ ends_is left (j + 1) (omega arith) (omega arith)
+    | inr ge ↦
+        let e : length t.parts ≡ j = omega arith in
+        let refused : is_refused (run_of_first j t.program (state_of t.base)).0 ≡ true = ap (λ k. is_refused (run_of_first k t.program (state_of t.base)).0) (sym e) ∙ last (omega arith) in
+        ap (λ b. if b then j else ends_from left (j + 1) t.program (state_of t.base)) refused ∙ sym e
+  ]
+
+  pub ends_here : (program : List Stmt) (next : List Table) → t.program ≡ program → t.base ≡ next → length t.parts ≡ ends_at program (state_of next)
+  ends_here program next a b =
+      sym (ends_is (length t.program) 0 (omega arith) (omega arith))
+      ∙ ap (λ (p : List Stmt). ends_at p (state_of t.base)) a ∙ ap (λ (x : List Table). ends_at program (state_of x)) b
+
+-- ---- a run that goes on
+
+ends_least : (left j : ℕ) (program : List Stmt) (state : State) → j ≤ ends_from left j program state
+ends_least zero j program state = omega arith
+ends_least (suc left) j program state =
+    let rest = ends_least left (j + 1) program state in
+    elim (is_refused (run_of_first j program state).0) as (λ b. j ≤ (if b then j else ends_from left (j + 1) program state)) [ true ↦ omega arith | false ↦ omega arith ]
+
+module _ (t : TallyView) (run : IsRun t) (going : has_ended t ≡ false) where
+  goes : is_refused (run_of_first (length t.parts) t.program (state_of t.base)).0 ≡ false
+  goes = ap is_refused (sym run.reply) ∙ (going_on t going run).0
+
+  ends_past : (left j : ℕ) → j ≤ length t.parts → j + left ≡ length t.program → length t.parts < ends_from left j t.program (state_of t.base)
+  ends_past zero j le sum = absurd (omega (arith, (going_on t going run).1, le, sum))
+  ends_past (suc left) j le sum = elim (cases_lt j (length t.parts)) [
+    | inl lt ↦ rw (run.went_on j lt) (ends_past left (j + 1) (omega arith) (omega arith))
+    | inr ge ↦
+        let e : length t.parts ≡ j = omega arith in
+        let still : is_refused (run_of_first j t.program (state_of t.base)).0 ≡ false = ap (λ k. is_refused (run_of_first k t.program (state_of t.base)).0) (sym e) ∙ goes in
+        let least = ends_least left (j + 1) t.program (state_of t.base) in
+        rw still (omega arith)
+  ]
+
+  -- a run that goes on hasn't reached the program's end
+  pub goes_on_to : (program : List Stmt) (base : List Table) → t.program ≡ program → t.base ≡ base → length t.parts < ends_at program (state_of base)
+  goes_on_to program base a b =
+      subst (λ (x : List Table). length t.parts < ends_at program (state_of x)) b
+      (subst (λ (p : List Stmt). length t.parts < ends_at p (state_of t.base)) a (ends_past (length t.program) 0 (omega arith) (omega arith)))
+
+-- what the first statements may take grows with their number
+pub cost_grows : (n k : ℕ) (program : List Stmt) (state : State) → n ≤ k → cost_of_first n program state ≤ cost_of_first k program state
+cost_grows n zero program state le = (let e : n ≡ 0 = omega arith in rw e (omega arith))
+cost_grows n (suc k) program state le = elim (cases_lt k n) [
+  | inl lt ↦ (let e : n ≡ suc k = omega arith in rw e (omega arith))
+  | inr ge ↦ (let rest = cost_grows n k program state ge in omega arith)
+]
+
+-- a statement was begun, and the moves so far are within what the program's statements may take
+pub cost_begun : (t : TallyView) (begun mid now : ℕ) (program : List Stmt) (base : List Table) → IsRun t → has_ended t ≡ false → t.program ≡ program → t.base ≡ base → mid ≤ begun + cost_of_first (length t.parts) program (state_of base)
+    → now ≤ mid + cost_on (slice_get t.program (length t.parts)) (state_before (length t.parts) t.program (state_of t.base)) → now ≤ begun + cost_of_first (ends_at program (state_of base)) program (state_of base)
+cost_begun t begun mid now program base run going a b before step =
+    let one = cost_more begun mid now (length t.parts) (suc (length t.parts)) program t.program (state_of base) (state_of t.base) a (ap state_of b) before step refl in
+    let most = cost_grows (suc (length t.parts)) (ends_at program (state_of base)) program (state_of base) (let lt = goes_on_to t run going program base a b in omega arith) in
+    omega arith

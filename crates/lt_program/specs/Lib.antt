@@ -5,3 +5,4 @@ pub mod Run
 pub mod Planned
 pub mod Tally
 pub mod Sound
+pub mod Kept

@@ -1,5 +1,5 @@
 -- What a tally keeps of the run of a program.
-use Rattle.std.specs.Prelude.{◌≡◌, ℕ, zero, suc, ◌+◌, ◌<◌, ◌≤◌, ◌==◌, ◌||◌, Bool, true, false, List, [], ◌∷◌, ◌++◌, length, take, slice_get, Option, Some, None}
+use Rattle.std.specs.Prelude.{◌≡◌, ℕ, zero, suc, ◌+◌, ◌<◌, ◌≤◌, ◌==◌, ◌||◌, Bool, true, false, if◌then◌else◌, List, [], ◌∷◌, ◌++◌, length, take, slice_get, Option, Some, None}
 use Rattle.std.specs.List.{AllByRecursion}
 use Rattle.lt_face.specs.State.{State}
 use Rattle.lt_model.specs.declared.normal.Body.{Body}
@@ -16,7 +16,7 @@ use Rattle.lt_base.specs.Tables.{Table, state_of, has_index}
 use Rattle.lt_query.specs.declared.plans.Guide.{Guide}
 use Rattle.lt_query.specs.Needs.{body_of}
 use Rattle.lt_query.specs.Stated.{stated_plan}
-use Rattle.lt_sense.specs.declared.sense.Sense.{Sense}
+use Rattle.lt_sense.specs.Kept.{Sense}
 use Rattle.lt_sense.specs.Sense.{IsTight}
 use Rattle.lt_join.specs.Certify.{Certifies, Vouches}
 use Rattle.lt_join.specs.Cost.{bound}
@@ -76,6 +76,14 @@ cost_on (Some stmt) state = statement_cost stmt state
 abbrev pub cost_of_first : ℕ → List Stmt → State → ℕ
 cost_of_first zero program state = 0
 cost_of_first (suc n) program state = cost_of_first n program state + cost_on (slice_get program n) (state_before n program state)
+
+-- how many statements are evaluated before the program ends: from one on, where so many are left
+abbrev pub ends_from : ℕ → ℕ → List Stmt → State → ℕ
+ends_from zero j program state = j
+ends_from (suc left) j program state = if is_refused (run_of_first j program state).0 then j else ends_from left (j + 1) program state
+
+abbrev pub ends_at : List Stmt → State → ℕ
+ends_at program state = ends_from (length program) 0 program state
 
 -- the database has each index through which the plan of the body goes
 abbrev pub HasIndexesOf : List Table → Body → Type 0

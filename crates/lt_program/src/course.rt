@@ -7,11 +7,12 @@ ghost use Rattle.lt_base.specs.Tables.{state_of};
 ghost use Rattle.lt_query.specs.Needs.{body_of as body_in};
 ghost use Rattle.lt_query.specs.Runnable.{AreWide};
 ghost use Rattle.lt_program.specs.Effect.{view};
-ghost use Rattle.lt_program.specs.Tally.{HasIndexesOf, IsLaid, IsLaidOn, Grows, is_refused, is_still, next, with_print, statement_cost};
+ghost use Rattle.lt_program.specs.Tally.{HasIndexesOf, IsLaid, IsLaidOn, IsPartOn, Grows, is_refused, is_still, next, with_print, statement_cost};
 
 use crate::effect::Effect;
 use crate::evaluation::{Step, evaluated};
-use crate::part::Part;
+use crate::kept::effect_by;
+use crate::part::{Part, SharedPart};
 use lt_base::Database;
 use lt_delta::Marks;
 use lt_face::items::Items;
@@ -29,7 +30,7 @@ use std::mem;
 #[derive(Drop)]
 pub(crate) struct Course {
     pub laid: Option<Database>,
-    pub parts: Items<Part>,
+    pub parts: Items<SharedPart>,
     pub reply: Reply,
     pub marks: Marks,
 }
@@ -103,7 +104,7 @@ impl Course {
     }
 
     /// One more part that leaves the reply as it is, and these marks.
-    fn write(&mut self, part: Part, marks: Marks) -> Result<(), NoMemory>
+    fn write(&mut self, part: SharedPart, marks: Marks) -> Result<(), NoMemory>
         ensures ok { OnOk result (self.new ≡ record self.old { parts = self.old.parts ++ part ∷ []; marks = marks }) }
         ensures err { OnErr result (self.new ≡ self.old) }
     {
@@ -113,7 +114,7 @@ impl Course {
     }
 
     /// One more part, and what it prints.
-    fn print(&mut self, part: Part, printed: Printed) -> Result<(), NoMemory>
+    fn print(&mut self, part: SharedPart, printed: Printed) -> Result<(), NoMemory>
         ensures ok { OnOk result (self.new ≡ record self.old { parts = self.old.parts ++ part ∷ []; reply = with_print self.old.reply printed }) }
         ensures err { OnErr result (self.new ≡ self.old) }
     {
@@ -128,7 +129,7 @@ impl Course {
     }
 
     /// One more part, and its effect.
-    fn accept(&mut self, number: u32, part: Part, effect: Effect) -> Result<(), NoMemory>
+    fn accept(&mut self, number: u32, part: SharedPart, effect: Effect) -> Result<(), NoMemory>
         requires { is_refused self.old.reply ≡ false }
         ensures parts { OnOk result (self.new.parts ≡ self.old.parts ++ part ∷ []) }
         ensures reply { OnOk result (self.new.reply ≡ (next number (view effect) (self.old.reply, self.old.marks)).0) }
@@ -186,14 +187,15 @@ impl Course {
         requires fits { FitsStatement (state_of base.now) stmt.now }
         requires laid { IsLaid base.now self.old.marks self.old.laid }
         ensures ok { OnOk result (Grows number stmt.now (state_of base.now) self.old self.new) }
-        ensures cost { OnOk result (moves.new ≤ moves.old + statement_cost stmt.now (laid (state_of base.now) self.old.marks)) }
+        ensures cost { moves.new ≤ moves.old + statement_cost stmt.now (laid (state_of base.now) self.old.marks) }
+        ensures moves { moves.old ≤ moves.new }
         ensures laid { IsLaid base.now self.new.marks self.new.laid }
         ensures err { OnErr result (self.new ≡ self.old) }
     {
         let alloc = self.parts.allocator();
         let step = evaluated(alloc, base, stmt, moves)?;
         let Step { part, effect } = step;
-        let part = insensitive(alloc, part);
+        let part = SharedPart::new(alloc, insensitive(alloc, part))?;
         let quiet = is_quiet(&effect);
         self.accept(number, part, effect)?;
         self.settle(quiet);
@@ -215,7 +217,8 @@ impl Course {
         requires marks { FitMarks (state_of base.now) self.old.marks }
         requires laid { IsLaid base.now self.old.marks self.old.laid }
         ensures ok { OnOk result (Grows number stmt.now (state_of base.now) self.old self.new) }
-        ensures cost { OnOk result (moves.new ≤ moves.old + statement_cost stmt.now (laid (state_of base.now) self.old.marks)) }
+        ensures cost { moves.new ≤ moves.old + statement_cost stmt.now (laid (state_of base.now) self.old.marks) }
+        ensures moves { moves.old ≤ moves.new }
         ensures laid { IsLaid base.now self.new.marks self.new.laid }
         ensures parts_kept { OnErr result (self.new.parts ≡ self.old.parts) }
         ensures reply_kept { OnErr result (self.new.reply ≡ self.old.reply) }
@@ -225,9 +228,34 @@ impl Course {
         let laid = self.take_laid(base)?;
         let step = evaluated(alloc, &laid, stmt, moves)?;
         let Step { part, effect } = step;
+        let part = SharedPart::new(alloc, part)?;
         let quiet = is_quiet(&effect);
         self.accept(number, part, effect)?;
         self.laid = Some(laid);
+        self.settle(quiet);
+        Ok(())
+    }
+
+    /// One more statement, whose part this is: nothing is joined.
+    pub(crate) fn keep(
+        &mut self,
+        _base: &Database,
+        number: u32,
+        stmt: &Stmt,
+        part: &SharedPart,
+    ) -> Result<(), NoMemory>
+        requires going { is_refused self.old.reply ≡ false }
+        requires part { IsPartOn stmt.now (laid (state_of _base.now) self.old.marks) part.now }
+        requires laid { IsLaid _base.now self.old.marks self.old.laid }
+        ensures ok { OnOk result (Grows number stmt.now (state_of _base.now) self.old self.new) }
+        ensures kept { OnOk result (self.new.parts ≡ self.old.parts ++ part.now ∷ []) }
+        ensures laid { IsLaid _base.now self.new.marks self.new.laid }
+        ensures err { OnErr result (self.new ≡ self.old) }
+    {
+        let effect = effect_by(self.parts.allocator(), stmt, &part.part().outcome)?;
+        let part = part.share()?;
+        let quiet = is_quiet(&effect);
+        self.accept(number, part, effect)?;
         self.settle(quiet);
         Ok(())
     }
@@ -247,7 +275,8 @@ impl Course {
         requires marks { FitMarks (state_of base.now) self.old.marks }
         requires laid { IsLaid base.now self.old.marks self.old.laid }
         ensures ok { OnOk result (Grows number stmt.now (state_of base.now) self.old self.new) }
-        ensures cost { OnOk result (moves.new ≤ moves.old + statement_cost stmt.now (laid (state_of base.now) self.old.marks)) }
+        ensures cost { moves.new ≤ moves.old + statement_cost stmt.now (laid (state_of base.now) self.old.marks) }
+        ensures moves { moves.old ≤ moves.new }
         ensures laid { IsLaid base.now self.new.marks self.new.laid }
         ensures parts_kept { OnErr result (self.new.parts ≡ self.old.parts) }
         ensures reply_kept { OnErr result (self.new.reply ≡ self.old.reply) }

@@ -1,4 +1,4 @@
-//! The evaluation of a statement on a database, by a join.
+//! The evaluation of a statement on a database, by a join. What is said of its moves holds also where memory is refused.
 ghost use Rattle.std.specs.Prelude.{◌≡◌, ◌+◌, ◌≤◌, true, false, map, IfOk};
 ghost use Rattle.lt_face.specs.Rows.{IsAscending};
 ghost use Rattle.lt_face.specs.State.{State};
@@ -57,7 +57,8 @@ fn found<L>(
     ensures rows { IfOk result (λ found. found.0 ≡ answers_of terms.now body.now (state_of tables.now)) }
     ensures certified { IfOk result (λ found. Certifies found.1 body.now (state_of tables.now)) }
     ensures tight { IfOk result (λ found. IsTight found.1 (state_of tables.now)) }
-    ensures cost { IfOk result (λ _. moves.new ≤ moves.old + bound (stated_plan body.now) (state_of tables.now)) }
+    ensures cost { moves.new ≤ moves.old + bound (stated_plan body.now) (state_of tables.now) }
+    ensures moves { moves.old ≤ moves.new }
 {
     let found = answers(alloc, body, plan, terms, tables, moves)?;
     Ok(found)
@@ -77,7 +78,8 @@ fn told<L>(
     ensures truth { IfOk result (λ told. told.0 ≡ some_answer body.now (state_of tables.now)) }
     ensures vouched { IfOk result (λ told. Vouches told.1 body.now (state_of tables.now)) }
     ensures tight { IfOk result (λ told. IsTight told.1 (state_of tables.now)) }
-    ensures cost { IfOk result (λ _. moves.new ≤ moves.old + bound (stated_plan body.now) (state_of tables.now)) }
+    ensures cost { moves.new ≤ moves.old + bound (stated_plan body.now) (state_of tables.now) }
+    ensures moves { moves.old ≤ moves.new }
 {
     let told = some(alloc, body, plan, tables, moves)?;
     Ok(told)
@@ -109,7 +111,8 @@ fn written<L>(
     ensures certified { IfOk result (λ e. Certifies e.part.sense body.now (state_of tables.now)) }
     ensures tight { IfOk result (λ e. IsTight e.part.sense (state_of tables.now)) }
     ensures effect { IfOk result (λ e. view e.effect ≡ model.Writes (marks_of plus head.now body.now (state_of tables.now))) }
-    ensures cost { IfOk result (λ _. moves.new ≤ moves.old + bound (stated_plan body.now) (state_of tables.now)) }
+    ensures cost { moves.new ≤ moves.old + bound (stated_plan body.now) (state_of tables.now) }
+    ensures moves { moves.old ≤ moves.new }
 {
     let plan = planned(body)?;
     let found = found(alloc, tables, body, &plan, &head.terms, moves)?;
@@ -156,7 +159,8 @@ fn replaced<L>(
     requires fits { FitsStatement (state_of tables.now) (Stmt.Replace gone.now come.now body.now) }
     ensures part { IfOk result (λ e. IsPartOn (Stmt.Replace gone.now come.now body.now) (state_of tables.now) e.part) }
     ensures effect { IfOk result (λ e. view e.effect ≡ effect_of (Stmt.Replace gone.now come.now body.now) (state_of tables.now)) }
-    ensures cost { IfOk result (λ _. moves.new ≤ moves.old + statement_cost (Stmt.Replace gone.now come.now body.now) (state_of tables.now)) }
+    ensures cost { moves.new ≤ moves.old + statement_cost (Stmt.Replace gone.now come.now body.now) (state_of tables.now) }
+    ensures moves { moves.old ≤ moves.new }
 {
     let plan = planned(body)?;
     let first = found(alloc, tables, body, &plan, &gone.terms, moves)?;
@@ -186,7 +190,8 @@ fn required<L>(
     requires fits { IsBodyOf (state_of tables.now) body.now }
     ensures part { IfOk result (λ e. IsPartOn (Stmt.Need some body.now) (state_of tables.now) e.part) }
     ensures effect { IfOk result (λ e. view e.effect ≡ effect_of (Stmt.Need some body.now) (state_of tables.now)) }
-    ensures cost { IfOk result (λ _. moves.new ≤ moves.old + bound (stated_plan body.now) (state_of tables.now)) }
+    ensures cost { moves.new ≤ moves.old + bound (stated_plan body.now) (state_of tables.now) }
+    ensures moves { moves.old ≤ moves.new }
 {
     let plan = planned(body)?;
     let told = told(alloc, tables, body, &plan, moves)?;
@@ -214,7 +219,8 @@ fn printed<L>(
     requires fits { FitsStatement (state_of tables.now) (Stmt.Print terms.now kinds.now body.now) }
     ensures part { IfOk result (λ e. IsPartOn (Stmt.Print terms.now kinds.now body.now) (state_of tables.now) e.part) }
     ensures effect { IfOk result (λ e. view e.effect ≡ effect_of (Stmt.Print terms.now kinds.now body.now) (state_of tables.now)) }
-    ensures cost { IfOk result (λ _. moves.new ≤ moves.old + bound (stated_plan body.now) (state_of tables.now)) }
+    ensures cost { moves.new ≤ moves.old + bound (stated_plan body.now) (state_of tables.now) }
+    ensures moves { moves.old ≤ moves.new }
 {
     let plan = planned(body)?;
     let found = found(alloc, tables, body, &plan, terms, moves)?;
@@ -242,7 +248,8 @@ pub(crate) fn evaluated<L>(
     requires fits { FitsStatement (state_of tables.now) stmt.now }
     ensures part { IfOk result (λ e. IsPartOn stmt.now (state_of tables.now) e.part) }
     ensures effect { IfOk result (λ e. view e.effect ≡ effect_of stmt.now (state_of tables.now)) }
-    ensures cost { IfOk result (λ _. moves.new ≤ moves.old + statement_cost stmt.now (state_of tables.now)) }
+    ensures cost { moves.new ≤ moves.old + statement_cost stmt.now (state_of tables.now) }
+    ensures moves { moves.old ≤ moves.new }
 {
     match stmt {
         Stmt::Insert { head, body } => {

@@ -1,6 +1,12 @@
 //! What a tally keeps of a statement.
+ghost use Rattle.std.specs.Prelude.{◌≡◌, IfOk};
+
 use lt_face::items::RowList;
+use lt_face::memory::NoMemory;
 use lt_sense::Sense;
+use std::alloc::Global;
+use std::marker::Model;
+use std::sync::Arc;
 
 /// What the evaluation of a statement gives.
 #[derive(Drop)]
@@ -18,4 +24,44 @@ pub enum Outcome {
 pub struct Part {
     pub outcome: Outcome,
     pub sense: Sense,
+}
+
+/// A part that several tallies may own. Contracts see it as the part.
+#[derive(Drop)]
+pub struct SharedPart {
+    part: Arc<Part>,
+}
+
+impl Model for SharedPart {
+    ghost use Rattle.std.specs.Arc.{arc_value};
+    ghost use Rattle.lt_program.specs.declared.part.Part.{Part};
+
+    ghost Value = { Part };
+
+    ghost view = { λ s. arc_value s.part };
+}
+
+impl SharedPart {
+    /// The part, with one owner.
+    pub(crate) fn new(alloc: Global, part: Part) -> Result<SharedPart, NoMemory>
+        ensures { IfOk result (λ shared. shared ≡ part) }
+    {
+        let part = Arc::new(alloc, part)?;
+        Ok(SharedPart { part })
+    }
+
+    /// A second owner of the same part.
+    pub(crate) fn share(&self) -> Result<SharedPart, NoMemory>
+        ensures { IfOk result (λ shared. shared ≡ self.now) }
+    {
+        let part = self.part.clone()?;
+        Ok(SharedPart { part })
+    }
+
+    /// The part.
+    pub fn part(&self) -> &Part
+        ensures { result.now ≡ self.now }
+    {
+        &self.part
+    }
 }

@@ -1,18 +1,24 @@
 //! `Tally`: the run of a program on a database, statement by statement.
-ghost use Rattle.std.specs.Prelude.{◌≡◌, ◌≤◌, ◌+◌, ◌||◌, ◌==◌, ◌++◌, ◌∷◌, [], true, false, length, slice_get, OnOk, OnErr, IfOk, IsTrue};
+ghost use Rattle.std.specs.Prelude.{◌≡◌, ◌≤◌, ◌+◌, ◌||◌, ◌==◌, ◌<◌, Some, ◌++◌, ◌∷◌, [], true, false, length, slice_get, OnOk, OnErr, IfOk, IsTrue};
 ghost use Rattle.std.specs.Arc.{arc_value};
+ghost use Rattle.lt_face.specs.Rows.{has_row};
+ghost use Rattle.lt_face.specs.State.{rows_in};
 ghost use Rattle.lt_model.specs.Fits.{Fits, FitMarks};
 ghost use Rattle.lt_model.specs.Run.{run as run_of};
 ghost use Rattle.lt_base.specs.Tables.{state_of};
+ghost use Rattle.lt_sense.specs.Sense.{AgreeWhereCovered};
+ghost use Rattle.lt_program.specs.declared.part.Part.{Part as PartType};
 ghost use Rattle.lt_program.specs.Run.{AreReplied};
-ghost use Rattle.lt_program.specs.Tally.{HasIndexes, IsRun, IsOneMore, has_ended, is_refused, cost_of_first, cost_on, state_before};
+ghost use Rattle.lt_program.specs.Tally.{HasIndexes, IsRun, IsOneMore, has_ended, is_refused, cost_of_first, cost_on, ends_at, run_of_first, state_before};
 
 use crate::course::Course;
-use crate::part::Part;
+use crate::kept::marks_past;
+use crate::part::SharedPart;
 use lt_base::Database;
 use lt_delta::Marks;
 use lt_face::memory::NoMemory;
 use lt_face::moves::Moves;
+use lt_face::row::Row;
 use lt_model::normal::{Prog, Stmt};
 use lt_model::reply::Reply;
 use std::marker::Model;
@@ -73,11 +79,12 @@ impl Tally {
     }
 
     /// Evaluates the next statement, on the state with the marks of those before it laid on it. Want of memory leaves the
-    /// tally as it was. `moves` rises by at most what the joins of the statement may take.
+    /// tally as it was. `moves` rises by at most what the joins of the statement may take, also then, and never falls.
     pub fn evaluate<L>(&mut self, moves: &mut Moves<L>) -> Result<(), NoMemory>
         requires going { has_ended self.old ≡ false }
         ensures one { OnOk result (IsOneMore self.old self.new) }
-        ensures moves { OnOk result (moves.new ≤ moves.old + cost_on (slice_get self.old.program (length self.old.parts)) (state_before (length self.old.parts) self.old.program (state_of self.old.base))) }
+        ensures moves { moves.new ≤ moves.old + cost_on (slice_get self.old.program (length self.old.parts)) (state_before (length self.old.parts) self.old.program (state_of self.old.base)) }
+        ensures rises { moves.old ≤ moves.new }
         ensures err { OnErr result (self.new ≡ self.old) }
     {
         let number = self.course.parts.len();
@@ -85,6 +92,44 @@ impl Tally {
         self.course
             .evaluate(&self.base, number as u32 + 1, stmt, moves)?;
         Ok(())
+    }
+
+    /// Takes the next statement's answers or truth, and its sense, from another tally of the program that evaluated it. The
+    /// states before it agree wherever that sense covers a row. Want of memory leaves the tally as it was.
+    pub fn keep(&mut self, old: &Tally) -> Result<(), NoMemory>
+        requires going { has_ended self.old ≡ false }
+        requires program { old.now.program ≡ self.old.program }
+        requires evaluated { length self.old.parts < length old.now.parts }
+        requires agree { (part : PartType) → slice_get old.now.parts (length self.old.parts) ≡ Some part → AgreeWhereCovered part.sense (state_before (length self.old.parts) old.now.program (state_of old.now.base)) (state_before (length self.old.parts) self.old.program (state_of self.old.base)) }
+        ensures one { OnOk result (IsOneMore self.old self.new) }
+        ensures kept { OnOk result ((part : PartType) → slice_get old.now.parts (length self.old.parts) ≡ Some part → self.new.parts ≡ self.old.parts ++ part ∷ []) }
+        ensures err { OnErr result (self.new ≡ self.old) }
+    {
+        let number = self.course.parts.len();
+        let stmt: &Stmt = &self.prog.as_slice()[number];
+        let part = &old.parts()[number];
+        self.course.keep(&self.base, number as u32 + 1, stmt, part)?;
+        Ok(())
+    }
+
+    /// Whether the state with the marks so far laid on it has the row.
+    pub fn has(&self, relation: u32, row: &Row) -> bool
+        ensures { result ≡ has_row (rows_in (state_before (length self.now.parts) self.now.program (state_of self.now.base)) relation) row.now }
+    {
+        self.base.has_with(&self.course.marks, relation, row)
+    }
+
+    /// The marks after a statement that was evaluated, of the marks before it.
+    pub fn marks_after(&self, place: usize, before: &Marks) -> Result<Marks, NoMemory>
+        requires there { place < length self.now.parts }
+        requires before { before.now ≡ (run_of_first place self.now.program (state_of self.now.base)).1 }
+        ensures value { IfOk result (λ marks. marks ≡ (run_of_first (place + 1) self.now.program (state_of self.now.base)).1) }
+        ensures fits { IfOk result (λ marks. FitMarks (state_of self.now.base) marks) }
+    {
+        let stmt: &Stmt = &self.prog.as_slice()[place];
+        let part = &self.course.parts.as_slice()[place];
+        let marks = marks_past(self.prog.allocator(), stmt, &part.part().outcome, before)?;
+        Ok(marks)
     }
 
     /// Whether every statement was evaluated, or a requirement was false. Then the reply and the marks are the program's.
@@ -108,7 +153,7 @@ impl Tally {
 
     /// A part for each statement evaluated, in their order: its answers or truth on the state before it, and what these
     /// were sensitive to.
-    pub fn parts(&self) -> &[Part]
+    pub fn parts(&self) -> &[SharedPart]
         ensures parts { result.now ≡ self.now.parts }
         ensures run { IsRun self.now }
     {
@@ -148,7 +193,8 @@ impl Tally {
     }
 }
 
-/// The whole run of a program that fits the database, which has the indexes that the program needs.
+/// The whole run of a program that fits the database, which has the indexes that the program needs. `moves` rises by at most
+/// what the joins of the statements up to the program's end may take, also where memory is refused, and never falls.
 pub fn run<L>(prog: &Arc<Prog>, base: &Database, moves: &mut Moves<L>) -> Result<Tally, NoMemory>
     requires fits { Fits (state_of base.now) (arc_value prog.now) }
     requires indexes { HasIndexes base.now (arc_value prog.now) }
@@ -160,7 +206,9 @@ pub fn run<L>(prog: &Arc<Prog>, base: &Database, moves: &mut Moves<L>) -> Result
     ensures marks { IfOk result (λ t. t.marks ≡ (run_of (arc_value prog.now) (state_of base.now)).1) }
     ensures fits { IfOk result (λ t. FitMarks (state_of base.now) t.marks) }
     ensures printed { IfOk result (λ t. AreReplied t.reply) }
-    ensures moves { IfOk result (λ t. moves.new ≤ moves.old + cost_of_first (length t.parts) (arc_value prog.now) (state_of base.now)) }
+    ensures evaluated { IfOk result (λ t. length t.parts ≡ ends_at (arc_value prog.now) (state_of base.now)) }
+    ensures moves { moves.new ≤ moves.old + cost_of_first (ends_at (arc_value prog.now) (state_of base.now)) (arc_value prog.now) (state_of base.now) }
+    ensures rises { moves.old ≤ moves.new }
 {
     let mut tally = Tally::begin(prog, base)?;
     'statements: while !tally.ended() {

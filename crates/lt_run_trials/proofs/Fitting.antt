@@ -1,18 +1,18 @@
 -- The programs of the tests fit the two relations, also after each other.
-use Rattle.std.proofs.Common.{◌≡◌, ◌≤◌, List, [], ◌∷◌, refl, sym, ap, ◌∙◌, arith}
+use Rattle.std.proofs.Common.{◌≡◌, ◌≤◌, List, [], ◌∷◌, length, refl, sym, ap, ◌∙◌, arith}
 use Rattle.std.specs.List.{AllByRecursion}
 use Rattle.lt_face.specs.State.{Row, State}
 use Rattle.lt_face.proofs.RowLemmas.{each_weaker}
 use Rattle.lt_model.specs.declared.normal.Stmt.{Stmt}
-use Rattle.lt_model.specs.Fits.{Fits, FitMarks}
+use Rattle.lt_model.specs.Fits.{Fits, FitMarks, IsMarkOf}
 use Rattle.lt_model.specs.Marks.{Marks, laid}
 use Rattle.lt_model.proofs.Composition.{same_widths}
 use Rattle.lt_delta.proofs.Kept.{IsState-laid}
 use Rattle.lt_program.specs.Run.{IsFitting, lists}
 use Rattle.lt_program.specs.Walk.{bare}
 use Rattle.lt_program.proofs.BareStates.{laid-plain}
-use Rattle.lt_run_trials.specs.Fitting.{AreBoth, FitsBoth, AreRowsOfBoth}
-use Rattle.lt_batch.proofs.Widths.{widths-laid}
+use Rattle.lt_run_trials.specs.Fitting.{AreBoth, FitsBoth, AreRowsOfBoth, KeepsWidths}
+use Rattle.lt_batch.proofs.Widths.{wide_laid, widths-laid}
 
 -- programs that fit both fit a state that has both
 pub all_fit : (s : State) (programs : List (List Stmt)) → AreBoth s → AllByRecursion FitsBoth programs → AllByRecursion (Fits s) programs
@@ -21,6 +21,14 @@ all_fit s programs both fit = each_weaker FitsBoth (Fits s) (λ program fits. fi
 -- marks leave both there
 pub both_laid : (state : State) (marks : Marks) → AreBoth state → AreBoth (laid state marks)
 both_laid state marks both = same_widths state marks ∙ both
+
+-- marks that fit a state fit another whose relations are as wide
+pub marks_fit_too : (old new : State) (marks : Marks) → KeepsWidths old new → FitMarks old marks → FitMarks new marks
+marks_fit_too old new marks kept fit = each_weaker (IsMarkOf old) (IsMarkOf new) (λ m h. record { is_wide = kept m.relation (length m.row) h.is_wide; has_cells = h.has_cells }) marks fit
+
+-- marks leave relations as wide as they were
+pub widths_stay : (base old new : State) (marks : Marks) → KeepsWidths base old → new ≡ laid old marks → KeepsWidths base new
+widths_stay base old new marks kept is = λ relation width wide. wide_laid old old new marks refl is relation width (kept relation width wide)
 
 -- ---- rows
 

@@ -1,8 +1,8 @@
 -- What tests run: programs over a relation of one column and one of two.
-use Rattle.std.specs.Prelude.{◌≡◌, List, [], ◌∷◌, map}
+use Rattle.std.specs.Prelude.{◌≡◌, ℕ, List, [], ◌∷◌, map}
 use Rattle.lt_face.specs.State.{Row, Relation, State}
 use Rattle.lt_model.specs.declared.normal.Stmt.{Stmt}
-use Rattle.lt_model.specs.Fits.{Fits}
+use Rattle.lt_model.specs.Fits.{Fits, IsWide}
 use Rattle.lt_program.specs.Run.{lists}
 use Rattle.lt_batch.specs.Work.{IsSnapshot}
 
@@ -13,6 +13,10 @@ AreBoth state = map (λ (r : Relation). r.width) state ≡ 1 ∷ 2 ∷ []
 -- a program that fits each such state
 abbrev pub FitsBoth : List Stmt → Type 0
 FitsBoth program = (state : State) → AreBoth state → Fits state program
+
+-- each relation of the one is as wide in the other
+abbrev pub KeepsWidths : State → State → Type 0
+KeepsWidths old new = (relation width : ℕ) → IsWide old relation width → IsWide new relation width
 
 -- the rows of such a state
 pub record AreRowsOfBoth (rows : List (List Row)) : Type 0 where

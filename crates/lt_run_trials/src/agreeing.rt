@@ -12,7 +12,7 @@ use crate::texts::{bare, joined, program};
 use lt_delta::Marks;
 use lt_face::memory::NoMemory;
 use lt_model::normal::Prog;
-use lt_program::{Outcome, Part, Tally};
+use lt_program::{Outcome, Part, SharedPart, Tally};
 use std::alloc::Global;
 
 /// The run as it is defined, on relations without rows.
@@ -78,14 +78,14 @@ fn is_part_of_refused(part: &Part) -> bool {
     match &part.outcome {
         Outcome::Rows(rows) => rows.len() == 1,
         Outcome::Both(..) => false,
-        Outcome::Truth(met) => *met && part.sense.hits.len() == 1,
+        Outcome::Truth(met) => *met && part.sense.hit_count() == 1,
     }
 }
 
 /// Whether all parts are so.
-fn are_parts_of_refused(parts: &[Part]) -> bool {
+fn are_parts_of_refused(parts: &[SharedPart]) -> bool {
     for part in parts {
-        if !is_part_of_refused(part) {
+        if !is_part_of_refused(part.part()) {
             return false;
         }
     }

@@ -21,7 +21,8 @@ use lt_face::row_set::RowReads;
 use lt_model::normal::Prog;
 use lt_model::reply::Reply;
 use std::alloc::Global;
-use std::sync::Arc;
+use std::sync::{Arc, Wait};
+use std::thread::Threads;
 
 /// Takes one.
 const TAKING: &str = "require some r(n), n > 0; replace r(n) by r(m) where r(n), m = n - 1;";
@@ -109,40 +110,61 @@ fn is_serial(out: &Outcome, serial: &Serial) -> bool {
 
 /// What a batch does where r has the rows that these statements leave.
 #[tactic(auto, using(crate::proofs::Fitting::all_fit))]
-fn ran(alloc: Global, stock: &str, progs: &[Arc<Prog>], workers: u32) -> Result<Outcome, NoMemory>
+fn ran<R: Threads + Wait + Sync>(
+    rt: &R,
+    alloc: Global,
+    stock: &str,
+    progs: &[Arc<Prog>],
+    workers: u32,
+) -> Result<Outcome, NoMemory>
     requires few { length progs.now ≤ 256 }
     requires workers { (1 ≤ workers) × (workers ≤ 16) }
     requires fit { AllByRecursion FitsBoth (map arc_value progs.now) }
 {
     let db = stocked(alloc, stock)?;
-    let out = run_batch(alloc, &db, progs, workers, &OpenGate)?;
+    let out = run_batch(rt, alloc, &db, progs, workers, &OpenGate)?;
     Ok(out)
 }
 
 /// Whether a batch does what its programs do one after another.
-fn does(alloc: Global, progs: &[Arc<Prog>], serial: &Serial) -> Result<bool, NoMemory>
+fn does<R: Threads + Wait + Sync>(
+    rt: &R,
+    alloc: Global,
+    progs: &[Arc<Prog>],
+    serial: &Serial,
+    workers: u32,
+) -> Result<bool, NoMemory>
     requires few { length progs.now ≤ 256 }
+    requires workers { (1 ≤ workers) × (workers ≤ 16) }
     requires fit { AllByRecursion FitsBoth (map arc_value progs.now) }
 {
-    let out = ran(alloc, "", progs, 1)?;
+    let out = ran(rt, alloc, "", progs, workers)?;
     let is_so = is_serial(&out, serial);
     drop(out);
     Ok(is_so)
 }
 
 /// Whether a mixed batch answers, writes and leaves what its programs do one after another.
-fn agrees(alloc: Global, count: usize) -> Result<bool, NoMemory>
-    requires { count ≤ 256 }
+fn agrees<R: Threads + Wait + Sync>(
+    rt: &R,
+    alloc: Global,
+    count: usize,
+    workers: u32,
+) -> Result<bool, NoMemory>
+    requires few { count ≤ 256 }
+    requires workers { (1 ≤ workers) × (workers ≤ 16) }
 {
     let progs = programs(alloc, &MIXED, count)?;
     let serial = one_after_another(alloc, &progs)?;
-    does(alloc, &progs, &serial)
+    does(rt, alloc, &progs, &serial, workers)
 }
 
 #[test]
 fn mixed_batches_are_serial(rt: HostRuntime) -> Result<(), NoMemory> {
     for count in [0usize, 1, 2, 3, 4, 5, 6, 7, 8, 64, 256] {
-        holds(&rt, agrees(rt.alloc(), count)?);
+        for workers in [1u32, 4, 16] {
+            holds(&rt, agrees(&rt, rt.alloc(), count, workers)?);
+        }
     }
     Ok(())
 }
@@ -160,11 +182,16 @@ fn refused(replies: &[Reply]) -> usize {
 }
 
 /// What so many programs that each take one do where r has the rows that these statements leave.
-fn taken(alloc: Global, stock: &str, count: usize) -> Result<Outcome, NoMemory>
+fn taken<R: Threads + Wait + Sync>(
+    rt: &R,
+    alloc: Global,
+    stock: &str,
+    count: usize,
+) -> Result<Outcome, NoMemory>
     requires { count ≤ 256 }
 {
     let progs = programs(alloc, &[TAKING], count)?;
-    ran(alloc, stock, &progs, 16)
+    ran(rt, alloc, stock, &progs, 2)
 }
 
 /// Whether two of three programs took one of two, and the third was refused.
@@ -180,7 +207,7 @@ fn are_two_taken(alloc: Global, out: &Outcome) -> bool {
 #[test]
 fn the_third_finds_none(rt: HostRuntime) -> Result<(), NoMemory> {
     let alloc = rt.alloc();
-    let out = taken(alloc, "insert r(2);", 3)?;
+    let out = taken(&rt, alloc, "insert r(2);", 3)?;
     holds(&rt, are_two_taken(alloc, &out));
     drop(out);
     Ok(())
@@ -190,7 +217,7 @@ fn the_third_finds_none(rt: HostRuntime) -> Result<(), NoMemory> {
 #[test]
 fn a_hundred_are_taken(rt: HostRuntime) -> Result<(), NoMemory> {
     let alloc = rt.alloc();
-    let out = taken(alloc, "insert r(100);", 256)?;
+    let out = taken(&rt, alloc, "insert r(100);", 256)?;
     same(&rt, refused(out.replies.as_slice()), 156);
     holds(&rt, is_only(alloc, &out.db, ZERO));
     drop(out);
@@ -198,9 +225,9 @@ fn a_hundred_are_taken(rt: HostRuntime) -> Result<(), NoMemory> {
 }
 
 /// What the insertion of 1, its deletion and its insertion again do.
-fn inserted_again(alloc: Global) -> Result<Outcome, NoMemory> {
+fn inserted_again<R: Threads + Wait + Sync>(rt: &R, alloc: Global) -> Result<Outcome, NoMemory> {
     let progs = programs(alloc, &[ADDING, REMOVING], 3)?;
-    ran(alloc, "", &progs, 1)
+    ran(rt, alloc, "", &progs, 1)
 }
 
 /// Whether the second program's effect is this mark.
@@ -223,7 +250,7 @@ fn is_there_again(alloc: Global, out: &Outcome) -> bool {
 #[test]
 fn the_later_mark_stays(rt: HostRuntime) -> Result<(), NoMemory> {
     let alloc = rt.alloc();
-    let out = inserted_again(alloc)?;
+    let out = inserted_again(&rt, alloc)?;
     holds(&rt, is_there_again(alloc, &out));
     drop(out);
     Ok(())

@@ -7,7 +7,7 @@ use crate::agree::holds;
 use crate::comparing::are_marks;
 use crate::floor::Floor;
 use crate::sample::Sample;
-use lt_circuit::{Circuit, Entry};
+use lt_circuit::{Circuit, Entry, Event, JobName};
 use lt_face::NoMemory;
 use lt_face::key::Key;
 use std::alloc::Global;
@@ -20,7 +20,15 @@ fn is_journal(journal: &[Entry], want: &[Entry]) -> bool {
 
 /// The entry of this worker and code.
 fn by(worker: u32, code: u32) -> Entry {
-    Entry { worker, code }
+    let job = JobName::of(code / 3);
+    let event = if code % 3 == 0 {
+        Event::Claim
+    } else if code % 3 == 1 {
+        Event::Finish
+    } else {
+        Event::Abandon
+    };
+    Entry { worker, job, event }
 }
 
 /// A circuit that one worker settled.

@@ -1,11 +1,11 @@
 //! Two workers at a circuit, driven by the entries of a journal.
 ghost use Rattle.std.specs.Prelude.{◌≡◌, ◌≢◌, ◌<◌, ◌≤◌, ℕ, None, IfOk};
 ghost use Rattle.std.specs.Arc.{arc_value};
-ghost use Rattle.lt_alone.specs.Alone.{IsUnclaimed};
+ghost use Rattle.lt_net.specs.Alone.{IsUnclaimed};
 ghost use Rattle.lt_circuit.specs.Circuit.{CircuitView, state};
 ghost use Rattle.lt_circuit.specs.Hands.{AreInHand, IsInHand};
 
-use lt_circuit::{Circuit, Claim, Entry, Job, JobName, LeafWork, This};
+use lt_circuit::{Circuit, Claim, Entry, Event, Job, JobName, LeafWork, This};
 use lt_face::{Moves, NoMemory};
 use std::alloc::Global;
 use std::marker::Model;
@@ -20,7 +20,7 @@ pub struct Floor<W: LeafWork> {
 }
 
 impl<W: LeafWork> Model for Floor<W> {
-    ghost Value = { CircuitView W };
+    ghost Value = { CircuitView W W.Tally };
 
     ghost view = { λ f. f.circuit };
 
@@ -91,12 +91,39 @@ fn end<W: LeafWork>(
     }
 }
 
-/// What the entry's code says. It tells whether it could be done.
+/// The job's code, where its leaf or its node is below a million.
+fn small_code(job: JobName) -> Option<u32> {
+    match job {
+        JobName::Leaf(leaf) => {
+            if leaf < 1_000_000 {
+                Some(JobName::Leaf(leaf).code())
+            } else {
+                None
+            }
+        }
+        JobName::Merge(node) => {
+            if node < 1_000_000 {
+                Some(JobName::Merge(node).code())
+            } else {
+                None
+            }
+        }
+        JobName::Correct(node) => {
+            if node < 1_000_000 {
+                Some(JobName::Correct(node).code())
+            } else {
+                None
+            }
+        }
+    }
+}
+
+/// What the entry says. It tells whether it could be done.
 fn act<W: LeafWork>(
     circuit: &mut Circuit<W>,
     hand: &mut Option<Job<W>>,
     worker: u32,
-    code: u32,
+    entry: Entry,
 ) -> bool
     requires worker { worker < 16 }
     requires hand { IsInHand circuit.old worker hand.old }
@@ -105,10 +132,13 @@ fn act<W: LeafWork>(
     ensures work { circuit.new.work ≡ circuit.old.work }
     ensures others { (v : ℕ) → v ≢ worker → (state circuit.new).claim v ≡ (state circuit.old).claim v }
 {
-    if code % 3 == 0 {
-        begin(circuit, hand, worker, code / 3)
-    } else {
-        end(circuit, hand, worker, code % 3 == 1)
+    match entry.event {
+        Event::Claim => match small_code(entry.job) {
+            Some(code) => begin(circuit, hand, worker, code),
+            None => false,
+        },
+        Event::Finish => end(circuit, hand, worker, true),
+        Event::Abandon => end(circuit, hand, worker, false),
     }
 }
 
@@ -193,9 +223,9 @@ impl<W: LeafWork> Floor<W> {
         ensures leaves { self.new.board.leaves ≡ self.old.board.leaves }
     {
         if entry.worker == 0 {
-            act(&mut self.circuit, &mut self.first, 0, entry.code)
+            act(&mut self.circuit, &mut self.first, 0, entry)
         } else {
-            act(&mut self.circuit, &mut self.second, 1, entry.code)
+            act(&mut self.circuit, &mut self.second, 1, entry)
         }
     }
 

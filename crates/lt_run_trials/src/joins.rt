@@ -182,11 +182,15 @@ struct Sensitive<'a> {
 }
 
 /// Whether a sense is this one.
-fn is_sense(alloc: Global, sense: &Sense, want: &Sensitive) -> bool {
-    are_gaps(sense.gaps.as_slice(), want.gaps)
-        && are_hits(alloc, sense.hits.as_slice(), want.hits)
-        && sense.covers(0, &int_row(alloc, 4)) == want.covers.0
-        && sense.covers(0, &int_row(alloc, 20)) == want.covers.1
+fn is_sense(alloc: Global, sense: &Sense, want: &Sensitive) -> Result<bool, NoMemory> {
+    let gaps = sense.kept_gaps()?;
+    let hits = sense.kept_hits()?;
+    Ok(
+        are_gaps(gaps.as_slice(), want.gaps)
+            && are_hits(alloc, hits.as_slice(), want.hits)
+            && sense.covers(0, &int_row(alloc, 4)) == want.covers.0
+            && sense.covers(0, &int_row(alloc, 20)) == want.covers.1,
+    )
 }
 
 /// Whether a statement's body has an answer or none, and its sense is this one.
@@ -198,7 +202,8 @@ fn senses(
     want: &Sensitive,
 ) -> Result<bool, NoMemory> {
     let found = found(alloc, stock, statement)?;
-    Ok(found.any == any && is_sense(alloc, &found.sense, want))
+    let same = is_sense(alloc, &found.sense, want)?;
+    Ok(found.any == any && same)
 }
 
 const ONE: Key = ZERO + 1;

@@ -18,7 +18,15 @@ mod floor;
 #[cfg(test)]
 mod joins;
 #[cfg(test)]
+mod layers;
+#[cfg(test)]
+mod meeting;
+#[cfg(test)]
 mod random;
+#[cfg(test)]
+mod restatement;
+#[cfg(test)]
+mod restating;
 #[cfg(test)]
 mod sample;
 #[cfg(test)]

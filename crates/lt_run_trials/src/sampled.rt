@@ -102,3 +102,44 @@ pub(crate) fn text(alloc: Global, random: &mut Random) -> Result<String, NoMemor
     }
     Ok(text)
 }
+
+/// So many statements that join rows.
+pub(crate) fn joining(alloc: Global, random: &mut Random, count: u32) -> Result<String, NoMemory> {
+    let mut text = String::new(alloc);
+    for _ in 0..count {
+        put_statement(&mut text, random, 10)?;
+    }
+    Ok(text)
+}
+
+/// So many statements that insert or delete a row.
+pub(crate) fn writing(alloc: Global, random: &mut Random, count: u32) -> Result<String, NoMemory> {
+    let mut text = String::new(alloc);
+    for _ in 0..count {
+        let template = if random.below(3) == 0 {
+            "delete e($, $); "
+        } else {
+            "insert e($, $); "
+        };
+        put(&mut text, template, random)?;
+    }
+    Ok(text)
+}
+
+/// So many statements that insert or delete a row of many.
+pub(crate) fn spreading(
+    alloc: Global,
+    random: &mut Random,
+    count: u32,
+) -> Result<String, NoMemory> {
+    let mut text = String::new(alloc);
+    for _ in 0..count {
+        let template = if random.below(4) == 0 {
+            "delete e(1$, 1$$$); "
+        } else {
+            "insert e(1$, 1$$$); "
+        };
+        put(&mut text, template, random)?;
+    }
+    Ok(text)
+}

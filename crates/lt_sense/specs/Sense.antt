@@ -4,7 +4,7 @@ use Rattle.std.specs.List.{list_any, AllByRecursion}
 use Rattle.lt_face.specs.State.{Row, State, row_eq, permuted, Has, AgreeOn}
 use Rattle.lt_sense.specs.declared.covering.KeptGap.{KeptGap}
 use Rattle.lt_sense.specs.declared.covering.Hit.{Hit}
-use Rattle.lt_sense.specs.declared.sense.Sense.{Sense}
+use Rattle.lt_sense.specs.Kept.{Sense}
 
 -- whether the cells begin with the prefix, and the next lies from lo to below hi
 abbrev pub lies_in : Row → ℕ → ℕ → Row → Bool

@@ -4,7 +4,7 @@ use Rattle.std.specs.List.{list_any, AllByRecursion}
 use Rattle.lt_face.specs.Lists.{IsIn}
 use Rattle.lt_face.specs.State.{Row}
 use Rattle.lt_sense.specs.declared.covering.KeptGap.{KeptGap}
-use Rattle.lt_sense.specs.declared.sense.Sense.{Sense}
+use Rattle.lt_sense.specs.Kept.{Sense}
 use Rattle.lt_sense.specs.declared.spot.Spot.{Spot}
 use Rattle.lt_sense.specs.declared.spot.Spot.TheVariants.{Gap, Hit}
 use Rattle.lt_sense.specs.Sense.{covers, gap_covers, hit_covers}

@@ -1,7 +1,7 @@
 //! The two kinds of thing that cover rows: gaps and hits.
 ghost use Rattle.std.specs.Prelude.{◌≡◌, ◌≤◌, slice_index};
 ghost use Rattle.lt_face.specs.State.{permuted};
-ghost use Rattle.lt_sense.specs.Sense.{lies_in as lies_within, gap_covers, hit_covers};
+ghost use Rattle.lt_sense.specs.Sense.{lies_in as lies_within, gap_covers};
 
 use lt_face::items::Perm;
 use lt_face::key::Key;
@@ -16,6 +16,22 @@ pub struct KeptGap {
     pub prefix: Row,
     pub lo: Key,
     pub hi: Key,
+}
+
+impl KeptGap {
+    /// Whether the gap covers the row.
+    pub fn covers(&self, relation: u32, row: &Row) -> bool
+        ensures { result ≡ gap_covers self.now relation row.now }
+    {
+        self.relation == relation
+            && lies_in(
+                self.prefix.cells(),
+                self.columns.as_slice(),
+                self.lo,
+                self.hi,
+                row,
+            )
+    }
 }
 
 /// A row that was met.
@@ -37,38 +53,18 @@ fn cell_at(row: &Row, column: u32) -> Key
     }
 }
 
-impl KeptGap {
-    /// Whether the row's cells, in the gap's order of columns, begin with its prefix and the next lies within its bounds.
-    fn lies_in(&self, row: &Row) -> bool
-        ensures { result ≡ lies_within self.now.prefix self.now.lo self.now.hi (permuted self.now.columns row.now) }
-    {
-        let prefix = self.prefix.cells();
-        let columns = self.columns.as_slice();
-        if columns.len() <= prefix.len() {
+/// Whether the row's cells, in the gap's order of columns, begin with its prefix and the next lies within its bounds.
+pub(crate) fn lies_in(prefix: &[Key], columns: &[u32], lo: Key, hi: Key, row: &Row) -> bool
+    ensures { result ≡ lies_within prefix.now lo hi (permuted columns.now row.now) }
+{
+    if columns.len() <= prefix.len() {
+        return false;
+    }
+    for i in 0..prefix.len() {
+        if cell_at(row, columns[i]) != prefix[i] {
             return false;
         }
-        for i in 0..prefix.len() {
-            if cell_at(row, columns[i]) != prefix[i] {
-                return false;
-            }
-        }
-        let next = cell_at(row, columns[prefix.len()]);
-        self.lo <= next && next < self.hi
     }
-
-    /// Whether a row of the relation lies in the gap.
-    pub fn covers(&self, relation: u32, row: &Row) -> bool
-        ensures { result ≡ gap_covers self.now relation row.now }
-    {
-        self.relation == relation && self.lies_in(row)
-    }
-}
-
-impl Hit {
-    /// Whether this is the row of the relation.
-    pub fn covers(&self, relation: u32, row: &Row) -> bool
-        ensures { result ≡ hit_covers self.now relation row.now }
-    {
-        self.relation == relation && self.row == *row
-    }
+    let next = cell_at(row, columns[prefix.len()]);
+    lo <= next && next < hi
 }

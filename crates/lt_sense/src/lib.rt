@@ -4,6 +4,7 @@
 mod covering;
 mod sense;
 mod spot;
+mod store;
 
 pub use covering::{Hit, KeptGap};
 pub use lt_face::items::Changes;

@@ -1,20 +1,32 @@
 //! The sense of an evaluation.
-ghost use Rattle.std.specs.Prelude.{◌≡◌, ◌<◌, ◌≤◌, ◌∷◌, ◌++◌, [], OnOk, OnErr, IfSome, IfNone, is_some, true};
+ghost use Rattle.std.specs.Prelude.{◌≡◌, ◌<◌, ◌≤◌, ◌∷◌, ◌++◌, [], length, IfOk, OnOk, OnErr, IfSome, IfNone, is_some, true};
 ghost use Rattle.std.specs.List.{list_any};
 
 use crate::covering::{Hit, KeptGap};
 use crate::spot::Spot;
+use crate::store::Store;
 use lt_face::items::{Changes, Items, Perm};
 use lt_face::key::Key;
 use lt_face::memory::NoMemory;
 use lt_face::row::Row;
 use std::alloc::Global;
+use std::marker::Model;
 
 /// What an evaluation was sensitive to: a change of rows that none of it covers leaves the evaluation as it was.
 #[derive(Drop)]
 pub struct Sense {
-    pub gaps: Items<KeptGap>,
-    pub hits: Items<Hit>,
+    store: Store,
+}
+
+impl Model for Sense {
+    ghost use Rattle.lt_sense.specs.Kept.{Sense as Kept};
+    ghost use Rattle.lt_sense.specs.Stored.{sense_of, IsSound};
+
+    ghost Value = { Kept };
+
+    ghost view = { λ s. sense_of s.store };
+
+    ghost invariant = { λ s. IsSound s.store };
 }
 
 impl Sense {
@@ -27,8 +39,7 @@ impl Sense {
         ensures { result ≡ record { gaps = []; hits = [] } }
     {
         Sense {
-            gaps: Items::new(alloc),
-            hits: Items::new(alloc),
+            store: Store::new(alloc),
         }
     }
 
@@ -49,14 +60,7 @@ impl Sense {
         if hi <= lo {
             return Ok(());
         }
-        let gap = KeptGap {
-            relation,
-            columns: perm.copy()?,
-            prefix: prefix.copy_row(),
-            lo,
-            hi,
-        };
-        self.gaps.push(gap)?;
+        self.store.add_gap(relation, perm, prefix, lo, hi)?;
         Ok(())
     }
 
@@ -66,58 +70,61 @@ impl Sense {
         ensures gaps { self.new.gaps ≡ self.old.gaps }
         ensures err { OnErr result (self.new ≡ self.old) }
     {
-        let row = row.copy_row();
-        self.hits.push(Hit { relation, row })?;
+        self.store.add_hit(relation, row)?;
         Ok(())
     }
 
-    /// The first gap that covers the row.
-    fn gap_with(&self, relation: u32, row: &Row) -> Option<&KeptGap>
-        ensures there { is_some result ≡ list_any (λ gap. gap_covers gap relation row.now) self.now.gaps }
-        ensures gap { IfSome result (λ gap. IsIn gap.now self.now.gaps) }
-        ensures covers { IfSome result (λ gap. gap_covers gap.now relation row.now ≡ true) }
+    /// How many gaps there are.
+    pub fn gap_count(&self) -> usize
+        ensures { result ≡ length self.now.gaps }
     {
-        for gap in self.gaps.as_slice() {
-            if gap.covers(relation, row) {
-                return Some(gap);
-            }
-        }
-        None
+        self.store.gaps.len()
     }
 
-    /// Whether the row is a hit.
-    fn has_hit(&self, relation: u32, row: &Row) -> bool
-        ensures { result ≡ list_any (λ hit. hit_covers hit relation row.now) self.now.hits }
+    /// How many rows were met.
+    pub fn hit_count(&self) -> usize
+        ensures { result ≡ length self.now.hits }
     {
-        for hit in self.hits.as_slice() {
-            if hit.covers(relation, row) {
-                return true;
-            }
-        }
-        false
+        self.store.hits.len()
+    }
+
+    /// The gaps, in the order in which they were added.
+    pub fn kept_gaps(&self) -> Result<Items<KeptGap>, NoMemory>
+        ensures { IfOk result (λ gaps. gaps ≡ self.now.gaps) }
+    {
+        let gaps = self.store.kept_gaps()?;
+        Ok(Items::from_vec(gaps))
+    }
+
+    /// The rows that were met, in the order in which they were added.
+    pub fn kept_hits(&self) -> Result<Items<Hit>, NoMemory>
+        ensures { IfOk result (λ hits. hits ≡ self.now.hits) }
+    {
+        let hits = self.store.kept_hits()?;
+        Ok(Items::from_vec(hits))
     }
 
     /// Whether a gap or a hit covers the row.
     pub fn covers(&self, relation: u32, row: &Row) -> bool
         ensures { result ≡ covers self.now relation row.now }
     {
-        self.gap_with(relation, row).is_some() || self.has_hit(relation, row)
+        self.store.gap_with(relation, row).is_some() || self.store.has_hit(relation, row)
     }
 
     /// What covers the row, if anything does: a gap before a hit.
-    fn spot(&self, relation: u32, row: &Row) -> Option<Spot>
+    pub fn spot(&self, relation: u32, row: &Row) -> Option<Spot>
         ensures covered { is_some result ≡ covers self.now relation row.now }
         ensures spot { IfSome result (IsSpotOf self.now relation row.now) }
     {
-        if let Some(gap) = self.gap_with(relation, row) {
-            let prefix = gap.prefix.copy_row();
+        if let Some(gap) = self.store.gap_with(relation, row) {
+            let prefix = self.store.prefix_of(gap);
             return Some(Spot::Gap {
                 prefix,
                 lo: gap.lo,
                 hi: gap.hi,
             });
         }
-        if self.has_hit(relation, row) {
+        if self.store.has_hit(relation, row) {
             return Some(Spot::Hit);
         }
         None

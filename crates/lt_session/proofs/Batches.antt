@@ -75,7 +75,7 @@ pub batch_shown : (w v : World) (m : model.World) (programs : List Program) (cs 
     → Shows w m → v.schema ≡ w.schema
     → cs ≡ map (λ (p : Program). checked p w.schema) programs → progs ≡ filter_map good_of cs
     → replies ≡ serial_replies progs (state_of w.database) → state_of db ≡ serial_state progs (state_of w.database) → number ≡ length m.versions + 1
-    → v.database ≡ db → v.versions.items ≡ w.versions.items ++ db ∷ []
+    → v.database ≡ db → v.versions ≡ w.versions ++ db ∷ []
     → v.report.items ≡ ((w.report.items ++ batch_text number) ++ told programs cs replies) ++ version_text number
     → Shows v (with_batch false m programs)
 batch_shown w v m programs cs progs db replies number s schema judged good replied left counted now versions text =
@@ -98,8 +98,8 @@ batch_shown w v m programs cs progs db replies number s schema judged good repli
       state = state ∙ ap state_of (sym now);
       versions =
           ap (λ (ss : List State). ss ++ done.1 ∷ []) s.versions
-          ∙ ap (λ (x : State). map state_of w.versions.items ++ x ∷ []) state
-          ∙ sym (ap (λ (vs : List (List Table)). map state_of vs) versions ∙ map-append state_of w.versions.items (db ∷ []));
+          ∙ ap (λ (x : State). map state_of w.versions ++ x ∷ []) state
+          ∙ sym (ap (λ (vs : List (List Table)). map state_of vs) versions ∙ map-append state_of w.versions (db ∷ []));
       older = AllByRecursion-push (IsFront m.schema) m.versions done.1 s.older (IsFront-now m.schema done.1 widths);
       text =
           ap (λ n. m.text ++ (batch_text n ++ programs_text (done_text false m.schema) (named m.schema programs) done.0 ++ version_text n)) (sym counted)

@@ -10,13 +10,11 @@ use Rattle.std.proofs.lemmas.List.Quantifiers.{position-Some}
 use Rattle.std.proofs.lemmas.Option.{slice_get-get_or}
 use Rattle.lt_face.specs.State.{Row, Relation, State, rows_in, rows_of}
 use Rattle.lt_face.proofs.RowLemmas.{each_at, each_weaker}
-use Rattle.lt_flat.specs.Flat.{FlatView}
 use Rattle.lt_model.specs.declared.kind.Kind.{Kind}
 use Rattle.lt_model.specs.Schema.{Schema, number_of, columns_of}
 use Rattle.lt_model.specs.Report.{World, at_version}
 use Rattle.lt_model.specs.Marks.{Marks, change, lay, laid, write}
 use Rattle.lt_check.specs.States.{IsStateOf}
-use Rattle.lt_base.specs.Shown.{set_of}
 use Rattle.lt_session.specs.Texts.{held}
 use Rattle.lt_session.specs.Versions.{IsFront}
 
@@ -75,13 +73,13 @@ front_width (heading ∷ schema) (x ∷ state) (suc n) r h e = front_width schem
 -- ---- a set of rows read from a database
 
 -- it is as wide as its relation has columns
-pub set_wide : (rows : Option (Bor FlatView)) (schema : Schema) (state : State) (name : List ℕ) (n : ℕ) → number_of schema name ≡ Some n → IsFront schema state → option_map set_of (option_copied rows) ≡ slice_get state n
+pub set_wide : (rows : Option (Bor Relation)) (schema : Schema) (state : State) (name : List ℕ) (n : ℕ) → number_of schema name ≡ Some n → IsFront schema state → option_copied rows ≡ slice_get state n
     → IfSome rows (λ set. set.now.width ≡ length (columns_of schema name))
 set_wide None schema state name n found front e = tt
 set_wide (Some set) schema state name n found front e =
-    front_width schema state n (set_of set.now) front e ∙ ap (λ (ks : List Kind). length ks) (sym (columns_found schema name n found))
+    front_width schema state n set.now front e ∙ ap (λ (ks : List Kind). length ks) (sym (columns_found schema name n found))
 
-pub set_held : (rows : Option (Bor FlatView)) (state : State) (n : ℕ) → option_map set_of (option_copied rows) ≡ slice_get state n → held (λ (set : FlatView). set.rows) rows ≡ rows_in state n
+pub set_held : (rows : Option (Bor Relation)) (state : State) (n : ℕ) → option_copied rows ≡ slice_get state n → held (λ (set : Relation). set.rows) rows ≡ rows_in state n
 set_held None state n e = ap rows_of e
 set_held (Some set) state n e = ap rows_of e
 

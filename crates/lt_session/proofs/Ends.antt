@@ -6,7 +6,7 @@ use Rattle.lt_model.specs.declared.syntax.Item.{Item}
 use Rattle.lt_model.specs.Script.{Close, End, Fault, Script}
 use Rattle.lt_model.specs.Report as model
 use Rattle.lt_session.specs.declared.script.Report.{Report}
-use Rattle.lt_session.specs.Command.{limit}
+use Rattle.lt_session.specs.Input.{limit}
 use Rattle.lt_session.specs.Reports.{is_fault, IsReportOf}
 use Rattle.lt_session.specs.Writing.{AppendsFront}
 use Rattle.lt_session.specs.Ends.{IsInput, IsFaultReported, IsPart}

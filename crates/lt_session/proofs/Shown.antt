@@ -7,7 +7,7 @@ use Rattle.lt_session.specs.declared.world.World.{World}
 use Rattle.lt_session.specs.World.{Shows}
 
 -- more was written
-pub Shows-said : (w v : World) (m : model.World) (text : List ℕ) → v.schema ≡ w.schema → v.database ≡ w.database → v.versions.items ≡ w.versions.items → v.report.items ≡ w.report.items ++ text
+pub Shows-said : (w v : World) (m : model.World) (text : List ℕ) → v.schema ≡ w.schema → v.database ≡ w.database → v.versions ≡ w.versions → v.report.items ≡ w.report.items ++ text
     → Shows w m → Shows v (says m text)
 Shows-said w v m text schema database versions report s = record {
   schema = s.schema ∙ sym schema;

@@ -8,7 +8,7 @@ use Rattle.lt_model.specs.Script.{Close, End, Fault, Script}
 use Rattle.lt_model.specs.Report.{report}
 use Rattle.lt_session.specs.declared.status.Status.{Status}
 use Rattle.lt_session.specs.declared.status.Status.TheVariants.{Done, NotTaken, Faulty, ReadFault, WriteFault, NoMemory, TooLong}
-use Rattle.lt_session.specs.Command.{limit}
+use Rattle.lt_session.specs.Input.{limit}
 use Rattle.lt_session.specs.Writing.{AppendsFront}
 
 -- these are all bytes that the source had left, and they are within the limit

@@ -14,7 +14,7 @@ pub record Shows (w : World) (m : model.World) : Type 0 where
   pub some : AllByRecursion (λ heading. 1 ≤ length heading.1) m.schema
   pub widths : IsStateOf m.schema m.state
   pub state : m.state ≡ state_of w.database
-  pub versions : [] ∷ m.versions ≡ map state_of w.versions.items
+  pub versions : [] ∷ m.versions ≡ map state_of w.versions
   pub older : AllByRecursion (IsFront m.schema) m.versions
   pub text : m.text ≡ w.report.items
 

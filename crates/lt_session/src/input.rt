@@ -2,7 +2,7 @@ ghost use Rattle.std.specs.Prelude.{◌≡◌, ◌≤◌, ◌<◌, ℕ, List, le
 ghost use Rattle.std.specs.Io.KnownBytes.{Consumes, IsAtEnd};
 ghost use Rattle.lt_edges.specs.Causes.{Rose};
 ghost use Rattle.lt_session.specs.declared.input.InputError.TheVariants as errors;
-ghost use Rattle.lt_session.specs.Command.{limit};
+ghost use Rattle.lt_session.specs.Input.{limit};
 
 use lt_edges::{Failed, Source};
 use std::alloc::{AllocError, Global};

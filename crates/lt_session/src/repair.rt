@@ -3,7 +3,8 @@ ghost use Rattle.std.specs.Prelude.{◌≡◌, ◌≤◌, IsTrue, IfSome, IsSome
 ghost use Rattle.std.specs.Io.KnownBytes.{Appends, Keeps};
 ghost use Rattle.lt_edges.specs.Causes.{Rose};
 ghost use Rattle.lt_model.specs.Report.{usage_text};
-ghost use Rattle.lt_session.specs.Command.{is_run as is_run_command, limit};
+ghost use Rattle.lt_command.specs.Command.{is_taken};
+ghost use Rattle.lt_session.specs.Input.{limit};
 ghost use Rattle.lt_session.specs.Statuses.{status_code};
 ghost use Rattle.lt_session.specs.Ends.{IsReported, IsFaultReported, IsTooLong, IsPart, EndsAs};
 ghost use Rattle.lt_session.specs.Writing.{AppendsFront};
@@ -12,19 +13,11 @@ use crate::input::{InputError, read_all};
 use crate::output::write_lines;
 use crate::script::report_of;
 use crate::status::{Status, code};
+use lt_command::{Command, command_of};
 use lt_edges::{Gate, Sink, Source};
 use std::alloc::Global;
 use std::sync::Wait;
 use std::thread::Threads;
-
-fn is_run(words: &[String]) -> bool
-    ensures { result ≡ is_run_command (map string_bytes words.now) }
-{
-    match words {
-        [_, command] => command.as_str() == "run",
-        _ => false,
-    }
-}
 
 // Where the words aren't taken.
 fn refuse_words<K: Sink>(sink: &mut K) -> Status
@@ -42,12 +35,15 @@ fn refuse_words<K: Sink>(sink: &mut K) -> Status
 }
 
 // Reads a script to its end and writes its report.
-fn run_script<S: Source, K: Sink, G: Gate>(
+fn run_script<R: Threads + Wait + Sync, S: Source, K: Sink, G: Gate>(
+    rt: &R,
     alloc: Global,
     source: &mut S,
     sink: &mut K,
+    workers: u32,
     gate: &G,
 ) -> Status
+    requires workers { (1 ≤ workers) × (workers ≤ 16) }
     ensures { EndsAs result (S.left source.old) (S.left source.new) (S.faults source.old) (S.faults source.new)
         (K.holds sink.old) (K.holds sink.new) (K.faults sink.old) (K.faults sink.new) }
 {
@@ -57,7 +53,7 @@ fn run_script<S: Source, K: Sink, G: Gate>(
         Err(InputError::Failed) => return Status::ReadFault,
         Err(InputError::TooLong) => return Status::TooLong,
     };
-    let Ok(report) = report_of(alloc, &bytes, gate) else {
+    let Ok(report) = report_of(rt, alloc, &bytes, workers, gate) else {
         return Status::NoMemory;
     };
     match write_lines(sink, &report.text) {
@@ -71,7 +67,7 @@ fn run_script<S: Source, K: Sink, G: Gate>(
 /// words aren't taken, 3 or 4 where a read or a write failed, 5 where memory ran out, and 6 where the script is longer
 /// than 16,777,216 bytes.
 pub fn repair_main<R: Threads + Wait + Sync, S: Source, K: Sink, G: Gate>(
-    _rt: &R,
+    rt: &R,
     alloc: Global,
     words: &[String],
     source: &mut S,
@@ -82,23 +78,26 @@ pub fn repair_main<R: Threads + Wait + Sync, S: Source, K: Sink, G: Gate>(
     ensures reported { result ≡ 0 → IsReported (S.left source.old) (S.left source.new) (K.holds sink.old) (K.holds sink.new) }
     ensures faulty { result ≡ 2 → IsFaultReported (S.left source.old) (S.left source.new) (K.holds sink.old) (K.holds sink.new) }
     // Why it ended otherwise.
-    ensures words { (result ≡ 1) ⊎ (result ≡ 4) ⊎ IsTrue (is_run_command (map string_bytes words.now)) }
-    ensures not_taken { result ≡ 1 → is_run_command (map string_bytes words.now) ≡ false }
+    ensures words { (result ≡ 1) ⊎ (result ≡ 4) ⊎ (result ≡ 5) ⊎ IsTrue (is_taken (map string_bytes words.now)) }
+    ensures not_taken { result ≡ 1 → is_taken (map string_bytes words.now) ≡ false }
     ensures usage { result ≡ 1 → Appends (K.holds sink.old) (K.holds sink.new) usage_text }
     ensures read_fault { result ≡ 3 → Rose (S.faults source.old) (S.faults source.new) }
     ensures write_fault { result ≡ 4 → Rose (K.faults sink.old) (K.faults sink.new) }
     ensures too_long { result ≡ 6 → IsTooLong (S.left source.old) (S.left source.new) }
     ensures known { result ≤ 6 }
     // What was written until then.
-    ensures part { result ≡ 4 → IsTrue (is_run_command (map string_bytes words.now)) → IsPart (S.left source.old) (S.left source.new) (K.holds sink.old) (K.holds sink.new) }
-    ensures usage_part { result ≡ 4 → is_run_command (map string_bytes words.now) ≡ false → AppendsFront (K.holds sink.old) (K.holds sink.new) usage_text }
+    ensures part { result ≡ 4 → IsTrue (is_taken (map string_bytes words.now)) → IsPart (S.left source.old) (S.left source.new) (K.holds sink.old) (K.holds sink.new) }
+    ensures usage_part { result ≡ 4 → is_taken (map string_bytes words.now) ≡ false → AppendsFront (K.holds sink.old) (K.holds sink.new) usage_text }
     ensures unwritten { ((result ≡ 3) ⊎ (result ≡ 5) ⊎ (result ≡ 6)) → Keeps (K.holds sink.old) (K.holds sink.new) }
     // Where no read and no write failed and the input is within the limit, it is run, or memory ran out.
-    ensures complete { IsTrue (is_run_command (map string_bytes words.now)) → (Rose (S.faults source.old) (S.faults source.new) → ⊥) → (Rose (K.faults sink.old) (K.faults sink.new) → ⊥)
+    ensures complete { IsTrue (is_taken (map string_bytes words.now)) → (Rose (S.faults source.old) (S.faults source.new) → ⊥) → (Rose (K.faults sink.old) (K.faults sink.new) → ⊥)
         → IfSome (S.left source.old) (λ bytes. length bytes ≤ limit) → IsSome (S.left source.old) → (result ≡ 0) ⊎ (result ≡ 2) ⊎ (result ≡ 5) }
 {
-    if !is_run(words) {
-        return code(refuse_words(sink));
+    match command_of(alloc, words) {
+        Ok(Some(Command::Run { workers })) => {
+            code(run_script(rt, alloc, source, sink, workers, gate))
+        }
+        Ok(None) => code(refuse_words(sink)),
+        Err(_) => code(Status::NoMemory),
     }
-    code(run_script(alloc, source, sink, gate))
 }

@@ -11,6 +11,7 @@ use itoa::Buffer;
 use lt_face::key::Key;
 use lt_face::row::Row;
 use lt_face::row_set::RowReads;
+use lt_face::walk::RowWalk;
 use lt_model::kind::Kind;
 use lt_model::reply::{Printed, Reply};
 use lt_values::cell_text;
@@ -188,18 +189,6 @@ fn put_show_line(
     }
 }
 
-// The least row of this width that is above a row: its last cell is one more.
-fn row_above(row: &Row) -> Row
-    requires some { 1 ≤ length row.now }
-    requires cells { AllByRecursion (λ c. c < 2 ^ 120) row.now }
-    ensures { (init : List ℕ) × (last : ℕ) × (row.now ≡ init ++ last ∷ []) × (result ≡ init ++ (last + 1) ∷ []) }
-{
-    let mut above = row.copy_row();
-    let last = above.pop().unwrap();
-    above.push(last + 1);
-    above
-}
-
 // The rows of a set, each on its line. They are read in place.
 fn put_set<R: RowReads>(out: &mut Vec<u8>, kinds: &[Kind], rows: &R) -> Result<(), AllocError>
     requires some { 1 ≤ length kinds.now }
@@ -207,11 +196,10 @@ fn put_set<R: RowReads>(out: &mut Vec<u8>, kinds: &[Kind], rows: &R) -> Result<(
     ensures { OnOk result (out.new.items ≡ out.old.items ++ rows_text kinds.now (R.rows rows.now)) }
 {
     let _width = rows.width();
-    let mut from = Row::from_cells(*out.allocator(), &[]);
-    'rows: for _place in 0..rows.len() {
-        let row = rows.row_at_least(&from).unwrap();
+    let mut walk = RowWalk::over(*out.allocator(), rows);
+    'rows: for _place in 0..walk.len() {
+        let row = walk.next_row().unwrap();
         put_row(out, kinds, row)?;
-        from = row_above(row);
     }
     Ok(())
 }

@@ -17,31 +17,31 @@ use lt_face::NoMemory;
 use lt_model::kind::KindList;
 use lt_model::name::Name;
 use lt_model::syntax::{Item, Program};
+use lt_versions::Versions;
 use std::alloc::Global;
-
-/// How many workers a batch may have. One does all jobs for now.
-const WORKERS: u32 = 4;
+use std::sync::Wait;
+use std::thread::Threads;
 
 /// The relations by name, the database, its versions by number, and the report. Version 0 has no relations.
 #[derive(Drop)]
 pub struct World {
     pub schema: Schema,
     pub database: Database,
-    pub versions: Vec<Database>,
+    pub versions: Versions,
     pub report: Vec<u8>,
 }
 
 // The database of now, or of a version that is there.
 fn database_at<'a>(
     now: &'a Database,
-    versions: &'a [Database],
+    versions: &'a Versions,
     at: Option<u64>,
 ) -> Option<&'a Database>
     ensures { option_copied result ≡ database_of now.now versions.now at }
 {
     match at {
         None => Some(now),
-        Some(version) => versions.get(version as usize),
+        Some(version) => versions.at(version),
     }
 }
 
@@ -52,8 +52,7 @@ impl World {
     pub fn new(alloc: Global) -> Result<World, NoMemory>
         ensures { IfOk result (λ world. Shows world opening) }
     {
-        let mut versions = Vec::new(alloc);
-        versions.push(Database::empty(alloc))?;
+        let versions = Versions::new(alloc)?;
         Ok(World {
             schema: Schema::new(alloc),
             database: Database::empty(alloc),
@@ -104,35 +103,46 @@ impl World {
         Ok(())
     }
 
+    /// The number that the next version has.
+    fn next_number(&self) -> u64
+        ensures { result ≡ length self.now.versions }
+    {
+        let (last, _) = self.versions.latest();
+        last + 1
+    }
+
     /// Makes this the database and its next version.
     fn keep(&mut self, database: &Database) -> Result<(), NoMemory>
         ensures database { OnOk result (self.new.database ≡ database.now) }
-        ensures versions { OnOk result (self.new.versions.items ≡ self.old.versions.items ++ database.now ∷ []) }
+        ensures versions { OnOk result (self.new.versions ≡ self.old.versions ++ database.now ∷ []) }
         ensures schema { OnOk result (self.new.schema ≡ self.old.schema) }
         ensures report { OnOk result (self.new.report ≡ self.old.report) }
     {
         let version = database.share()?;
-        self.versions.push(version)?;
+        self.versions.publish(version)?;
         self.database = database.share()?;
         Ok(())
     }
 
-    /// Runs a batch and makes its version. The programs without a code are the leaves of a repair circuit.
-    pub fn batch<G: Gate>(
+    /// Runs a batch by so many workers and makes its version. The programs without a code are the leaves of a repair circuit.
+    pub fn batch<R: Threads + Wait + Sync, G: Gate>(
         &mut self,
+        rt: &R,
         alloc: Global,
         programs: &[Program],
+        workers: u32,
         gate: &G,
     ) -> Result<(), NoMemory>
+        requires workers { (1 ≤ workers) × (workers ≤ 16) }
         requires world { IsWorld self.old }
         requires within { AllByRecursion IsProgramWithin programs.now }
         requires few { length programs.now ≤ 256 }
         ensures { OnOk result (Takes self.old (items.Batch programs.now) self.new) }
     {
-        let number = self.versions.len() as u64;
+        let number = self.next_number();
         let judgements = all_judged(alloc, programs, &self.schema)?;
         let good = good_ones(alloc, &judgements)?;
-        let outcome = run_batch(alloc, &self.database, &good, WORKERS, gate)?;
+        let outcome = run_batch(rt, alloc, &self.database, &good, workers, gate)?;
         put_report(
             &mut self.report,
             number,
@@ -145,14 +155,22 @@ impl World {
     }
 
     /// Takes the next item of a script.
-    pub fn take<G: Gate>(&mut self, alloc: Global, item: Item, gate: &G) -> Result<(), NoMemory>
+    pub fn take<R: Threads + Wait + Sync, G: Gate>(
+        &mut self,
+        rt: &R,
+        alloc: Global,
+        item: Item,
+        workers: u32,
+        gate: &G,
+    ) -> Result<(), NoMemory>
+        requires workers { (1 ≤ workers) × (workers ≤ 16) }
         requires world { IsWorld self.old }
         requires within { IsWithinLimits item }
         ensures { OnOk result (Takes self.old item self.new) }
     {
         match item {
             Item::Relation { name, kinds } => self.declare(name, kinds),
-            Item::Batch { programs } => self.batch(alloc, programs.as_slice(), gate),
+            Item::Batch { programs } => self.batch(rt, alloc, programs.as_slice(), workers, gate),
             Item::Show { name, at } => self.show(&name, at),
         }
     }

@@ -12,3 +12,5 @@ mod endings;
 mod items;
 #[cfg(test)]
 mod scripts;
+#[cfg(test)]
+mod words;

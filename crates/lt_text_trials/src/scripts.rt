@@ -1,23 +1,13 @@
 //! Scripts, bytes in and bytes out.
 use crate::agree::{same, same_at};
+use crate::words::words_of;
 use lt_edges::{MemSink, MemSource, OpenGate};
 use lt_session::repair_main;
-use std::alloc::{AllocError, Global};
+use std::alloc::Global;
 use std::process::Abort;
 use std::sync::Wait;
 use std::test::Fail;
 use std::thread::Threads;
-
-const USAGE: &str =
-    "usage: lt_shell run [--workers N] [--marks] | lt_shell bench --seed S --items I --programs P [--workers N]\n";
-
-fn words_of(alloc: Global, words: &[&str]) -> Result<Vec<String>, AllocError> {
-    let mut all = Vec::new(alloc);
-    for word in words {
-        all.push(String::from_str(alloc, word)?)?;
-    }
-    Ok(all)
-}
 
 // The status of `run` on a script, and what was written.
 fn outcome<R: Threads + Wait + Sync>(
@@ -232,26 +222,6 @@ fn reports_scripts(rt: HostRuntime) -> Result<(), Fail> {
     ];
     for (name, script, report, status) in rows {
         reports(&rt, alloc, name, script, report, status)?;
-    }
-    Ok(())
-}
-
-#[test]
-fn takes_run_alone(rt: HostRuntime) -> Result<(), Fail> {
-    let alloc = rt.alloc();
-    let rows: [(&str, &[&str]); 4] = [
-        ("no word", &["lt_shell"]),
-        ("part of a word", &["lt_shell", "ru"]),
-        ("another word", &["lt_shell", "bench"]),
-        ("two words", &["lt_shell", "run", "run"]),
-    ];
-    for (name, row) in rows {
-        let words = words_of(alloc, row)?;
-        let mut source = MemSource::new(alloc, b"", 1, &[])?;
-        let mut sink = MemSink::new(alloc, 1000, &[])?;
-        let status = repair_main(&rt, alloc, &words, &mut source, &mut sink, &OpenGate);
-        same_at(&rt, status, 1, name);
-        same_at(&rt, sink.bytes(), USAGE.as_bytes(), name);
     }
     Ok(())
 }

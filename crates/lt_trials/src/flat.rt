@@ -4,6 +4,7 @@ ghost use Rattle.std.specs.Prelude.{◌≡◌, [], ◌∷◌, IfOk};
 use crate::agree::{holds, same};
 use lt_face::{CELL_LIMIT, Items, Key, NoMemory, Row, RowReads, RowSet};
 use lt_flat::FlatRows;
+use lt_over::FlatOver;
 use std::alloc::Global;
 use std::process::Abort;
 
@@ -149,7 +150,9 @@ fn takes_edits(rt: HostRuntime) -> Result<(), NoMemory> {
         (Insert((1, 1)), true, &[(1, 1), (1, 9), (2, 6), (3, 1)]),
     ];
     takes::<FlatRows>(&rt, rt.alloc(), &edits)?;
-    takes_shared::<FlatRows>(&rt, rt.alloc(), &edits)
+    takes_shared::<FlatRows>(&rt, rt.alloc(), &edits)?;
+    takes::<FlatOver>(&rt, rt.alloc(), &edits)?;
+    takes_shared::<FlatOver>(&rt, rt.alloc(), &edits)
 }
 
 /// The rows (1, 7) and (2, 7).
@@ -161,24 +164,37 @@ fn two_rows(alloc: Global) -> Result<Vec<Row>, NoMemory>
 }
 
 /// The set of these rows.
-fn sorted(alloc: Global) -> Result<FlatRows, NoMemory> {
-    FlatRows::from_sorted(2, Items::from_vec(two_rows(alloc)?))
+fn sorted<S: RowSet>(alloc: Global) -> Result<S, NoMemory> {
+    let set = S::from_sorted(2, Items::from_vec(two_rows(alloc)?))?;
+    Ok(set)
+}
+
+/// Makes a set of two rows, and looks for them.
+fn begins<S: RowSet>(rt: &impl Abort, alloc: Global) -> Result<(), NoMemory> {
+    let set: S = sorted(alloc)?;
+    same(rt, set.width(), 2);
+    let rows = pairs(alloc, &set)?;
+    same(rt, rows.as_slice(), [(1, 7), (2, 7)].as_slice());
+    same(rt, pair_from(alloc, &set, (1, 8)), Some((2, 7)));
+    same(rt, pair_from(alloc, &set, (2, 8)), None);
+    Ok(())
 }
 
 #[test]
 fn begins_from_sorted_rows(rt: HostRuntime) -> Result<(), NoMemory> {
-    let set = sorted(rt.alloc())?;
-    same(&rt, set.width(), 2);
-    let rows = pairs(rt.alloc(), &set)?;
-    same(&rt, rows.as_slice(), [(1, 7), (2, 7)].as_slice());
-    same(&rt, pair_from(rt.alloc(), &set, (1, 8)), Some((2, 7)));
-    same(&rt, pair_from(rt.alloc(), &set, (2, 8)), None);
+    begins::<FlatRows>(&rt, rt.alloc())?;
+    begins::<FlatOver>(&rt, rt.alloc())
+}
+
+/// Makes a set of no rows.
+fn begins_bare<S: RowSet>(rt: &impl Abort, alloc: Global) -> Result<(), NoMemory> {
+    let nothing = S::from_sorted(3, Items::new(alloc))?;
+    same(rt, (nothing.width(), nothing.len()), (3, 0));
     Ok(())
 }
 
 #[test]
 fn begins_from_no_rows(rt: HostRuntime) -> Result<(), NoMemory> {
-    let nothing = FlatRows::from_sorted(3, Items::new(rt.alloc()))?;
-    same(&rt, (nothing.width(), nothing.len()), (3, 0));
-    Ok(())
+    begins_bare::<FlatRows>(&rt, rt.alloc())?;
+    begins_bare::<FlatOver>(&rt, rt.alloc())
 }

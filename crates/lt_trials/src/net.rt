@@ -2,9 +2,9 @@
 ghost use Rattle.std.specs.Prelude.{◌≡◌, IfOk};
 
 use crate::agree::{holds, same};
+use lt_circuit::board::{Board, nones};
+use lt_circuit::tree::{leaf_at, node_of, parent_of, right_of};
 use lt_face::NoMemory;
-use lt_net::board::{Board, nones};
-use lt_net::tree::{leaf_at, node_of, parent_of, right_of};
 use lt_net::{JobName, JobState};
 use std::alloc::Global;
 
@@ -69,13 +69,16 @@ fn two_leaves(alloc: Global) -> Result<Board, NoMemory>
 fn an_opening_waits_for_its_leaves(rt: HostRuntime) -> Result<(), NoMemory> {
     let board = two_leaves(rt.alloc())?;
     same(&rt, (board.leaves(), board.is_settled()), (2, false));
-    same(
-        &rt,
-        (board.first_pending(), board.in_flight()),
-        (Some(0), 0),
-    );
-    for (job, pending) in [(0, true), (1, false), (2, false), (3, true), (6, false)] {
-        same(&rt, (job, board.is_pending(job)), (job, pending));
+    holds(&rt, board.first_pending() == Some(JobName::Leaf(0)));
+    same(&rt, board.in_flight(), 0);
+    for (job, pending) in [
+        (JobName::Leaf(0), true),
+        (JobName::Merge(0), false),
+        (JobName::Correct(0), false),
+        (JobName::Leaf(1), true),
+        (JobName::Leaf(2), false),
+    ] {
+        holds(&rt, board.is_pending(job) == pending);
     }
     Ok(())
 }

@@ -96,7 +96,7 @@ fn a_gap_compares_its_prefix_in_its_own_order_of_columns(rt: HostRuntime) -> Res
 #[test]
 fn empty_gaps_are_left_out(rt: HostRuntime) -> Result<(), NoMemory> {
     let sense = ones_and_nines(rt.alloc())?;
-    same(&rt, (sense.gaps.len(), sense.hits.len()), (3, 2));
+    same(&rt, (sense.gap_count(), sense.hit_count()), (3, 2));
     Ok(())
 }
 

@@ -6,7 +6,7 @@ ghost use Rattle.lt_trie.specs.Under.{keys_under};
 ghost use Rattle.lt_trie.specs.Trie.{keys_of};
 
 use crate::land::land;
-use lt_face::{END, Gap, Key, KeyIter, Moves, Row, RowReads};
+use lt_face::{END, Gap, Key, KeyIter, Moves, Near, Row, RowReads};
 use std::alloc::Global;
 use std::marker::Model;
 
@@ -20,6 +20,7 @@ pub struct TrieIter<'a, R: RowReads> {
     prefix: Row,
     level: u32,
     key: Key,
+    near: Near,
 }
 
 impl<'a, R: RowReads> Model for TrieIter<'a, R> {
@@ -61,6 +62,7 @@ impl<'a, R: RowReads> TrieIter<'a, R> {
             prefix: Row::from_cells(alloc, &[]),
             level: 0,
             key: END,
+            near: Near::start(),
         }
     }
 
@@ -97,7 +99,7 @@ impl<'a, R: RowReads> TrieIter<'a, R> {
             self.prefix.push(self.key);
         }
         self.level += 1;
-        let gap = land(self.rows, &self.prefix, 0, moves);
+        let gap = land(self.rows, &mut self.near, &self.prefix, 0, moves);
         self.key = gap.hi;
         gap
     }
@@ -124,7 +126,7 @@ impl<'a, R: RowReads> TrieIter<'a, R> {
         ensures hi { result.hi ≡ self.new.here }
         ensures moves { moves.new ≡ moves.old + 1 }
     {
-        let gap = land(self.rows, &self.prefix, bound, moves);
+        let gap = land(self.rows, &mut self.near, &self.prefix, bound, moves);
         self.key = gap.hi;
         gap
     }
@@ -138,6 +140,7 @@ impl<'a, R: RowReads> TrieIter<'a, R> {
             prefix: self.prefix.copy_row(),
             level: self.level,
             key: self.key,
+            near: self.near,
         }
     }
 }

@@ -2,7 +2,7 @@
 ghost use Rattle.std.specs.Prelude.{◌≡◌};
 ghost use Rattle.lt_face.specs.Rows.{IsRowSet};
 
-use lt_face::{Row, RowReads};
+use lt_face::{Key, Near, Row, RowReads};
 use std::marker::Model;
 
 /// Rows of two cells.
@@ -51,5 +51,11 @@ impl RowReads for Scan {
 
     fn row_at_least(&self, from: &Row) -> Option<&Row> {
         self.rows.iter().find(|r| !(*r).cmp(from).is_lt())
+    }
+
+    fn row_near(&self, _near: &mut Near, prefix: &Row, bound: Key) -> Option<&Row> {
+        let mut from = prefix.copy_row();
+        from.push(bound);
+        self.row_at_least(&from)
     }
 }

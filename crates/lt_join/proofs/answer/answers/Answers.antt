@@ -2,7 +2,7 @@ use Rattle.std.proofs.Common.{◌≡◌, [], length, ap, arith, ◌∙◌, subst
 use Rattle.lt_model.specs.Answers.{ascending}
 use Rattle.lt_join.specs.Walked.{IsExploredBelow}
 use Rattle.lt_join.proofs.Steps.{IsReached-none, found_all, stays_false}
-use Rattle.lt_sense.specs.declared.sense.Sense.{Sense}
+use Rattle.lt_sense.specs.Kept.{Sense}
 use Rattle.lt_join.proofs.Prepared.{IsPrepared-from, has_columns}
 use Rattle.lt_join.proofs.answer.answers.Goals as goal
 

@@ -1,7 +1,7 @@
 use Rattle.std.proofs.Common.{rules, ◌≡◌, length, ap, arith, refl, ◌∙◌}
 use Rattle.lt_join.proofs.Steps.{IsReached-none}
 use Rattle.lt_join.proofs.Truth.{told}
-use Rattle.lt_sense.specs.declared.sense.Sense.{Sense}
+use Rattle.lt_sense.specs.Kept.{Sense}
 use Rattle.lt_join.proofs.Prepared.{IsPrepared-from, has_columns}
 use Rattle.lt_join.proofs.answer.some.Goals as goal
 

@@ -3,6 +3,7 @@ use Rattle.lt_query.specs.Plan.{levels_of}
 use Rattle.lt_leap.specs.Common.{has_key}
 use Rattle.lt_join.specs.Holders.{IsWalkable, AreOpened}
 use Rattle.lt_join.proofs.Opening.{zip_at, zip_long, take_more, take_all, get_is, all_get, holds_same, above_last, goes_down, opened_skip, opened_more}
+use Rattle.lt_join.proofs.Within.{opened_within, opened_more_within}
 use Rattle.lt_join.proofs.level.open_walks.Goals as goal
 use Rattle.lt_join.proofs.level.open_walks.Goals.{then-holds+in_ok-add_gap+in_ok-push, else-holds}
 
@@ -50,8 +51,34 @@ loop-i-preserved g c =
       | else-holds w ↦ rw (w.sense-is, w.moves-is, w.seats-is) (opened_skip c.args.plan.now _ c.args.keys.now _ guide c.args.sense.now c.loop-i.sense c.loop-i.seats.items c.args.moves.now c.loop-i.moves (same ∙ w.if-holds.false) c.loop-i.invariant)
     ])
 
-pub returns : goal.returns
-returns g c =
+pub returns-clause-opened : goal.returns-clause-opened
+returns-clause-opened g c =
     let n = zip_long _ _ _ c.requires.iters in
     subst (λ gs. AreOpened c.args.plan.now (g.I.Indexes.state c.args._tables.now) c.args.keys.now gs c.args.sense.now c.loop-i.sense c.loop-i.seats.items c.args.moves.now c.loop-i.moves)
     (take_all c.args.plan.now.guides c.loop-i.i (omega arith)) c.loop-i.invariant
+
+pub returns-clause-within : goal.returns-clause-within
+returns-clause-within g c = (opened_within _ c.args.plan.now (g.I.Indexes.state c.args._tables.now) c.args.keys.now c.args.plan.now.guides c.loop-i.i c.args.sense.now c.loop-i.sense c.loop-i.seats.items c.args.moves.now c.loop-i.moves c.loop-i.invariant).1
+
+pub returns-clause-moves : goal.returns-clause-moves
+returns-clause-moves g c = (opened_within _ c.args.plan.now (g.I.Indexes.state c.args._tables.now) c.args.keys.now c.args.plan.now.guides c.loop-i.i c.args.sense.now c.loop-i.sense c.loop-i.seats.items c.args.moves.now c.loop-i.moves c.loop-i.invariant).0
+
+pub returns-in_err-add_gap-clause-within : goal.returns-in_err-add_gap-clause-within
+returns-in_err-add_gap-clause-within g c =
+    let guide = c.index-guides-i.result in
+    let n = zip_long _ _ _ c.requires.iters in
+    let guide_is = rw c.as_slice-guides.ensures at c.index-guides-i.is in
+    let walkable = all_get IsWalkable _ c.loop-i.i guide c.requires.walkable (omega arith) guide_is in
+    let held : has_key (levels_of guide) (length c.args.keys.now) ≡ true = holds_same guide (length c.args.keys.now) walkable ∙ ap (has_key guide.places) (sym c.len-depth.ensures) ∙ sym c.holds.ensures ∙ c.if-holds.true in
+    let more = opened_more_within _ c.args.plan.now (g.I.Indexes.state c.args._tables.now) c.args.keys.now c.args.plan.now.guides c.loop-i.i guide c.args.sense.now c.loop-i.sense c.loop-i.seats.items c.args.moves.now c.loop-i.moves (omega arith) guide_is held c.loop-i.invariant in
+    omega (arith, more.1, c.open_level-gap.ensures.moves)
+
+pub returns-in_err-push-clause-within : goal.returns-in_err-push-clause-within
+returns-in_err-push-clause-within g c =
+    let guide = c.index-guides-i.result in
+    let n = zip_long _ _ _ c.requires.iters in
+    let guide_is = rw c.as_slice-guides.ensures at c.index-guides-i.is in
+    let walkable = all_get IsWalkable _ c.loop-i.i guide c.requires.walkable (omega arith) guide_is in
+    let held : has_key (levels_of guide) (length c.args.keys.now) ≡ true = holds_same guide (length c.args.keys.now) walkable ∙ ap (has_key guide.places) (sym c.len-depth.ensures) ∙ sym c.holds.ensures ∙ c.if-holds.true in
+    let more = opened_more_within _ c.args.plan.now (g.I.Indexes.state c.args._tables.now) c.args.keys.now c.args.plan.now.guides c.loop-i.i guide c.args.sense.now c.loop-i.sense c.loop-i.seats.items c.args.moves.now c.loop-i.moves (omega arith) guide_is held c.loop-i.invariant in
+    omega (arith, more.1, c.open_level-gap.ensures.moves)

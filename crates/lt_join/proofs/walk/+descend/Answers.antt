@@ -2,7 +2,7 @@ use Rattle.std.proofs.Common.{◌≡◌, ℕ, ◌+◌, ◌-◌, ◌<◌, ◌≤�
 use Rattle.lt_join.specs.Walked.{IsReached, IsExploredBelow, HitsAbove, at}
 use Rattle.lt_join.specs.Cost.{cost_from, LevelGains}
 use Rattle.lt_join.specs.Holders.{IsOpen, IsUsable, IsJoined, left_of, atoms_at}
-use Rattle.lt_join.proofs.Costs.{IsPaid-begun, IsPaid-more, cost-all, cost-stopped, IsCredited-begun, IsCredited-more, GainsFewer-below}
+use Rattle.lt_join.proofs.Costs.{IsPaid-begun, IsPaid-more, cost-all, cost-stopped, cost-opened, IsCredited-begun, IsCredited-more, GainsFewer-below}
 use Rattle.lt_join.proofs.Steps.{IsUnderWay-begun, IsUnderWay-more, IsExploredBelow-all, IsReached-child, leaf_with, leaf_without, length_push, slice_get_is, popped, witnesses_grow, FoundGrows-chain}
 use Rattle.lt_join.proofs.Usable.{walkable_all, usable_at, next_iters, hits_before}
 use Rattle.lt_join.proofs.walk.+descend.Goals as goal
@@ -30,6 +30,7 @@ loop-joined-init g t c = record {
   paid = IsPaid-begun c.args.plan.now (g.I.Indexes.state c.args.tables.now) c.args.keys.now c.index-as_slice-depth.result c.args.moves.now c.open_level.new.moves (left_of c.in_ok-joined.joined.leap) c.in_ok-joined.joined.key c.in_ok-joined.ensures.stands.cost;
   credited = IsCredited-begun (length (atoms_at c.args.plan.now.guides (length c.args.keys.now))) c.args.found.now.sense c.open_level.new.sense c.args.moves.now c.open_level.new.moves c.in_ok-joined.joined.key c.in_ok-joined.ensures.gains;
   unfound = λ h. refl;
+  rises = c.open_level.ensures.moves;
   is_open = c.in_ok-joined.ensures.stands.is_open;
 }
 
@@ -73,10 +74,11 @@ loop-joined-preserved g t c =
           inv.way (record { sense = c.in_ok-add_hits.ensures.grows; rows = λ row h. h }) c.in_ok-stopped.ensures.grows c.in_ok-stopped.ensures.right
           (subst (IsExploredBelow c.args.body.now c.args.plan.now c.args.terms.now c.descend.new.found) pushed (c.in_ok-stopped.ensures.explored c.if-stopped.false)) back next.stands;
       paid = IsPaid-more c.args.plan.now (g.I.Indexes.state c.args.tables.now) c.args.keys.now c.loop-joined.keys c.index-as_slice-depth.result c.args.moves.now c.loop-joined.moves (left_of c.loop-joined.joined.leap) c.loop-joined.joined.key c.descend.new.moves c.next_key.new.moves (left_of c.next_key.new.joined.leap) c.next_key.new.joined.key (omega arith) c.in_ok-next_key.ensures.rises inv.paid
-          (subst (λ ks. c.descend.new.moves ≤ c.loop-joined.moves + cost_from (g.I.Indexes.state c.args.tables.now) c.args.plan.now.guides (drop (length ks) c.args.plan.now.levels) (length ks) (at ks)) pushed c.in_ok-stopped.ensures.cost) next.cost;
+          (subst (λ ks. c.descend.new.moves ≤ c.loop-joined.moves + cost_from (g.I.Indexes.state c.args.tables.now) c.args.plan.now.guides (drop (length ks) c.args.plan.now.levels) (length ks) (at ks)) pushed c.descend.ensures.cost) next.cost;
       credited = IsCredited-more (length (atoms_at c.args.plan.now.guides (length c.args.keys.now))) c.args.found.now.sense c.loop-joined.found.sense c.add_hits.new.sense c.descend.new.found.sense c.next_key.new.sense c.args.moves.now c.loop-joined.moves c.descend.new.moves c.next_key.new.moves c.loop-joined.joined.key c.next_key.new.joined.key
           inv.credited (omega arith) c.in_ok-add_hits.ensures.gaps few c.in_ok-stopped.ensures.gains gains;
       unfound = λ h. c.in_ok-stopped.ensures.unfound h c.if-stopped.false ∙ inv.unfound h;
+      rises = omega (arith, inv.rises, c.descend.ensures.moves, c.next_key.ensures.moves);
       is_open = next.is_open;
     }
 
@@ -103,8 +105,60 @@ returns-then-stopped-clause-cost g t c =
     let deeper : length c.args.keys.now < length c.args.plan.now.levels = omega (arith, c.requires.reached.within) in
     let here : slice_get c.args.plan.now.levels (length c.args.keys.now) ≡ Some c.index-as_slice-depth.result =
     slice_get_is c.args.plan.now.levels (length c.args.keys.now) c.index-as_slice-depth.result deeper (rw (c.as_slice.ensures, c.len-depth.ensures) at c.index-as_slice-depth.is) in
-    cost-stopped c.args.plan.now (g.I.Indexes.state c.args.tables.now) c.args.keys.now c.index-as_slice-depth.result c.args.moves.now c.loop-joined.moves (left_of c.loop-joined.joined.leap) c.loop-joined.joined.key c.descend.new.moves here (omega arith) c.loop-joined.invariant.paid
-    (subst (λ ks. c.descend.new.moves ≤ c.loop-joined.moves + cost_from (g.I.Indexes.state c.args.tables.now) c.args.plan.now.guides (drop (length ks) c.args.plan.now.levels) (length ks) (at ks)) pushed c.in_ok-stopped.ensures.cost)
+    let below = subst (λ ks. c.descend.new.moves ≤ c.loop-joined.moves + cost_from (g.I.Indexes.state c.args.tables.now) c.args.plan.now.guides (drop (length ks) c.args.plan.now.levels) (length ks) (at ks)) pushed c.descend.ensures.cost in
+    cost-stopped c.args.plan.now (g.I.Indexes.state c.args.tables.now) c.args.keys.now c.index-as_slice-depth.result c.args.moves.now c.loop-joined.moves (left_of c.loop-joined.joined.leap) c.loop-joined.joined.key c.descend.new.moves here (omega arith) c.loop-joined.invariant.paid (omega (arith, below))
+
+pub returns-in_err-stopped-clause-cost : goal.returns-in_err-stopped-clause-cost
+returns-in_err-stopped-clause-cost g t c =
+    let pushed : c.push.new.self ≡ c.args.keys.now ++ c.loop-joined.joined.key ∷ [] = c.in_ok-push.ensures.ok ∙ ap (λ ks. ks ++ c.loop-joined.joined.key ∷ []) c.loop-joined.invariant.way.same in
+    let apart : length c.args.keys.now ≡ length c.args.plan.now.levels → ⊥ = λ e. c.if-depth-len.false (c.len-depth.ensures ∙ e ∙ sym c.len.ensures) in
+    let deeper : length c.args.keys.now < length c.args.plan.now.levels = omega (arith, c.requires.reached.within) in
+    let here : slice_get c.args.plan.now.levels (length c.args.keys.now) ≡ Some c.index-as_slice-depth.result =
+    slice_get_is c.args.plan.now.levels (length c.args.keys.now) c.index-as_slice-depth.result deeper (rw (c.as_slice.ensures, c.len-depth.ensures) at c.index-as_slice-depth.is) in
+    let below = subst (λ ks. c.descend.new.moves ≤ c.loop-joined.moves + cost_from (g.I.Indexes.state c.args.tables.now) c.args.plan.now.guides (drop (length ks) c.args.plan.now.levels) (length ks) (at ks)) pushed c.descend.ensures.cost in
+    cost-stopped c.args.plan.now (g.I.Indexes.state c.args.tables.now) c.args.keys.now c.index-as_slice-depth.result c.args.moves.now c.loop-joined.moves (left_of c.loop-joined.joined.leap) c.loop-joined.joined.key c.descend.new.moves here (omega arith) c.loop-joined.invariant.paid (omega (arith, below))
+
+pub returns-in_err-next_key-clause-cost : goal.returns-in_err-next_key-clause-cost
+returns-in_err-next_key-clause-cost g t c =
+    let pushed : c.push.new.self ≡ c.args.keys.now ++ c.loop-joined.joined.key ∷ [] = c.in_ok-push.ensures.ok ∙ ap (λ ks. ks ++ c.loop-joined.joined.key ∷ []) c.loop-joined.invariant.way.same in
+    let apart : length c.args.keys.now ≡ length c.args.plan.now.levels → ⊥ = λ e. c.if-depth-len.false (c.len-depth.ensures ∙ e ∙ sym c.len.ensures) in
+    let deeper : length c.args.keys.now < length c.args.plan.now.levels = omega (arith, c.requires.reached.within) in
+    let here : slice_get c.args.plan.now.levels (length c.args.keys.now) ≡ Some c.index-as_slice-depth.result =
+    slice_get_is c.args.plan.now.levels (length c.args.keys.now) c.index-as_slice-depth.result deeper (rw (c.as_slice.ensures, c.len-depth.ensures) at c.index-as_slice-depth.is) in
+    let below = subst (λ ks. c.descend.new.moves ≤ c.loop-joined.moves + cost_from (g.I.Indexes.state c.args.tables.now) c.args.plan.now.guides (drop (length ks) c.args.plan.now.levels) (length ks) (at ks)) pushed c.descend.ensures.cost in
+    cost-stopped c.args.plan.now (g.I.Indexes.state c.args.tables.now) c.args.keys.now c.index-as_slice-depth.result c.args.moves.now c.loop-joined.moves (left_of c.loop-joined.joined.leap) c.loop-joined.joined.key c.next_key.new.moves here (omega arith) c.loop-joined.invariant.paid (omega (arith, below, c.next_key.ensures.within))
+
+pub returns-in_err-next-clause-cost : goal.returns-in_err-next-clause-cost
+returns-in_err-next-clause-cost g t c =
+    let apart : length c.args.keys.now ≡ length c.args.plan.now.levels → ⊥ = λ e. c.if-depth-len.false (c.len-depth.ensures ∙ e ∙ sym c.len.ensures) in
+    let deeper : length c.args.keys.now < length c.args.plan.now.levels = omega (arith, c.requires.reached.within) in
+    let here : slice_get c.args.plan.now.levels (length c.args.keys.now) ≡ Some c.index-as_slice-depth.result =
+    slice_get_is c.args.plan.now.levels (length c.args.keys.now) c.index-as_slice-depth.result deeper (rw (c.as_slice.ensures, c.len-depth.ensures) at c.index-as_slice-depth.is) in
+    cost-all c.args.plan.now (g.I.Indexes.state c.args.tables.now) c.args.keys.now c.index-as_slice-depth.result c.args.moves.now c.loop-joined.moves (left_of c.loop-joined.joined.leap) c.loop-joined.joined.key here c.loop-joined.invariant.paid
+
+pub returns-in_err-push-clause-cost : goal.returns-in_err-push-clause-cost
+returns-in_err-push-clause-cost g t c =
+    let apart : length c.args.keys.now ≡ length c.args.plan.now.levels → ⊥ = λ e. c.if-depth-len.false (c.len-depth.ensures ∙ e ∙ sym c.len.ensures) in
+    let deeper : length c.args.keys.now < length c.args.plan.now.levels = omega (arith, c.requires.reached.within) in
+    let here : slice_get c.args.plan.now.levels (length c.args.keys.now) ≡ Some c.index-as_slice-depth.result =
+    slice_get_is c.args.plan.now.levels (length c.args.keys.now) c.index-as_slice-depth.result deeper (rw (c.as_slice.ensures, c.len-depth.ensures) at c.index-as_slice-depth.is) in
+    cost-all c.args.plan.now (g.I.Indexes.state c.args.tables.now) c.args.keys.now c.index-as_slice-depth.result c.args.moves.now c.loop-joined.moves (left_of c.loop-joined.joined.leap) c.loop-joined.joined.key here c.loop-joined.invariant.paid
+
+pub returns-in_err-add_hits-clause-cost : goal.returns-in_err-add_hits-clause-cost
+returns-in_err-add_hits-clause-cost g t c =
+    let apart : length c.args.keys.now ≡ length c.args.plan.now.levels → ⊥ = λ e. c.if-depth-len.false (c.len-depth.ensures ∙ e ∙ sym c.len.ensures) in
+    let deeper : length c.args.keys.now < length c.args.plan.now.levels = omega (arith, c.requires.reached.within) in
+    let here : slice_get c.args.plan.now.levels (length c.args.keys.now) ≡ Some c.index-as_slice-depth.result =
+    slice_get_is c.args.plan.now.levels (length c.args.keys.now) c.index-as_slice-depth.result deeper (rw (c.as_slice.ensures, c.len-depth.ensures) at c.index-as_slice-depth.is) in
+    cost-all c.args.plan.now (g.I.Indexes.state c.args.tables.now) c.args.keys.now c.index-as_slice-depth.result c.args.moves.now c.loop-joined.moves (left_of c.loop-joined.joined.leap) c.loop-joined.joined.key here c.loop-joined.invariant.paid
+
+pub returns-in_err-joined-clause-cost : goal.returns-in_err-joined-clause-cost
+returns-in_err-joined-clause-cost g t c =
+    let apart : length c.args.keys.now ≡ length c.args.plan.now.levels → ⊥ = λ e. c.if-depth-len.false (c.len-depth.ensures ∙ e ∙ sym c.len.ensures) in
+    let deeper : length c.args.keys.now < length c.args.plan.now.levels = omega (arith, c.requires.reached.within) in
+    let here : slice_get c.args.plan.now.levels (length c.args.keys.now) ≡ Some c.index-as_slice-depth.result =
+    slice_get_is c.args.plan.now.levels (length c.args.keys.now) c.index-as_slice-depth.result deeper (rw (c.as_slice.ensures, c.len-depth.ensures) at c.index-as_slice-depth.is) in
+    cost-opened c.args.plan.now (g.I.Indexes.state c.args.tables.now) c.args.keys.now c.index-as_slice-depth.result c.args.moves.now c.open_level.new.moves here c.open_level.ensures.within
 
 pub returns-then-stopped-clause-grows : goal.returns-then-stopped-clause-grows
 returns-then-stopped-clause-grows g t c =

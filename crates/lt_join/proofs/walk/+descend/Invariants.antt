@@ -1,4 +1,4 @@
-use Rattle.std.proofs.Common.{◌≡◌, ◌-◌, ◌^◌, length, true}
+use Rattle.std.proofs.Common.{◌≡◌, ◌-◌, ◌^◌, ◌≤◌, length, true}
 use Rattle.lt_join.specs.Holders.{IsOpen, left_of, atoms_at}
 use Rattle.lt_join.proofs.Steps.{IsUnderWay}
 use Rattle.lt_join.proofs.Costs.{IsPaid, IsCredited}
@@ -13,6 +13,7 @@ invariant-loop-joined g l = record {
   paid : IsPaid l.fn.plan (g.I.Indexes.state l.fn.tables) l.fn.keys l.level l.fn.moves l.moves (left_of l.joined.leap) l.joined.key;
   credited : IsCredited (length (atoms_at l.fn.plan.guides (length l.fn.keys))) l.fn.found.sense l.found.sense l.fn.moves l.moves l.joined.key;
   unfound : l.fn.first ≡ true → l.found.rows ≡ l.fn.found.rows;
+  rises : l.fn.moves ≤ l.moves;
   is_open : IsOpen l.fn.plan (g.I.Indexes.state l.fn.tables) l.fn.keys l.level l.joined.leap l.joined.key;
 }
 

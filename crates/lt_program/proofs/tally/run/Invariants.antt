@@ -9,6 +9,7 @@ invariant-statements g l = record {
   program : l.tally.program ≡ arc_value l.prog;
   base : l.tally.base ≡ l.base;
   moves : l.moves ≤ l.fn.moves + cost_of_first (length l.tally.parts) (arc_value l.prog) (state_of l.base);
+  rises : l.fn.moves ≤ l.moves;
 }
 
 abbrev pub decreases-statements : goal.decreases-statements

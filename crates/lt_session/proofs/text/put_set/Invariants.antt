@@ -1,10 +1,9 @@
-use Rattle.std.proofs.Common.{◌≡◌, ◌++◌, take, slice_get}
-use Rattle.lt_face.specs.Rows.{first_from}
+use Rattle.std.proofs.Common.{◌≡◌, ◌++◌, take, drop}
 use Rattle.lt_model.specs.Report.{rows_text}
 use Rattle.lt_session.proofs.text.put_set.Given as goal
 
 abbrev pub invariant-rows : goal.invariant-rows
 invariant-rows g l = record {
   put : l.out.items ≡ l.fn.out.items ++ rows_text l.kinds (take l._place (g.R.RowReads.rows l.rows));
-  left : first_from (g.R.RowReads.rows l.rows) l.from ≡ slice_get (g.R.RowReads.rows l.rows) l._place;
+  left : l.walk ≡ drop l._place (g.R.RowReads.rows l.rows);
 }

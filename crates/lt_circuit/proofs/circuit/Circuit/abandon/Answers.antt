@@ -1,44 +1,23 @@
 use Rattle.std.proofs.Common.{ap, sym, ◌∙◌, arith, None}
 use Rattle.lt_net.specs.Net.{State}
-use Rattle.lt_net.specs.Board.{state_of}
+use Rattle.lt_circuit.specs.Board.{state_of}
 use Rattle.lt_net.specs.Tree.{code_of}
 use Rattle.lt_circuit.specs.Job.{task_name}
 use Rattle.lt_circuit.proofs.Steps.{other_claim, claim_of_task, abandon_circuit, task_busy, is_inside, is_small, leaf_there, end_fits}
 use Rattle.lt_circuit.proofs.circuit.Circuit.abandon.Goals as goal
-
-pub code-code-requires : goal.code-code-requires
-code-code-requires g c =
-    let cl = rw (← c.self.view_is, ← c.job.view_is) at c.requires.claim in
-    let task = c.job.inside.task in
-    let k = is_small _ _ _ _ _ _ _ _ _ c.self.invariant (task_name task) (task_busy _ _ _ _ _ _ _ _ _ c.self.invariant c.args.worker task cl) in
-    omega (arith, k, ap code_of c.name.ensures)
 
 pub abandon-requires-clause-job : goal.abandon-requires-clause-job
 abandon-requires-clause-job g c =
     let cl = rw (← c.self.view_is, ← c.job.view_is) at c.requires.claim in
     let task = c.job.inside.task in
     let k = is_inside _ _ _ _ _ _ _ _ _ c.self.invariant (task_name task) (task_busy _ _ _ _ _ _ _ _ _ c.self.invariant c.args.worker task cl) in
-    omega (arith, k, c.code-code.ensures, ap code_of c.name.ensures)
+    omega (arith, k, ap code_of c.name-name.ensures)
 
 pub give_back-requires : goal.give_back-requires
 give_back-requires g c =
     let cl = rw (← c.self.view_is, ← c.job.view_is) at c.requires.claim in
     let task = c.job.inside.task in
     leaf_there _ _ _ _ _ _ _ _ _ c.self.invariant (task_name task) (task_busy _ _ _ _ _ _ _ _ _ c.self.invariant c.args.worker task cl)
-
-pub overflow_mul-code : goal.overflow_mul-code
-overflow_mul-code g c =
-    let cl = rw (← c.self.view_is, ← c.job.view_is) at c.requires.claim in
-    let task = c.job.inside.task in
-    let k = is_small _ _ _ _ _ _ _ _ _ c.self.invariant (task_name task) (task_busy _ _ _ _ _ _ _ _ _ c.self.invariant c.args.worker task cl) in
-    omega (arith, k, c.code-code.ensures, ap code_of c.name.ensures)
-
-pub overflow_add-code : goal.overflow_add-code
-overflow_add-code g c =
-    let cl = rw (← c.self.view_is, ← c.job.view_is) at c.requires.claim in
-    let task = c.job.inside.task in
-    let k = is_small _ _ _ _ _ _ _ _ _ c.self.invariant (task_name task) (task_busy _ _ _ _ _ _ _ _ _ c.self.invariant c.args.worker task cl) in
-    omega (arith, k, c.code-code.ensures, ap code_of c.name.ensures)
 
 pub push_reserved-requires : goal.push_reserved-requires
 push_reserved-requires g c =
@@ -50,16 +29,16 @@ invariant_of-self g c =
     let cl = rw (← c.self.view_is, ← c.job.view_is) at c.requires.claim in
     let w = rw (← c.self.view_is, ← c.job.view_is) at c.requires.work in
     let ok = rw w at c.job.invariant in
-    let code = c.code-code.ensures ∙ ap code_of c.name.ensures in
+    let code = ap code_of c.name-name.ensures in
     let st = c.abandon.ensures.state (claim_of_task c.job.inside.task) (sym code) in
-    rw (c.push_reserved.ensures.items, c.push_reserved.ensures.len, c.push_reserved.ensures.capacity, c.give_back.ensures, code)
+    rw (c.push_reserved.ensures.items, c.push_reserved.ensures.len, c.push_reserved.ensures.capacity, c.give_back.ensures, c.name-name.ensures)
     (abandon_circuit _ _ _ _ _ _ _ _ _ c.self.invariant c.args.worker c.job.inside.task c.abandon.new.self cl c.abandon.ensures.leaves st c.abandon.ensures.claims ok)
 
 pub returns-clause-state : goal.returns-clause-state
 returns-clause-state g c =
-    rw (← c.self.view_is, ← c.job.view_is) (c.abandon.ensures.state (claim_of_task c.job.inside.task) (sym (c.code-code.ensures ∙ ap code_of c.name.ensures)))
+    rw (← c.self.view_is, ← c.job.view_is) (c.abandon.ensures.state (claim_of_task c.job.inside.task) (sym (ap code_of c.name-name.ensures)))
 
 pub returns-clause-others : goal.returns-clause-others
 returns-clause-others g c =
-    rw (← c.self.view_is) (λ v ne. ap (λ (s : State). s.claim v) (c.abandon.ensures.state (claim_of_task c.job.inside.task) (sym (c.code-code.ensures ∙ ap code_of c.name.ensures)))
+    rw (← c.self.view_is) (λ v ne. ap (λ (s : State). s.claim v) (c.abandon.ensures.state (claim_of_task c.job.inside.task) (sym (ap code_of c.name-name.ensures)))
     ∙ other_claim (state_of c.self.inside.board).claim c.args.worker None v ne)

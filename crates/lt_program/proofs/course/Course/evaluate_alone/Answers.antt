@@ -1,4 +1,4 @@
-use Rattle.std.proofs.Common.{sym, subst}
+use Rattle.std.proofs.Common.{sym, subst, ◌∙◌}
 use Rattle.lt_base.specs.Tables.{state_of}
 use Rattle.lt_program.specs.Effect.{view}
 use Rattle.lt_program.specs.Tally.{IsLaid}
@@ -8,11 +8,11 @@ use Rattle.lt_program.proofs.course.Course.evaluate_alone.Goals as goal
 pub returns-clause-ok : goal.returns-clause-ok
 returns-clause-ok g c =
     grows_settled c.args.number c.args.stmt.now (state_of c.args.base.now) c.args.self.now c.accept.new.self c.settle.new.self _ c.settle.ensures
-    (grows_alone (state_of c.args.base.now) c.args.number c.args.stmt.now c.in_ok-step.step.part c.insensitive-part.result (view c.in_ok-step.step.effect) c.args.self.now c.accept.new.self
-    c.requires.reads c.in_ok-step.ensures.part c.in_ok-step.ensures.effect c.insensitive-part.ensures c.in_ok-accept.ensures.parts c.in_ok-accept.ensures.reply c.in_ok-accept.ensures.marks)
+    (grows_alone (state_of c.args.base.now) c.args.number c.args.stmt.now c.in_ok-step.step.part c.in_ok-part.part (view c.in_ok-step.step.effect) c.args.self.now c.accept.new.self
+    c.requires.reads c.in_ok-step.ensures.part c.in_ok-step.ensures.effect (c.in_ok-part.ensures ∙ c.insensitive.ensures) c.in_ok-accept.ensures.parts c.in_ok-accept.ensures.reply c.in_ok-accept.ensures.marks)
 
 pub returns-clause-cost : goal.returns-clause-cost
-returns-clause-cost g c = cost_alone (state_of c.args.base.now) c.args.self.now.marks c.args.stmt.now c.args.moves.now c.evaluated.new.moves c.requires.reads c.in_ok-step.ensures.cost
+returns-clause-cost g c = cost_alone (state_of c.args.base.now) c.args.self.now.marks c.args.stmt.now c.args.moves.now c.evaluated.new.moves c.requires.reads c.evaluated.ensures.cost
 
 pub returns-clause-laid : goal.returns-clause-laid
 returns-clause-laid g c =

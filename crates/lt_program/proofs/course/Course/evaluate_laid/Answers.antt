@@ -1,4 +1,5 @@
-use Rattle.std.proofs.Common.{Some, None, sym, ap, ◌∙◌, subst}
+use Rattle.lt_program.specs.declared.part.Part.{Part}
+use Rattle.std.proofs.Common.{[], ◌∷◌, ◌++◌, Some, None, sym, ap, ◌∙◌, subst}
 use Rattle.lt_base.specs.Tables.{state_of}
 use Rattle.lt_model.specs.Marks.{Marks}
 use Rattle.lt_query.specs.Needs.{body_of}
@@ -22,10 +23,10 @@ returns-clause-ok g c =
     grows_settled c.args.number c.args.stmt.now (state_of c.args.base.now) c.args.self.now c.accept.new.self c.settle.new.self _ c.settle.ensures
     (grows_taken c.args.number c.args.stmt.now (state_of c.args.base.now) c.args.self.now c.take_laid.new.self c.accept.new.self None c.in_ok-laid.ensures.rest
     (grows_on c.args.base.now c.args.self.now.marks c.in_ok-laid.laid c.in_ok-laid.ensures.laid c.args.number c.args.stmt.now c.in_ok-step.step.part (view c.in_ok-step.step.effect) c.take_laid.new.self c.accept.new.self
-    (ap (λ (x : Course). x.marks) c.in_ok-laid.ensures.rest) c.in_ok-step.ensures.part c.in_ok-step.ensures.effect c.in_ok-accept.ensures.parts c.in_ok-accept.ensures.reply c.in_ok-accept.ensures.marks))
+    (ap (λ (x : Course). x.marks) c.in_ok-laid.ensures.rest) c.in_ok-step.ensures.part c.in_ok-step.ensures.effect (c.in_ok-accept.ensures.parts ∙ ap (λ (p : Part). c.take_laid.new.self.parts ++ p ∷ []) c.in_ok-part.ensures) c.in_ok-accept.ensures.reply c.in_ok-accept.ensures.marks))
 
 pub returns-clause-cost : goal.returns-clause-cost
-returns-clause-cost g c = cost_on c.args.base.now c.args.self.now.marks c.in_ok-laid.laid c.in_ok-laid.ensures.laid c.args.stmt.now c.args.moves.now c.evaluated.new.moves c.in_ok-step.ensures.cost
+returns-clause-cost g c = cost_on c.args.base.now c.args.self.now.marks c.in_ok-laid.laid c.in_ok-laid.ensures.laid c.args.stmt.now c.args.moves.now c.evaluated.new.moves c.evaluated.ensures.cost
 
 pub returns-clause-laid : goal.returns-clause-laid
 returns-clause-laid g c =

@@ -22,4 +22,4 @@ returns-clause-one g c =
 pub returns-clause-moves : goal.returns-clause-moves
 returns-clause-moves g c =
     let there = next_is (arc_value c.self.inside.prog) c.as_slice.result.now c.self.inside.base c.self.inside.course c.args.self.now c.len-number.result c.index-as_slice-number.result c.self.view_is c.self.invariant c.requires.going (c.as_slice.ensures ∙ c.deref.ensures) c.len-number.ensures c.index-as_slice-number.is in
-    cost_told (arc_value c.self.inside.prog) c.self.inside.base c.self.inside.course c.args.self.now c.index-as_slice-number.result c.args.moves.now c.evaluate.new.moves c.self.view_is c.self.invariant there c.in_ok-evaluate.ensures.cost
+    cost_told (arc_value c.self.inside.prog) c.self.inside.base c.self.inside.course c.args.self.now c.index-as_slice-number.result c.args.moves.now c.evaluate.new.moves c.self.view_is c.self.invariant there c.evaluate.ensures.cost

@@ -1,4 +1,4 @@
-use Rattle.std.proofs.Common.{◌≡◌, ◌≤◌, ◌+◌, ◌++◌, ℕ, List, [], ◌∷◌, length, map, refl, sym, ap, subst, ◌∙◌, arith}
+use Rattle.std.proofs.Common.{◌≡◌, ◌≤◌, ◌+◌, ◌++◌, ℕ, List, length, map, sym, ap, subst, ◌∙◌, arith}
 use Rattle.std.specs.Prelude.{filter_map}
 use Rattle.std.specs.Arc.{arc_value}
 use Rattle.std.specs.List.{AllByRecursion}
@@ -10,9 +10,9 @@ use Rattle.lt_model.specs.declared.syntax.Program.{Program}
 use Rattle.lt_model.specs.Check.{Checked, checked}
 use Rattle.lt_model.specs.Fits.{Fits}
 use Rattle.lt_model.specs.Schema.{Schema}
-use Rattle.lt_model.specs.Report.{Text, good_of, batch_text, version_text}
+use Rattle.lt_model.specs.Report.{good_of, batch_text, version_text}
 use Rattle.lt_check.specs.States.{IsStateOf}
-use Rattle.lt_base.specs.Tables.{Table, state_of}
+use Rattle.lt_base.specs.Tables.{state_of}
 use Rattle.lt_session.specs.Batches.{checked_of, told}
 use Rattle.lt_session.specs.declared.batch.Judgement.{Judgement}
 use Rattle.lt_session.specs.declared.world.World.{World}
@@ -61,8 +61,8 @@ returns g c = λ m s.
     let cs : List Checked = map checked_of c.in_ok-judgements.judgements.items in
     let good : map arc_value c.deref-2.result.now ≡ filter_map good_of cs =
     ap (λ ps. map arc_value ps) c.deref-2.ensures.value ∙ c.in_ok-good.ensures ∙ ap (λ js. filter_map good_of (map checked_of js)) c.deref.ensures.value in
-    let n : ℕ = c.len-number.result in
-    let counted : n ≡ length m.versions + 1 = omega (arith, c.len-number.ensures, count m w.versions.items s.versions, w.versions.ok.0) in
+    let n : ℕ = c.next_number-number.result in
+    let counted : n ≡ length m.versions + 1 = omega (arith, c.next_number-number.ensures, count m w.versions s.versions) in
     let text : v.report.items ≡ ((w.report.items ++ batch_text n) ++ told c.args.programs.now cs c.in_ok-outcome.outcome.replies) ++ version_text n =
     ap (λ r. r.items) c.in_ok-keep.ensures.report ∙ c.in_ok-put_report.ensures
     ∙ ap (λ js. ((w.report.items ++ batch_text n) ++ told c.args.programs.now (map checked_of js) c.as_slice.result.now) ++ version_text n) c.deref-3.ensures.value

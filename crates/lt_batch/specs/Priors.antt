@@ -1,0 +1,29 @@
+-- What a leaf's prior tally is for.
+use Rattle.std.specs.Prelude.{◌≡◌, ℕ, true, List, Option, Some, None}
+use Rattle.lt_face.specs.State.{Row, State, AgreeOn}
+use Rattle.lt_model.specs.declared.normal.Stmt.{Stmt}
+use Rattle.lt_model.specs.Laws.{mark_on}
+use Rattle.lt_model.specs.Marks.{Marks}
+use Rattle.lt_base.specs.Tables.{state_of}
+use Rattle.lt_program.specs.Tally.{TallyView, ends_at, has_ended}
+use Rattle.lt_restate.specs.declared.touch.Touch.{Touch}
+use Rattle.lt_restate.specs.Touches.{AreTouches, cost_again}
+use Rattle.lt_batch.specs.declared.leaf.LeafTally.{LeafTally}
+use Rattle.lt_batch.specs.Batch.{program_at}
+use Rattle.lt_batch.specs.Work.{BatchView, corrected}
+
+-- a whole run of the program, whose base agrees with this state wherever its correction says what this one does
+pub record IsPriorOf (prog : List Stmt) (next : State) (on : Marks) (old : LeafTally) : Type 0 where
+  pub program : old.run.program ≡ prog
+  pub ended : has_ended old.run ≡ true
+  pub agree : (relation : ℕ) (row : Row) → mark_on old.correction relation row ≡ mark_on on relation row → AgreeOn (state_of old.run.base) next relation row
+
+-- what the touches of a restatement say of the two tallies
+abbrev pub IsRestated : TallyView → TallyView → Type 0
+IsRestated old new = (touches : List Touch) × AreTouches old new touches
+
+-- the moves that the leaf takes at most: where it has a prior tally, those of the statements that a changed row touches and of
+-- those that the prior didn't reach
+abbrev pub leaf_bound : BatchView → Option LeafTally → ℕ → Marks → Option ℕ
+leaf_bound work None i on = None
+leaf_bound work (Some old) i on = Some (cost_again old.run (corrected work on) (ends_at (program_at work.programs i) (corrected work on)))

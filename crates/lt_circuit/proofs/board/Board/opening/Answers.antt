@@ -1,0 +1,22 @@
+use Rattle.std.proofs.Common.{◌≡◌, ◌∙◌, ◌*◌, ◌-◌, ap, List, Option, None, length}
+use Rattle.std.specs.Prelude.{max}
+use Rattle.lt_model.specs.declared.mark.Mark.{Mark}
+use Rattle.lt_circuit.specs.declared.cells.Held.{Held}
+use Rattle.lt_circuit.specs.Board.{bare_node, first_state, table, board_state}
+use Rattle.lt_circuit.proofs.Opening.{opening_is, length-table}
+use Rattle.lt_circuit.proofs.board.Board.opening.Goals as goal
+
+pub invariant_of-result : goal.invariant_of-result
+invariant_of-result c = record {
+  small = c.requires;
+  nodes_there = ap length c.in_ok-nodes.ensures ∙ length-table (λ k. bare_node) c.at_least_one.result ∙ c.at_least_one.ensures ∙ ap (λ n. max n 1) c.nodes_over-count.ensures;
+  states_there = ap length c.in_ok-states.ensures ∙ length-table (first_state c.args.leaves) (3 * c.nodes_over-count.result) ∙ ap (λ n. 3 * n) c.nodes_over-count.ensures;
+  done_there = ap length c.in_ok-done.ensures ∙ length-table {X = Option (List Mark)} (λ k. None) c.args.leaves;
+  claims_there = ap length c.in_ok-claims.ensures ∙ length-table {X = Option Held} (λ k. None) 16;
+}
+
+pub returns-clause-state : goal.returns-clause-state
+returns-clause-state c = λ effect.
+    let states : c.in_ok-states.states.items ≡ table (first_state c.args.leaves) (3 * (2 * c.args.leaves - 1)) = c.in_ok-states.ensures ∙ ap (λ n. table (first_state c.args.leaves) (3 * n)) c.nodes_over-count.ensures in
+    (λ i. board_state (c.in_ok-nodes.ensures i) (states i) (c.in_ok-done.ensures i) c.in_ok-claims.claims.items)
+    ∙ opening_is effect c.args.leaves c.at_least_one.result c.in_ok-claims.claims.items c.in_ok-claims.ensures

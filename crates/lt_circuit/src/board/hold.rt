@@ -1,0 +1,46 @@
+//! Claims, and those that are given up.
+#![tactic(auto)]
+
+ghost use Rattle.std.specs.Prelude.{◌≡◌, ℕ, ◌+◌, ◌*◌, ◌-◌, ◌<◌, List, Some, None, slice_set};
+ghost use Rattle.lt_model.specs.declared.mark.Mark.{Mark as MarkType};
+ghost use Rattle.lt_net.specs.Net.{Claim, read, claimed, abandoned};
+ghost use Rattle.lt_net.specs.Tree.{circuit_net, code_of, tree_of};
+ghost use Rattle.lt_circuit.specs.declared.cells.Held.{Held as HeldType};
+ghost use Rattle.lt_circuit.specs.Board.{inputs_list, state_of};
+
+use super::Board;
+use crate::cells::{Held, Inputs};
+use lt_delta::Marks;
+use lt_net::{JobName, JobState};
+
+impl Board {
+    /// The worker holds the job, on inputs that stand now.
+    pub fn hold(&mut self, worker: u32, job: JobName, inputs: Inputs, prior: Option<Marks>)
+        requires worker { worker < 16 }
+        requires job { code_of job < 3 * (2 * self.old.leaves - 1) }
+        requires inputs { (effect : ℕ → List MarkType → List MarkType) →
+            inputs_list inputs ≡ read (state_of self.old).value ((circuit_net effect (tree_of self.old.leaves)).inputs (code_of job)) }
+        requires prior { prior ≡ (state_of self.old).done (code_of job) }
+        ensures leaves { self.new.leaves ≡ self.old.leaves }
+        ensures claims { (held : HeldType) × (self.new.claims ≡ slice_set self.old.claims worker (Some held)) }
+        ensures state { (effect : ℕ → List MarkType → List MarkType) →
+            state_of self.new ≡ claimed (circuit_net effect (tree_of self.old.leaves)) (state_of self.old) worker (code_of job) }
+    {
+        let _leaves = self.leaves;
+        self.states[job.code() as usize] = JobState::Running;
+        self.claims[worker as usize] = Some(Held { job, inputs, prior });
+    }
+
+    /// The worker gives its job up: the job is Pending again.
+    pub fn abandon(&mut self, worker: u32, job: JobName)
+        requires worker { worker < 16 }
+        requires job { code_of job < 3 * (2 * self.old.leaves - 1) }
+        ensures leaves { self.new.leaves ≡ self.old.leaves }
+        ensures claims { self.new.claims ≡ slice_set self.old.claims worker None }
+        ensures state { (claim : Claim) → claim.job ≡ code_of job → state_of self.new ≡ abandoned (state_of self.old) worker claim }
+    {
+        let _leaves = self.leaves;
+        self.states[job.code() as usize] = JobState::Pending;
+        self.claims[worker as usize] = None;
+    }
+}

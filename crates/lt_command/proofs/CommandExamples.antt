@@ -1,0 +1,78 @@
+-- Command lines, by the commands' definition.
+use Rattle.std.proofs.Common.{◌≡◌, refl, List, [], ◌∷◌, Option, Some, None, codes}
+use Rattle.clap.specs.Words.{Text}
+use Rattle.clap.proofs.OnLiterals.{clap_on_literals}
+use Rattle.lt_command.specs.Command.{command}
+use Rattle.lt_command.specs.declared.words.Command as declared
+use Rattle.lt_command.specs.declared.words.Command.TheVariants.{Run}
+
+abbrev asked : List Text → Option declared.Command
+asked words = command (codes "lt_shell" ∷ words)
+
+four_where_no_number : asked (codes "run" ∷ []) ≡ Some (Run 4)
+unfolding command clap_on_literals
+four_where_no_number = refl
+
+one : asked (codes "run" ∷ codes "--workers" ∷ codes "1" ∷ []) ≡ Some (Run 1)
+unfolding command clap_on_literals
+one = refl
+
+sixteen : asked (codes "run" ∷ codes "--workers=16" ∷ []) ≡ Some (Run 16)
+unfolding command clap_on_literals
+sixteen = refl
+
+leading_zero : asked (codes "run" ∷ codes "--workers" ∷ codes "04" ∷ []) ≡ Some (Run 4)
+unfolding command clap_on_literals
+leading_zero = refl
+
+plus : asked (codes "run" ∷ codes "--workers" ∷ codes "+4" ∷ []) ≡ Some (Run 4)
+unfolding command clap_on_literals
+plus = refl
+
+none_at_all : asked (codes "run" ∷ codes "--workers" ∷ codes "0" ∷ []) ≡ None
+unfolding command clap_on_literals
+none_at_all = refl
+
+seventeen : asked (codes "run" ∷ codes "--workers" ∷ codes "17" ∷ []) ≡ None
+unfolding command clap_on_literals
+seventeen = refl
+
+twice : asked (codes "run" ∷ codes "--workers" ∷ codes "4" ∷ codes "--workers" ∷ codes "4" ∷ []) ≡ None
+unfolding command clap_on_literals
+twice = refl
+
+empty : asked (codes "run" ∷ codes "--workers=" ∷ []) ≡ None
+unfolding command clap_on_literals
+empty = refl
+
+shortened : asked (codes "run" ∷ codes "--work" ∷ codes "4" ∷ []) ≡ None
+unfolding command clap_on_literals
+shortened = refl
+
+help_of_run : asked (codes "run" ∷ codes "--help" ∷ []) ≡ None
+unfolding command clap_on_literals
+help_of_run = refl
+
+help : asked (codes "help" ∷ []) ≡ None
+unfolding command clap_on_literals
+help = refl
+
+end_of_options : asked (codes "run" ∷ codes "--" ∷ []) ≡ Some (Run 4)
+unfolding command clap_on_literals
+end_of_options = refl
+
+unknown : asked (codes "walk" ∷ []) ≡ None
+unfolding command clap_on_literals
+unknown = refl
+
+one_word_more : asked (codes "run" ∷ codes "now" ∷ []) ≡ None
+unfolding command clap_on_literals
+one_word_more = refl
+
+no_command : asked [] ≡ None
+unfolding command clap_on_literals
+no_command = refl
+
+no_word : command [] ≡ None
+unfolding command clap_on_literals
+no_word = refl

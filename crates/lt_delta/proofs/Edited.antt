@@ -1,0 +1,71 @@
+-- The rows that the marks of a relation put in and take out.
+use Rattle.std.proofs.Common.{◌≡◌, ◌≢◌, ℕ, zero, suc, ◌+◌, Bool, true, false, not, ◌&&◌, List, [], ◌∷◌, ◌++◌, take, Some, refl, sym, ap, ◌∙◌, arith}
+use Rattle.std.specs.Prelude.{◌==◌, if◌then◌else◌}
+use Rattle.std.specs.List.{slice_get}
+use Rattle.std.proofs.lemmas.Bool.{eq-eqb, ne_eqb}
+use Rattle.lt_face.specs.State.{Row}
+use Rattle.lt_model.specs.declared.mark.Mark.{Mark}
+use Rattle.lt_model.specs.Marks.{Marks}
+use Rattle.lt_delta.specs.Laying.{same_sign, marked}
+
+-- the mark's row, where it is of the relation and of this sign
+abbrev pub one_marked : ℕ → Bool → Mark → List Row
+one_marked relation plus m = if m.relation == relation && same_sign m.plus plus then m.row ∷ [] else []
+
+first : (relation : ℕ) (plus : Bool) (m : Mark) (marks : Marks) → marked relation plus (m ∷ marks) ≡ one_marked relation plus m ++ marked relation plus marks
+first relation plus m marks = elim (m.relation == relation && same_sign m.plus plus) as (λ b. (if b then m.row ∷ marked relation plus marks else marked relation plus marks) ≡ (if b then m.row ∷ [] else []) ++ marked relation plus marks) [ true ↦ refl | false ↦ refl ]
+
+grouped : (a b c : List Row) → (a ++ b) ++ c ≡ a ++ (b ++ c)
+grouped [] b c = refl
+grouped (x ∷ a) b c = ap (λ (l : List Row). x ∷ l) (grouped a b c)
+
+alone : (a : List Row) → a ++ [] ≡ a
+alone [] = refl
+alone (x ∷ a) = ap (λ (l : List Row). x ∷ l) (alone a)
+
+marked_more : (relation : ℕ) (plus : Bool) (marks : Marks) (i : ℕ) (m : Mark) → slice_get marks i ≡ Some m → marked relation plus (take (i + 1) marks) ≡ marked relation plus (take i marks) ++ one_marked relation plus m
+marked_more relation plus [] i m at = absurd cc
+marked_more relation plus (n ∷ marks) zero m at =
+    let e : n ≡ m = cc in
+    first relation plus n [] ∙ alone (one_marked relation plus n) ∙ ap (one_marked relation plus) e
+marked_more relation plus (n ∷ marks) (suc i) m at =
+    let e : suc i + 1 ≡ suc (i + 1) = omega arith in
+    ap (λ k. marked relation plus (take k (n ∷ marks))) e
+    ∙ first relation plus n (take (i + 1) marks)
+    ∙ ap (λ (l : List Row). one_marked relation plus n ++ l) (marked_more relation plus marks i m at)
+    ∙ sym (grouped (one_marked relation plus n) (marked relation plus (take i marks)) (one_marked relation plus m))
+    ∙ ap (λ (l : List Row). l ++ one_marked relation plus m) (sym (first relation plus n (take i marks)))
+
+-- a mark of the relation and of this sign is added
+pub is_marked : (relation : ℕ) (plus : Bool) (marks : Marks) (i : ℕ) (m : Mark) (done new : List Row) (row : Row) → slice_get marks i ≡ Some m → done ≡ marked relation plus (take i marks)
+    → m.relation ≡ relation → m.plus ≡ plus → row ≡ m.row → new ≡ done ++ row ∷ [] → new ≡ marked relation plus (take (i + 1) marks)
+is_marked relation plus marks i m done new row at before same sign copy is =
+    let b : (m.relation == relation && same_sign m.plus plus) ≡ true = ap (λ x. x && same_sign m.plus plus) (eq-eqb m.relation relation same) ∙ ap (λ x. same_sign x plus) sign ∙ itself plus in
+    is ∙ ap (λ (l : List Row). l ++ row ∷ []) before ∙ ap (λ (r : Row). marked relation plus (take i marks) ++ r ∷ []) copy
+    ∙ ap (λ x. marked relation plus (take i marks) ++ (if x then m.row ∷ [] else [])) (sym b)
+    ∙ sym (marked_more relation plus marks i m at)
+  where
+    itself : (p : Bool) → same_sign p p ≡ true
+    itself true = refl
+    itself false = refl
+
+-- one of the other sign isn't
+pub not_signed : (relation : ℕ) (plus : Bool) (marks : Marks) (i : ℕ) (m : Mark) (done : List Row) → slice_get marks i ≡ Some m → done ≡ marked relation plus (take i marks) → m.plus ≡ not plus → done ≡ marked relation plus (take (i + 1) marks)
+not_signed relation plus marks i m done at before sign =
+    let b : (m.relation == relation && same_sign m.plus plus) ≡ false = ap (λ x. (m.relation == relation) && same_sign x plus) sign ∙ off (m.relation == relation) plus in
+    before ∙ sym (alone (marked relation plus (take i marks)))
+    ∙ ap (λ x. marked relation plus (take i marks) ++ (if x then m.row ∷ [] else [])) (sym b)
+    ∙ sym (marked_more relation plus marks i m at)
+  where
+    off : (x p : Bool) → (x && same_sign (not p) p) ≡ false
+    off true true = refl
+    off true false = refl
+    off false p = refl
+
+-- and none of another relation
+pub not_of : (relation : ℕ) (plus : Bool) (marks : Marks) (i : ℕ) (m : Mark) (done : List Row) → slice_get marks i ≡ Some m → done ≡ marked relation plus (take i marks) → m.relation ≢ relation → done ≡ marked relation plus (take (i + 1) marks)
+not_of relation plus marks i m done at before differs =
+    let b : (m.relation == relation && same_sign m.plus plus) ≡ false = ap (λ x. x && same_sign m.plus plus) (ne_eqb m.relation relation differs) in
+    before ∙ sym (alone (marked relation plus (take i marks)))
+    ∙ ap (λ x. marked relation plus (take i marks) ++ (if x then m.row ∷ [] else [])) (sym b)
+    ∙ sym (marked_more relation plus marks i m at)

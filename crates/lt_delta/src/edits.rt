@@ -1,0 +1,40 @@
+//! What marks do to the rows of one relation.
+ghost use Rattle.std.specs.Prelude.{◌≡◌, true, false, IfOk};
+ghost use Rattle.lt_model.specs.Marks.{AreMarks};
+ghost use Rattle.lt_delta.specs.Laying.{marked};
+
+use crate::marks::Marks;
+use lt_face::items::{Items, RowList};
+use lt_face::memory::NoMemory;
+use std::alloc::Global;
+
+/// The rows of a relation that go, and those that come, each ascending.
+#[derive(Drop)]
+pub struct Edits {
+    pub gone: RowList,
+    pub come: RowList,
+}
+
+impl Marks {
+    /// The rows of a relation that the marks take out, and those that they put in.
+    pub fn edits(&self, alloc: Global, relation: u32) -> Result<Edits, NoMemory>
+        ensures gone { IfOk result (λ edits. edits.gone ≡ marked relation false self.now) }
+        ensures come { IfOk result (λ edits. edits.come ≡ marked relation true self.now) }
+        ensures ascending { AreMarks self.now }
+    {
+        let mut gone = Items::new(alloc);
+        let mut come = Items::new(alloc);
+        for i in 0..self.len() {
+            let mark = self.mark(i);
+            if mark.relation == relation {
+                let row = mark.row.copy_row();
+                if mark.plus {
+                    come.push(row)?;
+                } else {
+                    gone.push(row)?;
+                }
+            }
+        }
+        Ok(Edits { gone, come })
+    }
+}

@@ -1,0 +1,109 @@
+-- How many rows there are, where rows are laid over others.
+use Rattle.std.proofs.Common.{◌≡◌, ℕ, zero, suc, ◌+◌, ◌<◌, ◌≤◌, Bool, true, false, cond, not, ◌&&◌, ◌||◌, List, [], ◌∷◌, length, take, get_or, refl, sym, ap, ◌∙◌, arith}
+use Rattle.std.specs.Prelude.{filter}
+use Rattle.lt_face.specs.Rows.{IsAscending, has_row}
+use Rattle.lt_face.specs.State.{Row}
+use Rattle.lt_face.proofs.RowLemmas.{ascending-filter}
+use Rattle.lt_model.proofs.Composition.{rows_same}
+use Rattle.lt_over.specs.Overlaid.{overlaid, stays}
+use Rattle.lt_over.proofs.Overlays.{has-filter, has-overlaid, ascending-overlaid}
+
+-- ---- a count, row by row
+
+pub le_all : (p : Row → Bool) (rows : List Row) → length (filter p rows) ≤ length rows
+le_all p [] = omega arith
+le_all p (x ∷ rows) = elim (p x) as (λ b. length (cond b (x ∷ filter p rows) (filter p rows)) ≤ length (x ∷ rows)) [ true ↦ omega (arith, le_all p rows) | false ↦ omega (arith, le_all p rows) ]
+
+front : (p : Row → Bool) (x : Row) (xs ys : List Row) (n : ℕ) → length (filter p ys) ≡ length (filter p xs) + n → length (filter p (x ∷ ys)) ≡ length (filter p (x ∷ xs)) + n
+front p x xs ys n h = elim (p x) as (λ b. length (cond b (x ∷ filter p ys) (filter p ys)) ≡ length (cond b (x ∷ filter p xs) (filter p xs)) + n) [ true ↦ omega (arith, h) | false ↦ h ]
+
+counted : (p : Row → Bool) (rows : List Row) (i : ℕ) (row : Row) (n : ℕ) → i < length rows → row ≡ get_or rows i row → length (filter p (row ∷ [])) ≡ n → length (filter p (take (i + 1) rows)) ≡ length (filter p (take i rows)) + n
+counted p [] i row n lt is one = absurd (omega arith)
+counted p (x ∷ rows) zero row n lt is one =
+    let e : length (filter p (x ∷ [])) ≡ n = ap (λ (r : Row). length (filter p (r ∷ []))) (sym is) ∙ one in
+    e ∙ omega arith
+counted p (x ∷ rows) (suc i) row n lt is one =
+    let e : suc i + 1 ≡ suc (i + 1) = omega arith in
+    ap (λ k. length (filter p (take k (x ∷ rows)))) e ∙ front p x (take i rows) (take (i + 1) rows) n (counted p rows i row n (omega arith) is one)
+
+one_of : (p : Row → Bool) (row : Row) → p row ≡ true → length (filter p (row ∷ [])) ≡ 1
+one_of p row h = ap (λ b. length (cond b (row ∷ []) [])) h
+
+none_of : (p : Row → Bool) (row : Row) → p row ≡ false → length (filter p (row ∷ [])) ≡ 0
+none_of p row h = ap (λ b. length (cond b (row ∷ []) [])) h
+
+pub counts : (p : Row → Bool) (rows : List Row) (i count : ℕ) (row : Row) → i < length rows → row ≡ get_or rows i row → count ≡ length (filter p (take i rows)) → p row ≡ true → count + 1 ≡ length (filter p (take (i + 1) rows))
+counts p rows i count row lt is so_far h = ap (λ n. n + 1) so_far ∙ sym (counted p rows i row 1 lt is (one_of p row h))
+
+pub passes_over : (p : Row → Bool) (rows : List Row) (i count : ℕ) (row : Row) → i < length rows → row ≡ get_or rows i row → count ≡ length (filter p (take i rows)) → p row ≡ false → count ≡ length (filter p (take (i + 1) rows))
+passes_over p rows i count row lt is so_far h =
+    let e : length (filter p (take (i + 1) rows)) ≡ length (filter p (take i rows)) + 0 = counted p rows i row 0 lt is (none_of p row h) in
+    omega (arith, so_far, e)
+
+-- ---- the rows of a set, and of those laid over it
+
+split : (p : Row → Bool) (rows : List Row) → length rows ≡ length (filter p rows) + length (filter (λ r. not (p r)) rows)
+split p [] = refl
+split p (x ∷ rows) =
+    elim (p x) as (λ b. length (x ∷ rows) ≡ length (cond b (x ∷ filter p rows) (filter p rows)) + length (cond (not b) (x ∷ filter (λ r. not (p r)) rows) (filter (λ r. not (p r)) rows))) [
+      | true ↦ omega (arith, split p rows)
+      | false ↦ omega (arith, split p rows)
+    ]
+
+new_only : (p b m : Bool) → ((p || (b && not m)) && not b) ≡ (p && not b)
+new_only true b m = refl
+new_only false true true = refl
+new_only false true false = refl
+new_only false false m = refl
+
+old_only : (p b m : Bool) → ((p || (b && not m)) && b) ≡ (b && (p || not m))
+old_only true true m = refl
+old_only true false m = refl
+old_only false true true = refl
+old_only false true false = refl
+old_only false false m = refl
+
+gone_only : (p b m : Bool) → (b && not (p || not m)) ≡ (m && (b && not p))
+gone_only true true true = refl
+gone_only true true false = refl
+gone_only true false true = refl
+gone_only true false false = refl
+gone_only false true true = refl
+gone_only false true false = refl
+gone_only false false true = refl
+gone_only false false false = refl
+
+module _ (base minus plus : List Row) (up : IsAscending base) (up_minus : IsAscending minus) (up_plus : IsAscending plus) where
+  abbrev pub all : List Row
+  all = overlaid base minus plus
+
+  abbrev pub lacked : Row → Bool
+  lacked r = not (has_row base r)
+
+  abbrev pub remains : Row → Bool
+  remains r = has_row plus r || not (has_row minus r)
+
+  come : filter lacked all ≡ filter lacked plus
+  come =
+      rows_same (filter lacked all) (filter lacked plus) (ascending-filter lacked all (ascending-overlaid base minus plus up)) (ascending-filter lacked plus up_plus)
+      (λ q. has-filter lacked all q ∙ ap (λ b. b && lacked q) (has-overlaid base minus plus q) ∙ new_only (has_row plus q) (has_row base q) (has_row minus q) ∙ sym (has-filter lacked plus q))
+
+  stay : filter (has_row base) all ≡ filter remains base
+  stay =
+      rows_same (filter (has_row base) all) (filter remains base) (ascending-filter (has_row base) all (ascending-overlaid base minus plus up)) (ascending-filter remains base up)
+      (λ q. has-filter (has_row base) all q ∙ ap (λ b. b && has_row base q) (has-overlaid base minus plus q) ∙ old_only (has_row plus q) (has_row base q) (has_row minus q) ∙ sym (has-filter remains base q))
+
+  gone : filter (λ r. not (remains r)) base ≡ filter (stays base plus) minus
+  gone =
+      rows_same (filter (λ r. not (remains r)) base) (filter (stays base plus) minus) (ascending-filter (λ r. not (remains r)) base up) (ascending-filter (stays base plus) minus up_minus)
+      (λ q. has-filter (λ r. not (remains r)) base q ∙ gone_only (has_row plus q) (has_row base q) (has_row minus q) ∙ sym (has-filter (stays base plus) minus q))
+
+  -- the rows that were there and those that came, against those that are there and those that went
+  pub overlaid_count : length base + length (filter lacked plus) ≡ length (overlaid base minus plus) + length (filter (stays base plus) minus)
+  overlaid_count =
+      let a : length all ≡ length (filter (has_row base) all) + length (filter lacked all) = split (has_row base) all in
+      let b : length base ≡ length (filter remains base) + length (filter (λ r. not (remains r)) base) = split remains base in
+      let c : length (filter lacked all) ≡ length (filter lacked plus) = ap length come in
+      let d : length (filter (has_row base) all) ≡ length (filter remains base) = ap length stay in
+      let e : length (filter (λ r. not (remains r)) base) ≡ length (filter (stays base plus) minus) = ap length gone in
+      omega (arith, a, b, c, d, e)

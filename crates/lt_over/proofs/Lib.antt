@@ -1,0 +1,4 @@
+pub mod Counts
+pub mod Edited
+pub mod Firsts
+pub mod Overlays

@@ -1,0 +1,144 @@
+//! `FlatOver`: a sorted vector of rows with edits laid over it.
+ghost use Rattle.std.specs.Prelude.{◌≡◌, IfOk, OnOk, OnErr};
+ghost use Rattle.lt_face.specs.Rows.{IsRow, IsRowSet, with_row, without_row};
+ghost use Rattle.lt_over.specs.Overlaid.{overlaid};
+
+use crate::listing::listed;
+use crate::over::Over;
+use lt_face::{Key, Near, NoMemory, Row, RowList, RowReads, RowSet};
+use lt_flat::FlatRows;
+use std::alloc::Global;
+use std::marker::Model;
+
+/// So many edits may lie over a sorted vector, or an eighth of its length.
+const FEW: usize = 256;
+
+/// A sorted vector of rows with two layers of edits over it: those of a state that is kept, which stay there until they are
+/// many, and over them those of the states that are made from it.
+#[derive(Drop)]
+pub struct FlatOver {
+    set: Over<Over<FlatRows>>,
+}
+
+impl Model for FlatOver {
+    ghost use Rattle.lt_face.specs.State.{Relation};
+
+    ghost Value = { Relation };
+
+    ghost view = { λ s. s.set };
+}
+
+/// Whether so many edits are many over so many rows.
+fn is_long(edits: usize, rows: usize) -> bool {
+    edits > FEW && edits > rows / 8
+}
+
+impl FlatOver {
+    /// The same rows, with nothing in the upper layer of edits. Where the lower one is long for the vector below it, the
+    /// vector is made anew and has them.
+    pub fn folded(&self, alloc: Global) -> Result<FlatOver, NoMemory>
+        ensures { IfOk result (λ set. set ≡ self.now) }
+    {
+        let lower = self.set.lowered()?;
+        if is_long(lower.edits(), lower.base_len()) {
+            let width = lower.width();
+            let rows = listed(alloc, &lower)?;
+            let set = Over::from_sorted(width, rows)?;
+            return Ok(FlatOver { set });
+        }
+        let set = Over::on(alloc, lower)?;
+        Ok(FlatOver { set })
+    }
+
+    /// Whether there are edits in the upper layer.
+    pub fn is_edited(&self) -> bool {
+        self.set.edits() > 0
+    }
+
+    /// Puts a row in, without a look at the base. Want of memory leaves the set as it was.
+    pub fn put(&mut self, row: Row) -> Result<(), NoMemory>
+        requires { IsRow self.old.width row }
+        ensures ok { OnOk result (self.new.rows ≡ with_row self.old.rows row) }
+        ensures err { OnErr result (self.new.rows ≡ self.old.rows) }
+        ensures width { self.new.width ≡ self.old.width }
+    {
+        self.set.put(row)?;
+        Ok(())
+    }
+
+    /// Takes a row out, without a look at the base. Want of memory leaves the rows as they were.
+    pub fn take(&mut self, row: &Row) -> Result<(), NoMemory>
+        requires { IsRow self.old.width row.now }
+        ensures ok { OnOk result (self.new.rows ≡ without_row self.old.rows row.now) }
+        ensures err { OnErr result (self.new.rows ≡ self.old.rows) }
+        ensures width { self.new.width ≡ self.old.width }
+    {
+        self.set.take(row)?;
+        Ok(())
+    }
+
+    /// The set without some rows, and then with others, each list ascending: one pass over the rows that are laid over the
+    /// base, which isn't looked at.
+    pub fn laid(&self, gone: RowList, come: RowList) -> Result<FlatOver, NoMemory>
+        requires gone { IsRowSet self.now.width gone }
+        requires come { IsRowSet self.now.width come }
+        ensures rows { IfOk result (λ set. set.rows ≡ overlaid self.now.rows gone come) }
+        ensures width { IfOk result (λ set. set.width ≡ self.now.width) }
+    {
+        let set = self.set.laid(gone, come)?;
+        Ok(FlatOver { set })
+    }
+}
+
+impl RowReads for FlatOver {
+    ghost rows = { λ s. s.rows };
+
+    ghost width_of = { λ s. s.width };
+
+    fn width(&self) -> usize {
+        self.set.width()
+    }
+
+    fn len(&self) -> usize {
+        self.set.len()
+    }
+
+    fn has(&self, row: &Row) -> bool {
+        self.set.has(row)
+    }
+
+    fn row_at_least(&self, from: &Row) -> Option<&Row> {
+        self.set.row_at_least(from)
+    }
+
+    fn row_near(&self, near: &mut Near, prefix: &Row, bound: Key) -> Option<&Row> {
+        self.set.row_near(near, prefix, bound)
+    }
+}
+
+impl RowSet for FlatOver {
+    fn empty(alloc: Global, width: usize) -> Result<FlatOver, NoMemory> {
+        let set = Over::empty(alloc, width)?;
+        Ok(FlatOver { set })
+    }
+
+    fn from_sorted(width: usize, rows: RowList) -> Result<FlatOver, NoMemory> {
+        let set = Over::from_sorted(width, rows)?;
+        Ok(FlatOver { set })
+    }
+
+    fn insert(&mut self, row: Row) -> Result<bool, NoMemory> {
+        let new = self.set.insert(row)?;
+        Ok(new)
+    }
+
+    fn remove(&mut self, row: &Row) -> Result<bool, NoMemory> {
+        let there = self.set.remove(row)?;
+        Ok(there)
+    }
+
+    fn share(&self) -> Result<FlatOver, NoMemory> {
+        let set = self.set.share()?;
+        Ok(FlatOver { set })
+    }
+}

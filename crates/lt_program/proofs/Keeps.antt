@@ -1,0 +1,96 @@
+-- What a tally keeps of another, and what it tells of its statements.
+use Rattle.std.proofs.Common.{◌≡◌, ℕ, suc, ◌+◌, ◌<◌, ◌≤◌, false, List, [], ◌∷◌, ◌++◌, length, Some, get_or, refl, sym, ap, ◌∙◌, subst, arith}
+use Rattle.std.specs.Prelude.{slice_get}
+use Rattle.std.proofs.lemmas.Option.{slice_get-get_or}
+use Rattle.lt_face.specs.Rows.{IsAscending, has_row}
+use Rattle.lt_face.specs.State.{Row, State, rows_in}
+use Rattle.lt_model.specs.declared.normal.Stmt.{Stmt}
+use Rattle.lt_model.specs.Fits.{FitMarks}
+use Rattle.lt_model.specs.Marks.{Marks, laid}
+use Rattle.lt_base.specs.Tables.{Table, state_of}
+use Rattle.lt_sense.specs.Sense.{AgreeWhereCovered}
+use Rattle.lt_program.specs.declared.course.Course.{Course}
+use Rattle.lt_program.specs.declared.part.Part.{Part}
+use Rattle.lt_program.specs.Kept.{first_rows, second_rows, marks_past}
+use Rattle.lt_program.specs.Sound.{tally_of, IsSound}
+use Rattle.lt_program.specs.Tally.{TallyView, IsPartOn, IsRun, run_of_first, state_before}
+use Rattle.lt_program.proofs.Recalls.{first_ascends, second_ascends, marks_recalled}
+use Rattle.lt_program.proofs.Sounds.{sound_fits, statement_fits}
+use Rattle.lt_program.proofs.Stays.{part_stays}
+use Rattle.lt_program.proofs.TallyGrows.{first_fits}
+use Rattle.lt_program.proofs.Widths.{narrow}
+
+-- the element at a place of a list that is written twice
+pub got : {X : Type 0} (xs ys : List X) (n : ℕ) (x : X) → ys ≡ xs → n < length xs → x ≡ get_or ys n x → slice_get xs n ≡ Some x
+got xs ys n x same lt is = slice_get-get_or xs n x lt ∙ ap Some (sym (is ∙ ap (λ l. get_or l n x) same))
+
+some_is : {X : Type 0} (x y : X) → Some x ≡ Some y → x ≡ y
+some_is x y e = cc
+
+-- the states before statement n agree wherever its old sense covers a row
+abbrev pub Agree : TallyView → TallyView → Type 0
+Agree old t = (part : Part) → slice_get old.parts (length t.parts) ≡ Some part → AgreeWhereCovered part.sense (state_before (length t.parts) old.program (state_of old.base)) (state_before (length t.parts) t.program (state_of t.base))
+
+module _ (program : List Stmt) (base : List Table) (course : Course) (t : TallyView) (is : tally_of program base course ≡ t) (sound : IsSound program base course) where
+  -- the old part of the next statement is its part here
+  pub kept_part : (old : TallyView) (n : ℕ) (stmt : Stmt) (part : Part) (xs : List Part) → IsRun old → old.program ≡ t.program → length t.parts < length old.parts → Agree old t → xs ≡ old.parts → n ≡ length course.parts → part ≡ get_or xs n part
+      → slice_get program (length course.parts) ≡ Some stmt → IsPartOn stmt (laid (state_of base) course.marks) part
+  kept_part old n stmt part xs run same lt agree list number there at =
+      let m = length course.parts in
+      let agreed : Agree old (tally_of program base course) = subst (Agree old) (sym is) agree in
+      let below : length course.parts < length old.parts = subst (λ (v : TallyView). length v.parts < length old.parts) (sym is) lt in
+      let found : slice_get old.parts (length course.parts) ≡ Some part = got old.parts xs (length course.parts) part list below (there ∙ ap (λ k. get_or xs k part) number) in
+      let program_is : old.program ≡ program = same ∙ sym (ap (λ (v : TallyView). v.program) is) in
+      let stmt_at : slice_get old.program (length course.parts) ≡ Some stmt = ap (λ (p : List Stmt). slice_get p (length course.parts)) program_is ∙ at in
+      let moved = part_stays (state_of base) (state_before (length course.parts) old.program (state_of old.base)) (state_before (length course.parts) program (state_of base)) stmt part
+      (statement_fits (state_of base) program (length course.parts) stmt at sound.fits) (agreed part found) (run.parts (length course.parts) stmt part stmt_at found) in
+      subst (λ (m : Marks). IsPartOn stmt (laid (state_of base) m) part) (sym sound.run.marks) moved
+
+  pub kept_same : (old : TallyView) (n : ℕ) (part : Part) (xs new : List Part) → length t.parts < length old.parts → xs ≡ old.parts → n ≡ length course.parts → part ≡ get_or xs n part → new ≡ course.parts ++ part ∷ []
+      → (p : Part) → slice_get old.parts (length t.parts) ≡ Some p → new ≡ t.parts ++ p ∷ []
+  kept_same old n part xs new lt list number there grown p at =
+      let long : length course.parts ≡ length t.parts = ap (λ (v : TallyView). length v.parts) is in
+      let found : slice_get old.parts (length t.parts) ≡ Some part = got old.parts xs (length t.parts) part list lt (there ∙ ap (λ k. get_or xs k part) (number ∙ long)) in
+      let one : part ≡ p = some_is part p (sym found ∙ at) in
+      grown ∙ ap (λ (l : List Part). l ++ part ∷ []) (ap (λ (v : TallyView). v.parts) is) ∙ ap (λ (q : Part). t.parts ++ q ∷ []) one
+
+  pub has_here : (relation : ℕ) (row : Row) → has_row (rows_in (laid (state_of base) course.marks) relation) row ≡ has_row (rows_in (state_before (length t.parts) t.program (state_of t.base)) relation) row
+  has_here relation row =
+      ap (λ (m : Marks). has_row (rows_in (laid (state_of base) m) relation) row) sound.run.marks
+      ∙ ap (λ (v : TallyView). has_row (rows_in (state_before (length v.parts) v.program (state_of v.base)) relation) row) is
+
+  module _ (n : ℕ) (stmts : List Stmt) (stmt : Stmt) (parts : List Part) (part : Part) (below : n < length t.parts) (stmts_are : stmts ≡ program) (stmt_is : stmt ≡ get_or stmts n stmt) (parts_are : parts ≡ course.parts) (part_is : part ≡ get_or parts n part) where
+    short : n < length course.parts
+    short = subst (λ (v : TallyView). n < length v.parts) (sym is) below
+
+    stmt_at : slice_get program n ≡ Some stmt
+    stmt_at = got program stmts n stmt stmts_are (omega (arith, short, sound.run.evaluated)) stmt_is
+
+    part_at : slice_get course.parts n ≡ Some part
+    part_at = got course.parts parts n part parts_are short part_is
+
+    is_part : IsPartOn stmt (state_before n program (state_of base)) part
+    is_part = sound.run.parts n stmt part stmt_at part_at
+
+    pub first_at : (q : Part) → q ≡ part → IsAscending (first_rows q.outcome)
+    first_at q e = subst (λ (p : Part). IsAscending (first_rows p.outcome)) (sym e) (first_ascends stmt (state_before n program (state_of base)) part is_part)
+
+    pub second_at : (q : Part) → q ≡ part → IsAscending (second_rows q.outcome)
+    second_at q e = subst (λ (p : Part). IsAscending (second_rows p.outcome)) (sym e) (second_ascends stmt (state_before n program (state_of base)) part is_part)
+
+    after : (q : Part) (before marks : Marks) → q ≡ part → before ≡ (run_of_first n t.program (state_of t.base)).1 → marks ≡ marks_past stmt q.outcome before → marks ≡ (run_of_first (n + 1) program (state_of base)).1
+    after q before marks e is_before made =
+        let here : before ≡ (run_of_first n program (state_of base)).1 = is_before ∙ ap (λ (v : TallyView). (run_of_first n v.program (state_of v.base)).1) (sym is) in
+        let next_is : suc n ≡ n + 1 = omega arith in
+        made ∙ ap (λ (p : Part). marks_past stmt p.outcome before) e ∙ ap (marks_past stmt part.outcome) here
+        ∙ sym (marks_recalled (tally_of program base course) sound.run n stmt part stmt_at part_at short)
+        ∙ ap (λ k. (run_of_first k program (state_of base)).1) next_is
+
+    pub after_is : (q : Part) (before marks : Marks) → q ≡ part → before ≡ (run_of_first n t.program (state_of t.base)).1 → marks ≡ marks_past stmt q.outcome before → marks ≡ (run_of_first (n + 1) t.program (state_of t.base)).1
+    after_is q before marks e is_before made = after q before marks e is_before made ∙ ap (λ (v : TallyView). (run_of_first (n + 1) v.program (state_of v.base)).1) is
+
+    pub after_fits : (q : Part) (before marks : Marks) → q ≡ part → before ≡ (run_of_first n t.program (state_of t.base)).1 → marks ≡ marks_past stmt q.outcome before → FitMarks (state_of t.base) marks
+    after_fits q before marks e is_before made =
+        let within : n + 1 ≤ length program = omega (arith, short, sound.run.evaluated) in
+        let fit : FitMarks (state_of base) marks = subst (FitMarks (state_of base)) (sym (after q before marks e is_before made)) (first_fits (n + 1) program (state_of base) within sound.is_state (narrow (state_of base) sound.wide) sound.fits).0 in
+        subst (λ (v : TallyView). FitMarks (state_of v.base) marks) is fit

@@ -1,0 +1,45 @@
+-- A part of a statement stays its part where no covered row differs.
+use Rattle.std.proofs.Common.{◌≡◌, ap, ◌∙◌}
+use Rattle.lt_face.specs.State.{State}
+use Rattle.lt_model.specs.declared.normal.Stmt.{Stmt}
+use Rattle.lt_model.specs.declared.normal.Stmt.TheVariants.{Insert, Delete, Replace, Need, Print}
+use Rattle.lt_model.specs.Answers.{answers}
+use Rattle.lt_model.specs.Fits.{FitsStatement}
+use Rattle.lt_sense.specs.Sense.{AgreeWhereCovered}
+use Rattle.lt_join.proofs.Kept.{some_answer_kept}
+use Rattle.lt_join.proofs.Repair.{answers_same, Certifies-moved, IsTight-moved}
+use Rattle.lt_program.specs.declared.part.Outcome.{Outcome}
+use Rattle.lt_program.specs.declared.part.Outcome.TheVariants.{Rows, Both, Truth}
+use Rattle.lt_program.specs.declared.part.Part.{Part}
+use Rattle.lt_program.specs.Tally.{IsPartOn}
+
+pub part_stays : (base s t : State) (stmt : Stmt) (part : Part) → FitsStatement base stmt → AgreeWhereCovered part.sense s t → IsPartOn stmt s part → IsPartOn stmt t part
+part_stays base s t (Insert head body) part fits agree is = record {
+  outcome = is.outcome ∙ ap Rows (answers_same part.sense head.terms body s t agree is.vouches);
+  vouches = Certifies-moved part.sense s t agree body is.vouches;
+  tight = IsTight-moved part.sense s t agree is.tight;
+}
+part_stays base s t (Delete head body) part fits agree is = record {
+  outcome = is.outcome ∙ ap Rows (answers_same part.sense head.terms body s t agree is.vouches);
+  vouches = Certifies-moved part.sense s t agree body is.vouches;
+  tight = IsTight-moved part.sense s t agree is.tight;
+}
+part_stays base s t (Replace gone come body) part fits agree is = record {
+  outcome = is.outcome
+      ∙ ap (λ rows. Both rows (answers come.terms body s)) (answers_same part.sense gone.terms body s t agree is.vouches)
+      ∙ ap (Both (answers gone.terms body t)) (answers_same part.sense come.terms body s t agree is.vouches);
+  vouches = Certifies-moved part.sense s t agree body is.vouches;
+  tight = IsTight-moved part.sense s t agree is.tight;
+}
+part_stays base s t (Need some body) part fits agree is =
+    let kept = some_answer_kept part.sense body s t fits.is_bound agree is.vouches in
+    record {
+      outcome = is.outcome ∙ ap Truth kept.0;
+      vouches = kept.1;
+      tight = IsTight-moved part.sense s t agree is.tight;
+    }
+part_stays base s t (Print terms kinds body) part fits agree is = record {
+  outcome = is.outcome ∙ ap Rows (answers_same part.sense terms body s t agree is.vouches);
+  vouches = Certifies-moved part.sense s t agree body is.vouches;
+  tight = IsTight-moved part.sense s t agree is.tight;
+}

@@ -1,0 +1,217 @@
+//! What a statement does, by its outcome alone.
+ghost use Rattle.std.specs.Prelude.{◌≡◌, IfOk};
+ghost use Rattle.lt_face.specs.Rows.{IsAscending};
+ghost use Rattle.lt_program.specs.Effect.{view};
+ghost use Rattle.lt_program.specs.Kept.{first_rows, second_rows, truth_in, marks_on as marks_on_rows, written_by as writes, refused_by as refuses, marks_past as marks_after, effect_by as does};
+
+use crate::effect::{Effect, marked};
+use crate::part::Outcome;
+use crate::plain::copied;
+use lt_delta::Marks;
+use lt_face::items::{Items, RowList};
+use lt_face::memory::NoMemory;
+use lt_model::kind::KindList;
+use lt_model::normal::Stmt;
+use std::alloc::Global;
+
+/// A mark for each answer of the one head, or of the one whose rows go.
+fn marked_first(
+    alloc: Global,
+    relation: u32,
+    plus: bool,
+    outcome: &Outcome,
+) -> Result<Marks, NoMemory>
+    requires { IsAscending (first_rows outcome.now) }
+    ensures { IfOk result (λ marks. marks ≡ marks_on_rows relation plus (first_rows outcome.now)) }
+{
+    match outcome {
+        Outcome::Rows(rows) => {
+            let marks = marked(alloc, relation, plus, rows)?;
+            Ok(marks)
+        }
+        Outcome::Both(gone, _) => {
+            let marks = marked(alloc, relation, plus, gone)?;
+            Ok(marks)
+        }
+        Outcome::Truth(_) => {
+            let none = Marks::empty(alloc)?;
+            Ok(none)
+        }
+    }
+}
+
+/// A mark for each answer of the head whose rows come.
+fn marked_second(
+    alloc: Global,
+    relation: u32,
+    plus: bool,
+    outcome: &Outcome,
+) -> Result<Marks, NoMemory>
+    requires { IsAscending (second_rows outcome.now) }
+    ensures { IfOk result (λ marks. marks ≡ marks_on_rows relation plus (second_rows outcome.now)) }
+{
+    match outcome {
+        Outcome::Rows(_) => {
+            let none = Marks::empty(alloc)?;
+            Ok(none)
+        }
+        Outcome::Both(_, come) => {
+            let marks = marked(alloc, relation, plus, come)?;
+            Ok(marks)
+        }
+        Outcome::Truth(_) => {
+            let none = Marks::empty(alloc)?;
+            Ok(none)
+        }
+    }
+}
+
+/// The answers of a `print`.
+fn shown(alloc: Global, outcome: &Outcome) -> Result<RowList, NoMemory>
+    ensures { IfOk result (λ rows. rows ≡ first_rows outcome.now) }
+{
+    match outcome {
+        Outcome::Rows(rows) => {
+            let rows = copied(alloc, rows.as_slice())?;
+            Ok(rows)
+        }
+        Outcome::Both(gone, _) => {
+            let rows = copied(alloc, gone.as_slice())?;
+            Ok(rows)
+        }
+        Outcome::Truth(_) => Ok(Items::new(alloc)),
+    }
+}
+
+/// Whether the conditions of a `require` can be met.
+fn is_met(outcome: &Outcome) -> bool
+    ensures { result ≡ truth_in outcome.now }
+{
+    match outcome {
+        Outcome::Rows(_) => false,
+        Outcome::Both(_, _) => false,
+        Outcome::Truth(truth) => *truth,
+    }
+}
+
+/// The marks that the statement writes.
+fn written_by(alloc: Global, stmt: &Stmt, outcome: &Outcome) -> Result<Marks, NoMemory>
+    requires first { IsAscending (first_rows outcome.now) }
+    requires second { IsAscending (second_rows outcome.now) }
+    ensures { IfOk result (λ marks. marks ≡ writes stmt.now outcome.now) }
+{
+    match stmt {
+        Stmt::Insert { head, body: _ } => {
+            let marks = marked_first(alloc, head.relation, true, outcome)?;
+            Ok(marks)
+        }
+        Stmt::Delete { head, body: _ } => {
+            let marks = marked_first(alloc, head.relation, false, outcome)?;
+            Ok(marks)
+        }
+        Stmt::Replace {
+            gone,
+            come,
+            body: _,
+        } => {
+            let minus = marked_first(alloc, gone.relation, false, outcome)?;
+            let plus = marked_second(alloc, come.relation, true, outcome)?;
+            let marks = Marks::and_then(&minus, &plus)?;
+            Ok(marks)
+        }
+        Stmt::Need { some: _, body: _ } => {
+            let none = Marks::empty(alloc)?;
+            Ok(none)
+        }
+        Stmt::Print {
+            terms: _,
+            kinds: _,
+            body: _,
+        } => {
+            let none = Marks::empty(alloc)?;
+            Ok(none)
+        }
+    }
+}
+
+/// Whether the statement is a requirement that isn't met.
+fn refused_by(stmt: &Stmt, outcome: &Outcome) -> bool
+    ensures { result ≡ refuses stmt.now outcome.now }
+{
+    match stmt {
+        Stmt::Need { some, body: _ } => {
+            if *some {
+                !is_met(outcome)
+            } else {
+                is_met(outcome)
+            }
+        }
+        Stmt::Insert { head: _, body: _ } => false,
+        Stmt::Delete { head: _, body: _ } => false,
+        Stmt::Replace {
+            gone: _,
+            come: _,
+            body: _,
+        } => false,
+        Stmt::Print {
+            terms: _,
+            kinds: _,
+            body: _,
+        } => false,
+    }
+}
+
+/// The marks after the statement, of those before it.
+pub(crate) fn marks_past(
+    alloc: Global,
+    stmt: &Stmt,
+    outcome: &Outcome,
+    before: &Marks,
+) -> Result<Marks, NoMemory>
+    requires first { IsAscending (first_rows outcome.now) }
+    requires second { IsAscending (second_rows outcome.now) }
+    ensures { IfOk result (λ marks. marks ≡ marks_after stmt.now outcome.now before.now) }
+{
+    if refused_by(stmt, outcome) {
+        let none = Marks::empty(alloc)?;
+        return Ok(none);
+    }
+    let written = written_by(alloc, stmt, outcome)?;
+    let marks = Marks::and_then(before, &written)?;
+    Ok(marks)
+}
+
+/// The effect of the statement.
+pub(crate) fn effect_by(alloc: Global, stmt: &Stmt, outcome: &Outcome) -> Result<Effect, NoMemory>
+    requires first { IsAscending (first_rows outcome.now) }
+    requires second { IsAscending (second_rows outcome.now) }
+    ensures { IfOk result (λ e. view e ≡ does stmt.now outcome.now) }
+{
+    match stmt {
+        Stmt::Insert { head: _, body: _ } => {
+            let marks = written_by(alloc, stmt, outcome)?;
+            Ok(Effect::Writes(marks))
+        }
+        Stmt::Delete { head: _, body: _ } => {
+            let marks = written_by(alloc, stmt, outcome)?;
+            Ok(Effect::Writes(marks))
+        }
+        Stmt::Replace {
+            gone: _,
+            come: _,
+            body: _,
+        } => {
+            let marks = written_by(alloc, stmt, outcome)?;
+            Ok(Effect::Writes(marks))
+        }
+        Stmt::Need { some: _, body: _ } => Ok(Effect::Needs(!refused_by(stmt, outcome))),
+        Stmt::Print {
+            terms: _,
+            kinds,
+            body: _,
+        } => {
+            let rows = shown(alloc, outcome)?;
+            Ok(Effect::Prints(KindList::from_kinds(alloc, kinds.as_slice()), rows))
+        }
+    }
+}

@@ -1,0 +1,5 @@
+pub mod Going
+pub mod Joining
+pub mod CellTexts
+pub mod Folding
+pub mod Parts

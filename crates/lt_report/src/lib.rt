@@ -1,0 +1,14 @@
+//! The lines of a report, written to a sink. No call takes memory.
+#![tactic(auto)]
+
+mod line;
+mod lines;
+mod marks;
+mod reply;
+mod rows;
+mod show;
+
+pub use lines::{put_bad_item, put_bad_program, put_batch, put_fault, put_usage, put_version};
+pub use marks::put_marks;
+pub use reply::put_reply;
+pub use show::put_rows;

@@ -1,0 +1,10 @@
+pub mod Named
+pub mod Finding
+pub mod Between
+pub mod Places
+pub mod Going
+pub mod Touching
+pub mod Ways
+pub mod Costing
+pub mod Endings
+pub mod Steps

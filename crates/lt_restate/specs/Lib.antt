@@ -1,0 +1,4 @@
+pub mod Found
+pub mod Looked
+pub mod Touches
+pub mod Walked

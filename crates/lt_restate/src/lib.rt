@@ -1,0 +1,12 @@
+//! The run of a program on another state, by the tally of its run on an old one: only what a changed row touches is
+//! evaluated again.
+#![tactic(auto)]
+
+mod changed;
+mod looking;
+mod restating;
+mod touch;
+mod walk;
+
+pub use restating::{restate, restate_marks};
+pub use touch::{Touch, Touches};

@@ -1,0 +1,131 @@
+//! Programs run where marks are laid on a base, and restated where others are.
+ghost use Rattle.std.specs.Prelude.{◌≡◌, true, IfOk};
+ghost use Rattle.std.specs.Arc.{arc_value};
+ghost use Rattle.lt_model.specs.Fits.{Fits, FitMarks};
+ghost use Rattle.lt_model.specs.Marks.{laid};
+ghost use Rattle.lt_base.specs.Tables.{state_of};
+ghost use Rattle.lt_program.specs.Tally.{HasIndexes, has_ended};
+ghost use Rattle.lt_run_trials.specs.Fitting.{AreBoth};
+
+use crate::texts::{joined, program, stocked};
+use lt_base::Database;
+use lt_delta::Marks;
+use lt_face::memory::NoMemory;
+use lt_face::moves::Moves;
+use lt_model::normal::Prog;
+use lt_program::{Tally, indexed, run};
+use lt_restate::{Touches, restate_marks};
+use std::alloc::Global;
+use std::sync::Arc;
+
+/// A run, the same program restated where marks changed its base, and its run anew there.
+#[derive(Drop)]
+pub(crate) struct Restatement {
+    pub old: Tally,
+    pub new: Tally,
+    pub anew: Tally,
+    pub touches: Touches,
+}
+
+/// The marks of a program on the base.
+pub(crate) fn marks_of(alloc: Global, base: &Database, statements: &str) -> Result<Marks, NoMemory>
+    requires { AreBoth (state_of base.now) }
+    ensures { IfOk result (λ marks. FitMarks (state_of base.now) marks) }
+{
+    let prog = program(alloc, statements)?;
+    let tally = joined(alloc, base, prog)?;
+    let marks = tally.marks().share()?;
+    drop(tally);
+    Ok(marks)
+}
+
+/// The database that a program runs on: marks laid on one that has its indexes.
+fn corrected(db: &Database, _prog: &Arc<Prog>, marks: &Marks) -> Result<Database, NoMemory>
+    requires fits { Fits (state_of db.now) (arc_value _prog.now) }
+    requires indexes { HasIndexes db.now (arc_value _prog.now) }
+    requires marks { FitMarks (state_of db.now) marks.now }
+    ensures state { IfOk result (λ next. state_of next ≡ laid (state_of db.now) marks.now) }
+    ensures fits { IfOk result (λ next. Fits (state_of next) (arc_value _prog.now)) }
+    ensures indexes { IfOk result (λ next. HasIndexes next (arc_value _prog.now)) }
+{
+    let next = db.laid(marks)?;
+    Ok(next)
+}
+
+/// The run of the program where the marks are laid on the database.
+fn ran(db: &Database, prog: &Arc<Prog>, marks: &Marks) -> Result<Tally, NoMemory>
+    requires fits { Fits (state_of db.now) (arc_value prog.now) }
+    requires indexes { HasIndexes db.now (arc_value prog.now) }
+    requires marks { FitMarks (state_of db.now) marks.now }
+    ensures program { IfOk result (λ t. t.program ≡ arc_value prog.now) }
+    ensures base { IfOk result (λ t. state_of t.base ≡ laid (state_of db.now) marks.now) }
+    ensures ended { IfOk result (λ t. has_ended t ≡ true) }
+{
+    let base = corrected(db, prog, marks)?;
+    let mut moves: Moves<()> = Moves::new();
+    let tally = run(prog, &base, &mut moves)?;
+    Ok(tally)
+}
+
+/// The program restated where the second marks are laid on the database, by its run where the first are.
+fn again(
+    db: &Database,
+    prog: &Arc<Prog>,
+    old: &Tally,
+    first: &Marks,
+    second: &Marks,
+) -> Result<(Tally, Touches), NoMemory>
+    requires fits { Fits (state_of db.now) (arc_value prog.now) }
+    requires indexes { HasIndexes db.now (arc_value prog.now) }
+    requires first { FitMarks (state_of db.now) first.now }
+    requires second { FitMarks (state_of db.now) second.now }
+    requires program { old.now.program ≡ arc_value prog.now }
+    requires base { state_of old.now.base ≡ laid (state_of db.now) first.now }
+    requires ended { has_ended old.now ≡ true }
+{
+    let next = corrected(db, prog, second)?;
+    let mut moves: Moves<()> = Moves::new();
+    let out = restate_marks(old, &next, first, second, &mut moves)?;
+    Ok(out)
+}
+
+/// The program run where the one correction is laid on the base, and restated where the other is.
+fn restated(
+    alloc: Global,
+    base: &Database,
+    prog: Prog,
+    first: &Marks,
+    second: &Marks,
+) -> Result<Restatement, NoMemory>
+    requires fits { Fits (state_of base.now) prog }
+    requires first { FitMarks (state_of base.now) first.now }
+    requires second { FitMarks (state_of base.now) second.now }
+{
+    let db = indexed(base, &prog)?;
+    let shared = Arc::new(alloc, prog)?;
+    let old = ran(&db, &shared, first)?;
+    let anew = ran(&db, &shared, second)?;
+    let (new, touches) = again(&db, &shared, &old, first, second)?;
+    Ok(Restatement {
+        old,
+        new,
+        anew,
+        touches,
+    })
+}
+
+/// The program of some statements, run where the rows that others left had the marks of the first ones, and restated where
+/// they have those of the second ones.
+pub(crate) fn restated_by(
+    alloc: Global,
+    stock: &str,
+    statements: &str,
+    first: &str,
+    second: &str,
+) -> Result<Restatement, NoMemory> {
+    let base = stocked(alloc, stock)?;
+    let first = marks_of(alloc, &base, first)?;
+    let second = marks_of(alloc, &base, second)?;
+    let prog = program(alloc, statements)?;
+    restated(alloc, &base, prog, &first, &second)
+}

@@ -1,0 +1,340 @@
+//! Programs restated on later states: what touches them, what they answer there, and what they keep.
+ghost use Rattle.lt_model.specs.Fits.{FitMarks};
+ghost use Rattle.lt_base.specs.Tables.{state_of};
+
+use crate::agree::holds;
+use crate::comparing::{int_row, is_same_reply};
+use crate::random::Random;
+use crate::restatement::{Restatement, restated_by};
+use crate::sampled::{joining, writing};
+use lt_base::Database;
+use lt_delta::Marks;
+use lt_face::memory::NoMemory;
+use lt_face::row::Row;
+use lt_restate::Touch;
+use lt_sense::{Hit, KeptGap, Sense, Spot};
+use lt_values::cell_of_int;
+use std::alloc::Global;
+
+/// Whether the touch is this one of statement 1.
+fn is_touch(alloc: Global, touch: &Touch, row: i64, lo: i64, hi: i64) -> bool {
+    let spot = Spot::Gap {
+        prefix: Row::from_cells(alloc, &[]),
+        lo: cell_of_int(lo),
+        hi: cell_of_int(hi),
+    };
+    touch.statement == 1
+        && touch.relation == 0
+        && touch.row == int_row(alloc, row)
+        && touch.spot == spot
+}
+
+/// Whether the one touch is by 5, in the gap from 2 to below 9.
+fn are_by_five(alloc: Global, touches: &[Touch]) -> bool {
+    match touches {
+        [touch] => is_touch(alloc, touch, 5, 2, 9),
+        _ => false,
+    }
+}
+
+/// Whether the inserts of 5 touch the answers above 3 of 1 and 9.
+fn touches_by_five(alloc: Global, inserts: &str) -> Result<bool, NoMemory> {
+    let reading = "print (x) where r(x), x > 3;";
+    let out = restated_by(alloc, "insert r(1); insert r(9);", reading, "", inserts)?;
+    let is_so = are_by_five(alloc, out.touches.as_slice())
+        && is_same_reply(out.new.reply(), out.anew.reply());
+    drop(out);
+    Ok(is_so)
+}
+
+/// An insert of 5, alone and with more inserts than a search for one int leaves gaps and hits.
+const FIVE: &str = "insert r(5);";
+
+const MANY_WITH_FIVE: &str =
+    "insert r(20); insert r(21); insert r(22); insert r(23); insert r(24); insert r(25); insert r(26); insert r(27); \
+    insert e(1, 2); insert e(2, 3); insert r(5);";
+
+#[test]
+fn an_insert_into_a_gap_touches(rt: HostRuntime) -> Result<(), NoMemory> {
+    holds(&rt, touches_by_five(rt.alloc(), FIVE)?);
+    holds(&rt, touches_by_five(rt.alloc(), MANY_WITH_FIVE)?);
+    Ok(())
+}
+
+/// Whether the inserts leave the answer 1 untouched.
+fn keeps_one(alloc: Global, inserts: &str) -> Result<bool, NoMemory> {
+    let reading = "print (x) where r(x), x = 1;";
+    let out = restated_by(alloc, "insert r(1); insert r(9);", reading, "", inserts)?;
+    let is_so = out.touches.len() == 0 && is_same_reply(out.new.reply(), out.old.reply());
+    drop(out);
+    Ok(is_so)
+}
+
+/// An insert of 20, alone and with others.
+const TWENTY: &str = "insert r(20);";
+
+const MANY_WITH_TWENTY: &str =
+    "insert r(20); insert r(21); insert r(22); insert r(23); insert r(24); insert r(25); insert r(26); insert r(27); \
+    insert e(1, 2); insert e(2, 3);";
+
+#[test]
+fn an_insert_past_a_pinned_key_does_not_touch(rt: HostRuntime) -> Result<(), NoMemory> {
+    holds(&rt, keeps_one(rt.alloc(), TWENTY)?);
+    holds(&rt, keeps_one(rt.alloc(), MANY_WITH_TWENTY)?);
+    Ok(())
+}
+
+/// Whether one touch leaves so many statements evaluated, and the reply of the run anew.
+fn is_touched_once(out: &Restatement, evaluated: usize) -> bool {
+    out.touches.len() == 1
+        && out.new.evaluated() == evaluated
+        && is_same_reply(out.new.reply(), out.anew.reply())
+}
+
+/// Whether the program is touched once between these corrections, and then has so many statements evaluated.
+fn turns(alloc: Global, first: &str, second: &str, evaluated: usize) -> Result<bool, NoMemory> {
+    let statements = "require some r(1); insert r(2); print (x) where r(x);";
+    let out = restated_by(alloc, "insert r(1);", statements, first, second)?;
+    let is_so = is_touched_once(&out, evaluated);
+    drop(out);
+    Ok(is_so)
+}
+
+/// A delete of the row that met a requirement refuses the program, and its insert lets it be done again.
+#[test]
+fn a_refused_program_may_be_done_and_a_done_one_refused(rt: HostRuntime) -> Result<(), NoMemory> {
+    holds(&rt, turns(rt.alloc(), "", "delete r(1);", 1)?);
+    holds(&rt, turns(rt.alloc(), "delete r(1);", "", 3)?);
+    Ok(())
+}
+
+fn is_same_gap(a: &KeptGap, b: &KeptGap) -> bool {
+    a.relation == b.relation
+        && a.columns.as_slice() == b.columns.as_slice()
+        && a.prefix == b.prefix
+        && a.lo == b.lo
+        && a.hi == b.hi
+}
+
+fn are_same_gaps(a: &[KeptGap], b: &[KeptGap]) -> bool {
+    if a.len() != b.len() {
+        return false;
+    }
+    for (i, gap) in a.iter().enumerate() {
+        if !is_same_gap(gap, &b[i]) {
+            return false;
+        }
+    }
+    true
+}
+
+fn are_same_hits(a: &[Hit], b: &[Hit]) -> bool {
+    if a.len() != b.len() {
+        return false;
+    }
+    for (i, hit) in a.iter().enumerate() {
+        if hit.relation != b[i].relation || hit.row != b[i].row {
+            return false;
+        }
+    }
+    true
+}
+
+fn has_same_gaps(one: &Sense, other: &Sense) -> Result<bool, NoMemory> {
+    let gaps = one.kept_gaps()?;
+    let others = other.kept_gaps()?;
+    Ok(are_same_gaps(gaps.as_slice(), others.as_slice()))
+}
+
+fn has_same_hits(one: &Sense, other: &Sense) -> Result<bool, NoMemory> {
+    let hits = one.kept_hits()?;
+    let others = other.kept_hits()?;
+    Ok(are_same_hits(hits.as_slice(), others.as_slice()))
+}
+
+/// Whether both senses have the same gaps and hits, in the same order.
+fn is_same_sense(one: &Sense, other: &Sense) -> Result<bool, NoMemory> {
+    let gaps = has_same_gaps(one, other)?;
+    let hits = has_same_hits(one, other)?;
+    Ok(gaps && hits)
+}
+
+/// The ints of the rows that are looked through, ascending. The constants at random are 0 to 4.
+const INTS: [i64; 8] = [-1, 0, 1, 2, 3, 4, 5, 6];
+
+/// The first row of e that begins with this int, that the sense covers, and that one of the states alone has.
+fn first_with(
+    alloc: Global,
+    old: &Database,
+    new: &Database,
+    sense: &Sense,
+    first: i64,
+) -> Option<Row> {
+    for second in INTS {
+        let row = Row::from_cells(alloc, &[cell_of_int(first), cell_of_int(second)]);
+        if old.has(1, &row) != new.has(1, &row) && sense.covers(1, &row) {
+            return Some(row);
+        }
+    }
+    None
+}
+
+/// The first such row of e.
+fn first_changed(alloc: Global, old: &Database, new: &Database, sense: &Sense) -> Option<Row> {
+    for first in INTS {
+        match first_with(alloc, old, new, sense, first) {
+            Some(row) => return Some(row),
+            None => {}
+        }
+    }
+    None
+}
+
+/// Whether the statement has its touch by this row of e.
+fn is_touched_by(touches: &[Touch], statement: usize, row: &Row) -> bool {
+    for touch in touches {
+        if touch.statement as usize == statement {
+            return touch.relation == 1 && touch.row == *row;
+        }
+    }
+    false
+}
+
+/// Whether the statement has no touch.
+fn is_untouched(touches: &[Touch], statement: usize) -> bool {
+    for touch in touches {
+        if touch.statement as usize == statement {
+            return false;
+        }
+    }
+    true
+}
+
+/// Whether the new tally has this sense of the statement with so many before it.
+fn keeps_sense(out: &Restatement, place: usize, sense: &Sense) -> Result<bool, NoMemory> {
+    match out.new.parts().get(place) {
+        Some(part) => is_same_sense(sense, &part.part().sense),
+        None => Ok(false),
+    }
+}
+
+/// Whether the statement with so many before it has the touch that its old sense and the states before it ask for, and its
+/// old sense without one.
+fn is_restated_on(
+    alloc: Global,
+    out: &Restatement,
+    place: usize,
+    old: &Database,
+    new: &Database,
+) -> Result<bool, NoMemory> {
+    let Some(part) = out.old.parts().get(place) else {
+        return Ok(false);
+    };
+    let sense = &part.part().sense;
+    let touches = out.touches.as_slice();
+    let statement = place.saturating_add(1);
+    match first_changed(alloc, old, new, sense) {
+        Some(row) => Ok(is_touched_by(touches, statement, &row)),
+        None => {
+            let kept = keeps_sense(out, place, sense)?;
+            Ok(kept && is_untouched(touches, statement))
+        }
+    }
+}
+
+/// Whether the statement is restated as it should be, where these are the marks of those before it, in the old run and in
+/// the new one.
+fn is_restated(
+    alloc: Global,
+    out: &Restatement,
+    place: usize,
+    past: &Marks,
+    now: &Marks,
+) -> Result<bool, NoMemory>
+    requires past { FitMarks (state_of out.now.old.base) past.now }
+    requires now { FitMarks (state_of out.now.new.base) now.now }
+{
+    let old = out.old.base().laid(past)?;
+    let new = out.new.base().laid(now)?;
+    is_restated_on(alloc, out, place, &old, &new)
+}
+
+/// Whether each statement that both tallies evaluated is restated as it should be.
+fn are_restated(alloc: Global, out: &Restatement) -> Result<bool, NoMemory> {
+    let mut past = Marks::empty(alloc)?;
+    let mut now = Marks::empty(alloc)?;
+    for place in 0..out.old.evaluated() {
+        if place >= out.new.evaluated() {
+            return Ok(true);
+        }
+        if !is_restated(alloc, out, place, &past, &now)? {
+            return Ok(false);
+        }
+        past = out.old.marks_after(place, &past)?;
+        now = out.new.marks_after(place, &now)?;
+    }
+    Ok(true)
+}
+
+/// A few writing statements at random, or many, more than some searches leave gaps and hits.
+fn corrections(alloc: Global, random: &mut Random) -> Result<String, NoMemory> {
+    let few = random.below(4);
+    let many = if random.below(2) == 0 { few } else { few + 20 };
+    writing(alloc, random, many)
+}
+
+/// The next program at random, restated on the next corrections at random.
+fn sampled(alloc: Global, random: &mut Random) -> Result<Restatement, NoMemory> {
+    let stock = writing(alloc, random, 8)?;
+    let first = corrections(alloc, random)?;
+    let second = corrections(alloc, random)?;
+    let statements = joining(alloc, random, 5)?;
+    restated_by(alloc, &stock, &statements, &first, &second)
+}
+
+/// How many statements kept their parts, and how many didn't.
+#[derive(Drop)]
+struct Counts {
+    kept: usize,
+    touched: usize,
+}
+
+impl Counts {
+    /// Counts the statements of one more program.
+    fn add(&mut self, evaluated: usize, touched: usize) {
+        self.touched = self.touched.saturating_add(touched);
+        self.kept = self.kept.saturating_add(evaluated.saturating_sub(touched));
+    }
+}
+
+/// Whether the restatement answers and writes what the run anew does.
+fn is_as_run(out: &Restatement) -> bool {
+    is_same_reply(out.new.reply(), out.anew.reply())
+        && Marks::equal(out.new.marks(), out.anew.marks())
+        && out.new.evaluated() == out.anew.evaluated()
+}
+
+/// Whether the next program at random is restated as it is run.
+fn agrees(alloc: Global, random: &mut Random, counts: &mut Counts) -> Result<bool, NoMemory> {
+    let out = sampled(alloc, random)?;
+    counts.add(out.new.evaluated(), out.touches.len());
+    let are_so = are_restated(alloc, &out)?;
+    let is_so = are_so && is_as_run(&out);
+    drop(out);
+    Ok(is_so)
+}
+
+#[test]
+fn programs_are_restated_as_they_are_run(rt: HostRuntime) -> Result<(), NoMemory> {
+    let alloc = rt.alloc();
+    let mut random = Random::new();
+    let mut counts = Counts {
+        kept: 0,
+        touched: 0,
+    };
+    for _ in 0..200 {
+        holds(&rt, agrees(alloc, &mut random, &mut counts)?);
+    }
+    holds(&rt, counts.kept > 100 && counts.touched > 100);
+    Ok(())
+}

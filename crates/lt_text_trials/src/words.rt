@@ -1,0 +1,106 @@
+//! Command lines.
+use crate::agree::same_at;
+use lt_command::{Command, command_of};
+use lt_edges::{MemSink, MemSource, OpenGate};
+use lt_session::repair_main;
+use std::alloc::{AllocError, Global};
+use std::test::Fail;
+
+const USAGE: &str =
+    "usage: lt_shell run [--workers N] [--marks] | lt_shell bench --seed S --items I --programs P [--workers N]\n";
+
+/// These words as a program gets them.
+pub(crate) fn words_of(alloc: Global, words: &[&str]) -> Result<Vec<String>, AllocError> {
+    let mut all = Vec::new(alloc);
+    for word in words {
+        all.push(String::from_str(alloc, word)?)?;
+    }
+    Ok(all)
+}
+
+// Command lines without the program's name, one word between spaces, and how many workers they ask for.
+const LINES: [(&str, Option<u32>); 30] = [
+    ("run", Some(4)),
+    ("run --workers 1", Some(1)),
+    ("run --workers 16", Some(16)),
+    ("run --workers=4", Some(4)),
+    ("run --workers 04", Some(4)),
+    ("run --workers +4", Some(4)),
+    ("run --", Some(4)),
+    ("run --workers 2 --", Some(2)),
+    ("", None),
+    ("run --workers", None),
+    ("run --workers 0", None),
+    ("run --workers 17", None),
+    ("run --workers -4", None),
+    ("run --workers 4294967300", None),
+    ("run --workers 4x", None),
+    ("run --workers=", None),
+    ("run --workers 4 --workers 4", None),
+    ("run --work 4", None),
+    ("run -w 4", None),
+    ("--workers 4 run", None),
+    ("run run", None),
+    ("run -- run", None),
+    ("--help", None),
+    ("help", None),
+    ("help run", None),
+    ("run --help", None),
+    ("run -h", None),
+    ("run --version", None),
+    ("ru", None),
+    ("walk", None),
+];
+
+// The words of a line, after the program's name.
+fn line_words(alloc: Global, line: &str) -> Result<Vec<String>, AllocError> {
+    let mut words = words_of(alloc, &["lt_shell"])?;
+    for word in line.split_whitespace() {
+        words.push(String::from_str(alloc, word)?)?;
+    }
+    Ok(words)
+}
+
+#[test]
+fn asks_for_workers(rt: HostRuntime) -> Result<(), Fail> {
+    for (line, workers) in LINES {
+        let words = line_words(rt.alloc(), line)?;
+        let asked = command_of(rt.alloc(), &words)?;
+        let expected = match workers {
+            Some(workers) => Some(Command::Run { workers }),
+            None => None,
+        };
+        same_at(&rt, asked, expected, line);
+    }
+    Ok(())
+}
+
+#[test]
+fn runs_or_tells_how_it_is_called(rt: HostRuntime) -> Result<(), Fail> {
+    let alloc = rt.alloc();
+    for (line, workers) in LINES {
+        let words = line_words(alloc, line)?;
+        let mut source = MemSource::new(alloc, b"", 1, &[])?;
+        let mut sink = MemSink::new(alloc, 1000, &[])?;
+        let status = repair_main(&rt, alloc, &words, &mut source, &mut sink, &OpenGate);
+        let (expected, written) = match workers {
+            Some(_) => (0, ""),
+            None => (1, USAGE),
+        };
+        same_at(&rt, status, expected, line);
+        same_at(&rt, sink.bytes(), written.as_bytes(), line);
+    }
+    Ok(())
+}
+
+#[test]
+fn ends_where_the_usage_line_has_no_room(rt: HostRuntime) -> Result<(), Fail> {
+    let alloc = rt.alloc();
+    let words = words_of(alloc, &["lt_shell"])?;
+    let mut source = MemSource::new(alloc, b"", 1, &[])?;
+    let mut sink = MemSink::new(alloc, 10, &[])?;
+    let status = repair_main(&rt, alloc, &words, &mut source, &mut sink, &OpenGate);
+    same_at(&rt, status, 4, "no room");
+    same_at(&rt, sink.bytes(), b"".as_slice(), "no room");
+    Ok(())
+}

@@ -1,0 +1,35 @@
+//! What a seat tells.
+ghost use Rattle.std.specs.Prelude.{◌≡◌, ◌<◌, ◌≤◌};
+ghost use Rattle.lt_turn.specs.Seats.{view};
+
+use super::{Seat, Token};
+use crate::story::Story;
+
+impl<T: Story> Seat<T> {
+    pub(super) fn into_token(self) -> Token<T>
+        ensures { result ≡ self.token }
+    {
+        let Self {
+            token,
+            first: _,
+            end: _,
+            left: _,
+        } = self;
+        token
+    }
+
+    pub fn first(&self) -> u32
+        ensures first { result ≡ (view self.now).first }
+        ensures few { result < 16 }
+    {
+        self.first
+    }
+
+    pub fn end(&self) -> u32
+        ensures end { result ≡ (view self.now).end }
+        ensures later { (view self.now).first < result }
+        ensures few { result ≤ 16 }
+    {
+        self.end
+    }
+}

@@ -1,0 +1,44 @@
+//! Looks at the turn without taking it. They tell nothing.
+use super::{Seat, Turn};
+use crate::story::Story;
+use std::hint::spin_loop;
+use std::sync::Wait;
+use std::thread::yield_now;
+
+/// How often one looks before it lets other threads go on.
+const LOOKS: u32 = 64;
+
+impl<T: Story> Turn<T> {
+    // Whether the turn is free within some looks.
+    pub(super) fn is_soon_free(&self) -> bool {
+        for _look in 0..LOOKS {
+            if self.table.shared.peek(0) % 2 == 0 {
+                return true;
+            }
+            spin_loop();
+        }
+        false
+    }
+
+    // Whether there are other than so many entries within some looks.
+    fn has_soon_others(&self, left: u64) -> bool {
+        for _look in 0..LOOKS {
+            if self.table.shared.peek(0) / 2 != left {
+                return true;
+            }
+            spin_loop();
+        }
+        false
+    }
+
+    /// Waits until others have added entries to what the seat gave back. Meanwhile it doesn't take the turn.
+    pub fn wait_for_entries<R: Wait>(&self, rt: &R, seat: &Seat<T>) {
+        for _ in rt.forever() {
+            if self.has_soon_others(seat.left) {
+                return;
+            }
+            yield_now();
+        }
+        unreachable!()
+    }
+}

@@ -1,0 +1,6 @@
+//! Published databases by number.
+#![tactic(auto)]
+
+mod published;
+
+pub use published::Versions;

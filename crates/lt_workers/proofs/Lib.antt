@@ -1,0 +1,4 @@
+pub mod Replays
+pub mod Knowing
+pub mod Visiting
+pub mod Continuing

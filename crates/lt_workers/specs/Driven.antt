@@ -1,0 +1,39 @@
+-- What a seat knows once its workers have ended.
+use Rattle.std.specs.Prelude.{◌≡◌, ◌≢◌, ℕ, ◌<◌, ◌≤◌, List, ◌++◌, Option, Some, None, IfSome}
+use Rattle.lt_model.specs.declared.mark.Mark.{Mark}
+use Rattle.lt_net.specs.Net.{State, Claim, IsSettled}
+use Rattle.lt_turn.specs.declared.view.View.{View}
+use Rattle.lt_workers.specs.declared.held.Basis.{Basis}
+use Rattle.lt_workers.specs.declared.driving.Ended.{Ended}
+use Rattle.lt_workers.specs.declared.driving.Ended.TheVariants.{Settled, NoMemory}
+use Rattle.lt_workers.specs.Seen.{Knows, Claims, AreFree}
+use Rattle.lt_workers.specs.Visit.{IsSame}
+
+module _ {W : Type 0} (does : W → ℕ → List Mark → List Mark) where
+  -- what the seat has seen is legal, and settled where that is the answer
+  abbrev pub EndsAt : View (Basis W) → Ended → Type 0
+  EndsAt v Settled = (s : State) × Knows does v s × IsSettled s
+  EndsAt v NoMemory = (s : State) × Knows does v s
+
+  -- none of the workers but the first has a claim
+  abbrev pub AreOthersFree : View (Basis W) → Type 0
+  AreOthersFree v = (worker : ℕ) → v.first ≤ worker → worker < v.end → worker ≢ v.first → Claims does v worker None
+
+  -- the same seat has seen more, and none of its workers has a claim
+  pub record Continues (v w : View (Basis W)) : Type 0 where
+    pub same : IsSame v w
+    pub later : (rest : List (ℕ × ℕ)) × (w.seen ≡ v.seen ++ rest)
+    pub free : AreFree does w
+
+  -- and it may have ended
+  abbrev pub Goes : View (Basis W) → View (Basis W) → Option Ended → Type 0
+  Goes v w answer = Continues v w × IfSome answer (EndsAt w)
+
+  -- and it has ended
+  abbrev pub Drives : View (Basis W) → View (Basis W) → Ended → Type 0
+  Drives v w answer = Continues v w × EndsAt w answer
+
+-- settled where one of two parts ended so
+abbrev pub either_of : Ended → Ended → Ended
+either_of Settled other = Settled
+either_of NoMemory other = other

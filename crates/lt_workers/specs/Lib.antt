@@ -1,0 +1,4 @@
+pub mod Seen
+pub mod Visit
+pub mod Driven
+pub mod Seats

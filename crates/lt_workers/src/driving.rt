@@ -1,0 +1,163 @@
+//! Workers that do jobs until none is left.
+ghost use Rattle.std.specs.Prelude.{◌≡◌, ◌<◌, ◌^◌, Some};
+ghost use Rattle.lt_circuit.specs.Job.{claim_of_job};
+ghost use Rattle.lt_turn.specs.Seats.{view, IsIdle};
+ghost use Rattle.lt_workers.specs.Seats.{IsSeatOf};
+ghost use Rattle.lt_workers.specs.Seen.{AreFree, Claims, IsOfWork};
+ghost use Rattle.lt_workers.specs.Driven.{AreOthersFree, Drives, Goes, either_of};
+ghost use denote.Param.Send.{IsSync};
+
+use crate::held::Held;
+use crate::shared::Shared;
+use lt_circuit::{Claim, Job, LeafWork};
+use lt_edges::Gate;
+use lt_face::Moves;
+use lt_turn::Seat;
+use std::sync::Wait;
+use std::thread::{Threads, join_mut};
+
+/// Why workers ended.
+#[derive(Clone, Copy, Debug, PartialEq, Eq)]
+pub enum Ended {
+    /// The last claim saw a settled circuit.
+    Settled,
+    /// Memory was refused, and the job given back.
+    NoMemory,
+}
+
+impl<W: LeafWork + Send + Sync> Shared<W>
+where
+    W::Tally: Send + Sync,
+{
+    // Claims a job and does it. Where none is Pending it waits for others' entries.
+    fn go_on<R: Wait, G: Gate>(&self, rt: &R, seat: &mut Seat<Held<W>>, gate: &G) -> Option<Ended>
+        requires turn { IsSeatOf self.now seat.old }
+        requires idle { IsIdle (view seat.old) }
+        requires free { AreFree W.does (view seat.old) }
+        ensures turn { IsSeatOf self.now seat.new }
+        ensures goes { Goes W.does (view seat.old) (view seat.new) result }
+    {
+        match self.claim(rt, seat) {
+            Claim::Settled => Some(Ended::Settled),
+            Claim::NoMemory => Some(Ended::NoMemory),
+            Claim::Busy { in_flight: _ } => {
+                self.turn.wait_for_entries(rt, seat);
+                None
+            }
+            Claim::Job(job) => self.work_on(rt, seat, job, gate),
+        }
+    }
+
+    // Passes the gate, does the job outside the turn, and ends the claim.
+    fn work_on<R: Wait, G: Gate>(
+        &self,
+        rt: &R,
+        seat: &mut Seat<Held<W>>,
+        job: Job<W>,
+        gate: &G,
+    ) -> Option<Ended>
+        requires turn { IsSeatOf self.now seat.old }
+        requires idle { IsIdle (view seat.old) }
+        requires work { IsOfWork (view seat.old) job.work }
+        requires claim { Claims W.does (view seat.old) (view seat.old).first (Some (claim_of_job job)) }
+        requires coded { (claim_of_job job).job < 2 ^ 32 }
+        requires others { AreOthersFree W.does (view seat.old) }
+        ensures turn { IsSeatOf self.now seat.new }
+        ensures goes { Goes W.does (view seat.old) (view seat.new) result }
+    {
+        gate.pass(rt, seat.first(), job.name().code());
+        let mut moves: Moves<()> = Moves::new();
+        match job.work(&mut moves) {
+            Ok(output) => {
+                self.finish(rt, seat, output);
+                None
+            }
+            Err(job) => {
+                self.abandon(rt, seat, job);
+                Some(Ended::NoMemory)
+            }
+        }
+    }
+
+    /// Does jobs as the seat's first worker until the circuit is settled or memory is refused. One that finds no Pending
+    /// job while others work asks again.
+    pub fn drive<R: Wait, G: Gate>(&self, rt: &R, seat: &mut Seat<Held<W>>, gate: &G) -> Ended
+        requires turn { IsSeatOf self.now seat.old }
+        requires idle { IsIdle (view seat.old) }
+        requires free { AreFree W.does (view seat.old) }
+        ensures turn { IsSeatOf self.now seat.new }
+        ensures drives { Drives W.does (view seat.old) (view seat.new) result }
+    {
+        for _ in rt.forever() {
+            if let Some(ended) = self.go_on(rt, seat, gate) {
+                return ended;
+            }
+        }
+        unreachable!()
+    }
+
+    // Each of the two seats in a thread of its own.
+    #[cycle(fan_out)]
+    fn halves<R: Threads + Wait + Sync, G: Gate>(
+        &self,
+        rt: &R,
+        low: &mut Seat<Held<W>>,
+        high: &mut Seat<Held<W>>,
+        gate: &G,
+    ) -> (Ended, Ended)
+        requires low { IsSeatOf self.now low.old × IsIdle (view low.old) × AreFree W.does (view low.old) }
+        requires high { IsSeatOf self.now high.old × IsIdle (view high.old) × AreFree W.does (view high.old) }
+        ensures low { IsSeatOf self.now low.new × Drives W.does (view low.old) (view low.new) result.0 }
+        ensures high { IsSeatOf self.now high.new × Drives W.does (view high.old) (view high.new) result.1 }
+    {
+        join_mut(
+            rt,
+            &mut || -> Ended
+                requires { IsSync R.row × IsSeatOf self.now low.now × IsIdle (view low.now) × AreFree W.does (view low.now) }
+                ensures { IsSeatOf self.entry.now low.exit.now × Drives W.does (view low.entry.now) (view low.exit.now) result }
+            { self.fan_out(rt, low, gate) },
+            &mut || -> Ended
+                requires { IsSync R.row × IsSeatOf self.now high.now × IsIdle (view high.now) × AreFree W.does (view high.now) }
+                ensures { IsSeatOf self.entry.now high.exit.now × Drives W.does (view high.entry.now) (view high.exit.now) result }
+            { self.fan_out(rt, high, gate) },
+        )
+    }
+
+    /// Each worker of the seat in a thread of its own, by halves. A part whose halves were refused goes on as one worker.
+    #[cycle(fan_out)]
+    pub fn fan_out<R: Threads + Wait + Sync, G: Gate>(
+        &self,
+        rt: &R,
+        seat: &mut Seat<Held<W>>,
+        gate: &G,
+    ) -> Ended
+        requires turn { IsSeatOf self.now seat.old }
+        requires idle { IsIdle (view seat.old) }
+        requires free { AreFree W.does (view seat.old) }
+        ensures turn { IsSeatOf self.now seat.new }
+        ensures drives { Drives W.does (view seat.old) (view seat.new) result }
+    {
+        let first = seat.first();
+        let end = seat.end();
+        if end - first < 2 {
+            return self.drive(rt, seat, gate);
+        }
+        let middle = first + (end - first) / 2;
+        let Ok(mut high) = self.turn.split(seat, middle) else {
+            return self.drive(rt, seat, gate);
+        };
+        let (one, other) = self.halves(rt, seat, &mut high, gate);
+        self.turn.join(seat, high);
+        either(one, other)
+    }
+}
+
+// Settled where one of two parts ended so.
+fn either(one: Ended, other: Ended) -> Ended
+    ensures { result ≡ either_of one other }
+{
+    match one {
+        Ended::Settled => Ended::Settled,
+        Ended::NoMemory => other,
+    }
+}
