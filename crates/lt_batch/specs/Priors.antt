@@ -10,7 +10,7 @@ use Rattle.lt_restate.specs.declared.touch.Touch.{Touch}
 use Rattle.lt_restate.specs.Touches.{AreTouches, cost_again}
 use Rattle.lt_batch.specs.declared.leaf.LeafTally.{LeafTally}
 use Rattle.lt_batch.specs.Batch.{program_at}
-use Rattle.lt_batch.specs.Work.{BatchView, corrected}
+use Rattle.lt_batch.specs.Work.{BatchView, base_at}
 
 -- a whole run of the program, whose base agrees with this state wherever its correction says what this one does
 pub record IsPriorOf (prog : List Stmt) (next : State) (on : Marks) (old : LeafTally) : Type 0 where
@@ -26,4 +26,4 @@ IsRestated old new = (touches : List Touch) × AreTouches old new touches
 -- those that the prior didn't reach
 abbrev pub leaf_bound : BatchView → Option LeafTally → ℕ → Marks → Option ℕ
 leaf_bound work None i on = None
-leaf_bound work (Some old) i on = Some (cost_again old.run (corrected work on) (ends_at (program_at work.programs i) (corrected work on)))
+leaf_bound work (Some old) i on = Some (cost_again old.run (base_at work i on) (ends_at (program_at work.programs i) (base_at work i on)))

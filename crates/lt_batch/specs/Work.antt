@@ -1,12 +1,13 @@
 -- The work of a batch: its leaves are the programs.
-use Rattle.std.specs.Prelude.{ℕ, ◌<◌, ◌≤◌, List, length}
-use Rattle.std.specs.List.{AllByRecursion}
+use Rattle.std.specs.Prelude.{ℕ, ◌<◌, ◌≤◌, List, length, if◌then◌else◌}
+use Rattle.std.specs.List.{AllByRecursion, list_any}
 use Rattle.lt_face.specs.State.{State, Relation}
 use Rattle.lt_model.specs.declared.normal.Stmt.{Stmt}
 use Rattle.lt_model.specs.Fits.{Fits, FitMarks}
 use Rattle.lt_model.specs.Marks.{Marks, AreMarks, laid}
 use Rattle.lt_model.specs.State.{IsState}
 use Rattle.lt_base.specs.Tables.{Table, state_of}
+use Rattle.lt_program.specs.Run.{reads_rows}
 use Rattle.lt_program.specs.Tally.{HasIndexes}
 use Rattle.lt_batch.specs.Batch.{program_at, does_at}
 
@@ -30,9 +31,12 @@ pub record IsBatch (snapshot : List Table) (programs : List (List Stmt)) : Type 
   pub runnable : AreRunnable (state_of snapshot) programs
   pub indexed : AllByRecursion (HasIndexes snapshot) programs
 
--- the state that a program with this correction runs on
-abbrev pub corrected : BatchView → Marks → State
-corrected work on = laid (state_of work.snapshot) on
+-- the state that a program with this correction runs on: one that reads no relation is as well run on the snapshot itself
+abbrev pub base_on : List Stmt → State → Marks → State
+base_on program snapshot on = if list_any reads_rows program then laid snapshot on else snapshot
+
+abbrev pub base_at : BatchView → ℕ → Marks → State
+base_at work i on = base_on (program_at work.programs i) (state_of work.snapshot) on
 
 -- what program i writes where the correction is laid on the snapshot
 abbrev pub batch_does : BatchView → ℕ → Marks → Marks

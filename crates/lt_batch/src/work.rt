@@ -11,7 +11,7 @@ ghost use Rattle.lt_program.specs.Tally.{HasIndexes, IsRun, ends_at, has_ended};
 ghost use Rattle.lt_restate.specs.Touches.{cost_again};
 ghost use Rattle.lt_batch.specs.LeafRun.{StandsFor};
 ghost use Rattle.lt_batch.specs.Priors.{IsPriorOf, IsRestated, leaf_bound};
-ghost use Rattle.lt_batch.specs.Work.{AreRunnable, FitsBatch, IsLeaf};
+ghost use Rattle.lt_batch.specs.Work.{AreRunnable, FitsBatch, IsLeaf, base_on};
 
 use crate::indexing::all_indexed;
 use crate::leaf::LeafTally;
@@ -21,7 +21,7 @@ use lt_delta::Marks;
 use lt_face::memory::NoMemory;
 use lt_face::moves::Moves;
 use lt_model::normal::Prog;
-use lt_program::{Tally, run};
+use lt_program::{Tally, reads, run};
 use lt_restate::restate_marks;
 use std::alloc::Global;
 use std::marker::Model;
@@ -66,15 +66,22 @@ fn look_over(db: &Database, progs: &[Arc<Prog>])
     db.look_over();
 }
 
-/// The database that a program with this correction runs on.
-fn corrected(snapshot: &Database, _prog: &Prog, correction: &Marks) -> Result<Database, NoMemory>
+/// The database that a program with this correction runs on: the snapshot with the correction laid on it, or the snapshot
+/// itself where the program reads no relation, since it does the same there.
+fn corrected(snapshot: &Database, prog: &Prog, correction: &Marks) -> Result<Database, NoMemory>
     requires { FitMarks (state_of snapshot.now) correction.now }
-    ensures base { IfOk result (λ db. state_of db ≡ laid (state_of snapshot.now) correction.now) }
-    ensures fits { IfOk result (λ db. Fits (state_of snapshot.now) _prog.now → Fits (state_of db) _prog.now) }
+    ensures base { IfOk result (λ db. state_of db ≡ base_on prog.now (state_of snapshot.now) correction.now) }
+    ensures fits { IfOk result (λ db. Fits (state_of snapshot.now) prog.now → Fits (state_of db) prog.now) }
     ensures indexes { IfOk result (λ db. (relation : ℕ) (columns : List ℕ) → has_index db relation columns ≡ has_index snapshot.now relation columns) }
+    ensures run { IfOk result (λ db. run_of prog.now (state_of db) ≡ run_of prog.now (laid (state_of snapshot.now) correction.now)) }
 {
-    let laid = snapshot.laid(correction)?;
-    Ok(laid)
+    if reads(prog.as_slice()) {
+        let laid = snapshot.laid(correction)?;
+        Ok(laid)
+    } else {
+        let same = snapshot.share()?;
+        Ok(same)
+    }
 }
 
 /// The run of a program on another state than that of an old tally.

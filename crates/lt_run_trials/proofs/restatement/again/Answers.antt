@@ -5,7 +5,7 @@ use Rattle.lt_model.specs.Fits.{Fits}
 use Rattle.lt_model.specs.Marks.{laid}
 use Rattle.lt_base.specs.Tables.{state_of}
 use Rattle.lt_program.specs.Tally.{HasIndexes}
-use Rattle.lt_batch.proofs.Unlike.{agree_at, marked_or_agree}
+use Rattle.lt_batch.proofs.Unlike.{agree_laid, marked_or_agree}
 use Rattle.lt_run_trials.proofs.restatement.again.Goals as goal
 
 pub restate_marks-requires-clause-fits : goal.restate_marks-requires-clause-fits
@@ -22,4 +22,4 @@ restate_marks-requires-clause-marked c =
     marked_or_agree a b (state_of c.args.old.now.base) (state_of c.in_ok-next.next) (λ relation row same.
     subst (λ (s : State). AgreeOn (state_of c.args.old.now.base) s relation row) (sym c.in_ok-next.ensures.state)
     (subst (λ (s : State). AgreeOn s (laid snapshot b) relation row) (sym c.requires.base)
-    (agree_at snapshot a b c.requires.first c.requires.second relation row same)))
+    (agree_laid snapshot a b c.requires.first c.requires.second relation row same)))

@@ -4,9 +4,10 @@ use Rattle.std.specs.Arc.{arc_value}
 use Rattle.lt_model.specs.Fits.{Fits}
 use Rattle.lt_model.specs.declared.normal.Stmt.{Stmt}
 use Rattle.lt_model.specs.Marks.{laid}
+use Rattle.lt_model.specs.Run.{run}
 use Rattle.lt_base.specs.Tables.{state_of}
 use Rattle.lt_batch.specs.Batch.{program_at}
-use Rattle.lt_batch.specs.Work.{BatchView}
+use Rattle.lt_batch.specs.Work.{BatchView, base_on}
 use Rattle.lt_batch.proofs.Unlike.{item_at, prior_for, stands_is, bound_kept}
 use Rattle.lt_program.specs.Tally.{HasIndexes}
 use Rattle.lt_batch.proofs.Indexed.{each_item, stays}
@@ -33,8 +34,9 @@ run_on-requires-clause-prior g c =
     let here : c.args.leaf < length c.self.inside.programs.items = omega (arith, below, length-map c.self.inside.programs.items arc_value) in
     let prog_is : program_at c.args.self.now.programs c.args.leaf ≡ arc_value c.index-prog.result.now =
     ap (λ (w : BatchView). program_at w.programs c.args.leaf) (sym c.self.view_is) ∙ item_at arc_value c.self.inside.programs.items c.args.leaf c.index-prog.result.now here c.index-prog.ensures in
-    let base_is : state_of c.in_ok-base.base ≡ laid (state_of c.args.self.now.snapshot) c.args.correction.now =
-    c.in_ok-base.ensures.base ∙ ap (λ (w : BatchView). laid (state_of w.snapshot) c.args.correction.now) c.self.view_is in
+    let base_is : state_of c.in_ok-base.base ≡ base_on (arc_value c.index-prog.result.now) (state_of c.args.self.now.snapshot) c.args.correction.now =
+    c.in_ok-base.ensures.base ∙ ap (λ (p : List Stmt). base_on p (state_of c.self.inside.snapshot) c.args.correction.now) c.deref.ensures
+    ∙ ap (λ (w : BatchView). base_on (arc_value c.index-prog.result.now) (state_of w.snapshot) c.args.correction.now) c.self.view_is in
     prior_for c.args.prior c.args.self.now c.args.leaf (arc_value c.index-prog.result.now) (state_of c.in_ok-base.base) c.args.correction.now c.requires.correction prog_is base_is c.requires.prior
 
 pub returns-clause-stands : goal.returns-clause-stands
@@ -43,9 +45,14 @@ returns-clause-stands g c =
     let here : c.args.leaf < length c.self.inside.programs.items = omega (arith, below, length-map c.self.inside.programs.items arc_value) in
     let prog_is : program_at c.args.self.now.programs c.args.leaf ≡ arc_value c.index-prog.result.now =
     ap (λ (w : BatchView). program_at w.programs c.args.leaf) (sym c.self.view_is) ∙ item_at arc_value c.self.inside.programs.items c.args.leaf c.index-prog.result.now here c.index-prog.ensures in
-    let base_is : state_of c.in_ok-base.base ≡ laid (state_of c.args.self.now.snapshot) c.args.correction.now =
-    c.in_ok-base.ensures.base ∙ ap (λ (w : BatchView). laid (state_of w.snapshot) c.args.correction.now) c.self.view_is in
-    stands_is c.args.self.now c.args.leaf c.args.correction.now c.in_ok-correction.correction (arc_value c.index-prog.result.now) c.in_ok-base.base c.in_ok-run.run' prog_is base_is c.in_ok-correction.ensures
+    let base_is : state_of c.in_ok-base.base ≡ base_on (arc_value c.index-prog.result.now) (state_of c.args.self.now.snapshot) c.args.correction.now =
+    c.in_ok-base.ensures.base ∙ ap (λ (p : List Stmt). base_on p (state_of c.self.inside.snapshot) c.args.correction.now) c.deref.ensures
+    ∙ ap (λ (w : BatchView). base_on (arc_value c.index-prog.result.now) (state_of w.snapshot) c.args.correction.now) c.self.view_is in
+    let runs : run (arc_value c.index-prog.result.now) (state_of c.in_ok-base.base) ≡ run (arc_value c.index-prog.result.now) (laid (state_of c.args.self.now.snapshot) c.args.correction.now) =
+    ap (λ (p : List Stmt). run p (state_of c.in_ok-base.base)) (sym c.deref.ensures) ∙ c.in_ok-base.ensures.run
+    ∙ ap (λ (p : List Stmt). run p (laid (state_of c.self.inside.snapshot) c.args.correction.now)) c.deref.ensures
+    ∙ ap (λ (w : BatchView). run (arc_value c.index-prog.result.now) (laid (state_of w.snapshot) c.args.correction.now)) c.self.view_is in
+    stands_is c.args.self.now c.args.leaf c.args.correction.now c.in_ok-correction.correction (arc_value c.index-prog.result.now) c.in_ok-base.base c.in_ok-run.run' prog_is base_is runs c.in_ok-correction.ensures
     c.in_ok-run.ensures.program c.in_ok-run.ensures.base c.in_ok-run.ensures.parts c.in_ok-run.ensures.ended c.in_ok-run.ensures.reply c.in_ok-run.ensures.marks
 
 pub returns-clause-moves : goal.returns-clause-moves
@@ -54,6 +61,7 @@ returns-clause-moves g c =
     let here : c.args.leaf < length c.self.inside.programs.items = omega (arith, below, length-map c.self.inside.programs.items arc_value) in
     let prog_is : program_at c.args.self.now.programs c.args.leaf ≡ arc_value c.index-prog.result.now =
     ap (λ (w : BatchView). program_at w.programs c.args.leaf) (sym c.self.view_is) ∙ item_at arc_value c.self.inside.programs.items c.args.leaf c.index-prog.result.now here c.index-prog.ensures in
-    let base_is : state_of c.in_ok-base.base ≡ laid (state_of c.args.self.now.snapshot) c.args.correction.now =
-    c.in_ok-base.ensures.base ∙ ap (λ (w : BatchView). laid (state_of w.snapshot) c.args.correction.now) c.self.view_is in
+    let base_is : state_of c.in_ok-base.base ≡ base_on (arc_value c.index-prog.result.now) (state_of c.args.self.now.snapshot) c.args.correction.now =
+    c.in_ok-base.ensures.base ∙ ap (λ (p : List Stmt). base_on p (state_of c.self.inside.snapshot) c.args.correction.now) c.deref.ensures
+    ∙ ap (λ (w : BatchView). base_on (arc_value c.index-prog.result.now) (state_of w.snapshot) c.args.correction.now) c.self.view_is in
     bound_kept c.args.prior c.args.self.now c.args.leaf (arc_value c.index-prog.result.now) (state_of c.in_ok-base.base) c.args.correction.now c.args.moves.now c.run_on.new.moves prog_is base_is c.run_on.ensures.moves
