@@ -95,6 +95,25 @@ laid_more {X = X} f out xs i new x marks lt is one before =
     ∙ ap (λ (l : List Table). tables_laid 0 l marks) (sym (map-append f (take i xs) (x ∷ [])))
     ∙ ap (λ (l : List X). tables_laid 0 (map f l) marks) (sym (taken_more xs i x lt is))
 
+laid_long : (n : ℕ) (ts : List Table) (marks : Marks) → length (tables_laid n ts marks) ≡ length ts
+laid_long n [] marks = refl
+laid_long n (t ∷ ts) marks = let e = laid_long (n + 1) ts marks in omega arith
+
+-- as many relations are laid as were given
+pub as_many : {X : Type 0} (f : X → Table) (out ys : List X) (marks : Marks) → map f out ≡ tables_laid 0 (map f ys) marks → length out ≡ length ys
+as_many f out ys marks is =
+    let same : length (map f out) ≡ length (tables_laid 0 (map f ys) marks) = ap length is in
+    omega (arith, same, map_long f out, map_long f ys, laid_long 0 (map f ys) marks)
+
+pub laid_end : {X : Type 0} (f : X → Table) (out ys : List X) (n : ℕ) (new x : X) (marks : Marks) → n ≡ length ys → f new ≡ table_laid n (f x) marks → map f out ≡ tables_laid 0 (map f ys) marks → map f (out ++ new ∷ []) ≡ tables_laid 0 (map f (ys ++ x ∷ [])) marks
+laid_end f out ys n new x marks at one before =
+    let count : n ≡ 0 + length (map f ys) = omega (arith, at, map_long f ys) in
+    map-append f out (new ∷ [])
+    ∙ ap (λ (l : List Table). l ++ f new ∷ []) before
+    ∙ ap (λ (t : Table). tables_laid 0 (map f ys) marks ++ t ∷ []) (one ∙ ap (λ k. table_laid k (f x) marks) count)
+    ∙ sym (end_laid 0 (map f ys) (f x) marks)
+    ∙ ap (λ (l : List Table). tables_laid 0 l marks) (sym (map-append f ys (x ∷ [])))
+
 none_changed : (n : ℕ) (ts : List Table) (m : Mark) → m.relation < n → state_of (tables_laid n ts (m ∷ [])) ≡ state_of ts
 none_changed n [] m lt = refl
 none_changed n (t ∷ ts) m lt =

@@ -1,10 +1,13 @@
 -- Indexes of a relation's rows, and marks laid on them.
 use Rattle.std.specs.Prelude.{◌≡◌, ℕ, List, map}
 use Rattle.lt_face.specs.Lists.{IsIn}
+use Rattle.lt_face.specs.Rows.{IsAscending, IsRowSet}
 use Rattle.lt_face.specs.State.{Row, permuted}
 use Rattle.lt_model.specs.declared.mark.Mark.{Mark}
 use Rattle.lt_model.specs.Marks.{Marks}
+use Rattle.lt_delta.specs.declared.edits.Edits.{Edits}
 use Rattle.lt_delta.specs.Laying.{rows_laid}
+use Rattle.lt_over.specs.Overlaid.{overlaid}
 use Rattle.lt_base.specs.declared.index.Index.{Index}
 use Rattle.lt_base.specs.Columns.{IsPermOf}
 
@@ -29,3 +32,9 @@ index_laid relation marks index = record {
   columns = index.columns;
   rows = record { width = index.rows.width; rows = rows_laid relation index.rows.rows (map (permuted_mark index.columns) marks) };
 }
+
+-- rows that go and rows that come, which are to an index on these columns what the marks are to its relation
+pub record AreEditsIn (width : ℕ) (columns : List ℕ) (relation : ℕ) (marks : Marks) (edits : Edits) : Type 0 where
+  pub gone : IsRowSet width edits.gone
+  pub come : IsRowSet width edits.come
+  pub laid : (rows : List Row) → IsAscending rows → overlaid rows edits.gone edits.come ≡ rows_laid relation rows (map (permuted_mark columns) marks)

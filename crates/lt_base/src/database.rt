@@ -78,6 +78,57 @@ fn relation_laid(
     Ok(laid)
 }
 
+/// Lays the marks on the relation of this number, which is copied where another database shares it.
+fn lay_own(relation: Arc<Relation>, number: usize, marks: &Marks) -> Result<Relation, NoMemory>
+    requires small { number < 2 ^ 32 }
+    requires fit { AllByRecursion (λ (m : MarkType). m.relation ≡ number → IsRow (arc_value relation).width m.row) marks.now }
+    ensures { IfOk result (λ laid. laid ≡ table_laid number (arc_value relation) marks.now) }
+{
+    match Arc::try_unwrap(relation) {
+        Ok(own) => {
+            let laid = own.lay(number as u32, marks)?;
+            Ok(laid)
+        }
+        Err(shared) => {
+            let laid = shared.laid(number as u32, marks)?;
+            Ok(laid)
+        }
+    }
+}
+
+/// Lays the marks on the relation of this number. Where none names it, it stays.
+fn lay_one(
+    alloc: Global,
+    relation: Arc<Relation>,
+    number: usize,
+    marks: &Marks,
+) -> Result<Arc<Relation>, NoMemory>
+    requires { AllByRecursion (λ (m : MarkType). m.relation ≡ number → IsRow (arc_value relation).width m.row) marks.now }
+    ensures { IfOk result (λ laid. arc_value laid ≡ table_laid number (arc_value relation) marks.now) }
+{
+    if is_named(marks, number) {
+        let laid = lay_own(relation, number, marks)?;
+        let laid = Arc::new(alloc, laid)?;
+        return Ok(laid);
+    }
+    Ok(relation)
+}
+
+/// Lays the marks on the relations.
+fn lay_all(relations: Vec<Arc<Relation>>, marks: &Marks) -> Result<Vec<Arc<Relation>>, NoMemory>
+    requires { FitMarks (state_of (map arc_value relations.items)) marks.now }
+    ensures { IfOk result (λ laid. map arc_value laid.items ≡ tables_laid 0 (map arc_value relations.items) marks.now) }
+{
+    let alloc = *relations.allocator();
+    let mut laid = Vec::with_capacity(alloc, relations.len())?;
+    for relation in relations {
+        let number = laid.len();
+        let relation = lay_one(alloc, relation, number, marks)?;
+        laid.push(relation)?;
+    }
+    Ok(laid)
+}
+
 /// Looks at each relation.
 fn look_over(relations: &Vec<Arc<Relation>>)
     ensures { AllByRecursion IsTable (map arc_value relations.now.items) }
@@ -227,6 +278,18 @@ impl Database {
             has_index db relation columns ≡ has_index self.now relation columns) }
     {
         let relations = all_laid(&self.relations, marks)?;
+        Ok(Database { relations })
+    }
+
+    /// Lays the marks on each index of their relations. A few are laid in place, where no other database shares the relation.
+    pub fn lay(self, marks: &Marks) -> Result<Database, NoMemory>
+        requires { FitMarks (state_of self) marks.now }
+        ensures state { IfOk result (λ db. state_of db ≡ laid (state_of self) marks.now) }
+        ensures indexes { IfOk result (λ db. (relation : ℕ) (columns : List ℕ) →
+            has_index db relation columns ≡ has_index self relation columns) }
+    {
+        let Database { relations } = self;
+        let relations = lay_all(relations, marks)?;
         Ok(Database { relations })
     }
 

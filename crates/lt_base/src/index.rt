@@ -6,12 +6,12 @@ ghost use Rattle.lt_face.specs.Rows.{IsRow, row_cmp};
 ghost use Rattle.lt_face.specs.State.{permuted};
 ghost use Rattle.lt_model.specs.declared.mark.Mark.{Mark as MarkType};
 ghost use Rattle.lt_base.specs.Columns.{IsPermOf};
-ghost use Rattle.lt_base.specs.Indexed.{IsIndexed, index_laid};
+ghost use Rattle.lt_base.specs.Indexed.{IsIndexed, AreEditsIn, index_laid};
 
 use crate::columns::permuted_row;
 use crate::database::Rows;
 use crate::walk::permuted_rows;
-use lt_delta::Marks;
+use lt_delta::{Edits, Marks};
 use lt_face::items::{Items, Perm, RowList};
 use lt_face::memory::NoMemory;
 use lt_face::row_set::{RowReads, RowSet};
@@ -37,6 +37,17 @@ fn sorted_by(columns: &Perm, rows: &RowList) -> Result<RowList, NoMemory>
     Ok(Items::from_vec(list))
 }
 
+/// The rows that the marks take out of an index on these columns, and those that they put in.
+fn edits_in(columns: &Perm, relation: u32, marks: &Marks) -> Result<Edits, NoMemory>
+    requires { (width : ℕ) × IsPermOf width columns.now × (width ≤ 8) × AllByRecursion (λ (m : MarkType). m.relation ≡ relation → IsRow width m.row) marks.now }
+    ensures { IfOk result (λ edits. (width : ℕ) → IsPermOf width columns.now → AllByRecursion (λ (m : MarkType). m.relation ≡ relation → IsRow width m.row) marks.now → AreEditsIn width columns.now relation marks.now edits) }
+{
+    let edits = marks.edits(columns.allocator(), relation)?;
+    let gone = sorted_by(columns, &edits.gone)?;
+    let come = sorted_by(columns, &edits.come)?;
+    Ok(Edits { gone, come })
+}
+
 impl Index {
     /// The index of these rows on these columns.
     pub(crate) fn on(rows: &Rows, perm: &Perm) -> Result<Index, NoMemory>
@@ -60,10 +71,21 @@ impl Index {
     {
         let _width = self.rows.width();
         let columns = self.columns.copy()?;
-        let edits = marks.edits(columns.allocator(), relation)?;
-        let gone = sorted_by(&columns, &edits.gone)?;
-        let come = sorted_by(&columns, &edits.come)?;
-        let rows = self.rows.laid(gone, come)?;
+        let edits = edits_in(&columns, relation, marks)?;
+        let rows = self.rows.laid(edits.gone, edits.come)?;
+        Ok(Index { columns, rows })
+    }
+
+    /// Lays the marks of its relation on the index: in place, where they are few and nobody shares its rows.
+    pub(crate) fn lay(self, relation: u32, marks: &Marks) -> Result<Index, NoMemory>
+        requires perm { IsPermOf self.rows.width self.columns }
+        requires fit { AllByRecursion (λ (m : MarkType). m.relation ≡ relation → IsRow self.rows.width m.row) marks.now }
+        ensures { IfOk result (λ index. index ≡ index_laid relation marks.now self) }
+    {
+        let Index { columns, rows } = self;
+        let _width = rows.width();
+        let edits = edits_in(&columns, relation, marks)?;
+        let rows = rows.lay(edits.gone, edits.come)?;
         Ok(Index { columns, rows })
     }
 

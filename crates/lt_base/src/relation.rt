@@ -67,6 +67,20 @@ fn all_laid(others: &Vec<Index>, relation: u32, marks: &Marks) -> Result<Vec<Ind
     Ok(laid)
 }
 
+/// Lays the marks of their relation on the indexes.
+fn lay_all(others: Vec<Index>, relation: u32, marks: &Marks) -> Result<Vec<Index>, NoMemory>
+    requires perms { AllByRecursion (λ index. IsPermOf index.rows.width index.columns) others.items }
+    requires fit { AllByRecursion (λ index. AllByRecursion (λ (m : MarkType). m.relation ≡ relation → IsRow index.rows.width m.row) marks.now) others.items }
+    ensures { IfOk result (λ laid. laid.items ≡ map (index_laid relation marks.now) others.items) }
+{
+    let mut laid = Vec::new(*others.allocator());
+    for index in others {
+        let index = index.lay(relation, marks)?;
+        laid.push(index)?;
+    }
+    Ok(laid)
+}
+
 /// The same indexes, each with a second owner of its rows.
 fn all_shared(others: &Vec<Index>) -> Result<Vec<Index>, NoMemory>
     ensures { IfOk result (λ shared. shared.items ≡ others.now.items) }
@@ -162,6 +176,19 @@ impl Relation {
         let edits = marks.edits(*self.others.allocator(), number)?;
         let first = self.first.laid(edits.gone, edits.come)?;
         let others = all_laid(&self.others, number, marks)?;
+        Ok(Relation { first, others })
+    }
+
+    /// Lays the marks on all indexes of the relation of this number: in place, where they are few and nobody shares its rows.
+    pub(crate) fn lay(self, number: u32, marks: &Marks) -> Result<Relation, NoMemory>
+        requires { AllByRecursion (λ (m : MarkType). m.relation ≡ number → IsRow self.width m.row) marks.now }
+        ensures { IfOk result (λ relation. relation ≡ record self { rows = rows_laid number self.rows marks.now }) }
+    {
+        let Relation { first, others } = self;
+        let _width = first.width();
+        let edits = marks.edits(*others.allocator(), number)?;
+        let first = first.lay(edits.gone, edits.come)?;
+        let others = lay_all(others, number, marks)?;
         Ok(Relation { first, others })
     }
 }

@@ -3,4 +3,4 @@ pub mod FittingRuns
 pub mod InOrder
 pub mod Indexed
 pub mod Leaves
-pub mod Unlike
+pub mod Runs

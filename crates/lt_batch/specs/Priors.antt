@@ -5,7 +5,7 @@ use Rattle.lt_model.specs.declared.normal.Stmt.{Stmt}
 use Rattle.lt_model.specs.Laws.{mark_on}
 use Rattle.lt_model.specs.Marks.{Marks}
 use Rattle.lt_base.specs.Tables.{state_of}
-use Rattle.lt_program.specs.Tally.{TallyView, ends_at, has_ended}
+use Rattle.lt_program.specs.Tally.{TallyView, cost_of_first, ends_at, has_ended}
 use Rattle.lt_restate.specs.declared.touch.Touch.{Touch}
 use Rattle.lt_restate.specs.Touches.{AreTouches, cost_again}
 use Rattle.lt_batch.specs.declared.leaf.LeafTally.{LeafTally}
@@ -22,8 +22,12 @@ pub record IsPriorOf (prog : List Stmt) (next : State) (on : Marks) (old : LeafT
 abbrev pub IsRestated : TallyView → TallyView → Type 0
 IsRestated old new = (touches : List Touch) × AreTouches old new touches
 
--- the moves that the leaf takes at most: where it has a prior tally, those of the statements that a changed row touches and of
--- those that the prior didn't reach
+-- the moves that a run of the program on the state takes at most: where there is a prior tally, those of the statements that a
+-- changed row touches and of those that the prior didn't reach, else those of all statements up to where it ends
+abbrev pub run_bound : Option LeafTally → List Stmt → State → ℕ
+run_bound None program state = cost_of_first (ends_at program state) program state
+run_bound (Some old) program state = cost_again old.run state (ends_at program state)
+
+-- the moves that the leaf takes at most
 abbrev pub leaf_bound : BatchView → Option LeafTally → ℕ → Marks → Option ℕ
-leaf_bound work None i on = None
-leaf_bound work (Some old) i on = Some (cost_again old.run (base_at work i on) (ends_at (program_at work.programs i) (base_at work i on)))
+leaf_bound work prior i on = Some (run_bound prior (program_at work.programs i) (base_at work i on))

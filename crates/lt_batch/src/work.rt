@@ -10,7 +10,7 @@ ghost use Rattle.lt_base.specs.Tables.{state_of, has_index};
 ghost use Rattle.lt_program.specs.Tally.{HasIndexes, IsRun, ends_at, has_ended};
 ghost use Rattle.lt_restate.specs.Touches.{cost_again};
 ghost use Rattle.lt_batch.specs.LeafRun.{StandsFor};
-ghost use Rattle.lt_batch.specs.Priors.{IsPriorOf, IsRestated, leaf_bound};
+ghost use Rattle.lt_batch.specs.Priors.{IsPriorOf, IsRestated, run_bound, leaf_bound};
 ghost use Rattle.lt_batch.specs.Work.{AreRunnable, FitsBatch, IsLeaf, base_on};
 
 use crate::indexing::all_indexed;
@@ -127,7 +127,7 @@ fn run_on<L>(
     ensures reply { IfOk result (λ t. t.reply ≡ (run_of (arc_value prog.now) (state_of base.now)).0) }
     ensures marks { IfOk result (λ t. t.marks ≡ (run_of (arc_value prog.now) (state_of base.now)).1) }
     ensures restated { IfOk result (λ t. IfSome prior.entry (λ old. IsRestated old.now.run t)) }
-    ensures moves { IfSome prior.entry (λ old. moves.new ≤ moves.old + cost_again old.now.run (state_of base.now) (ends_at (arc_value prog.now) (state_of base.now))) }
+    ensures moves { moves.new ≤ moves.old + run_bound (option_map (λ old. old.now) prior.entry) (arc_value prog.now) (state_of base.now) }
     ensures rises { moves.old ≤ moves.new }
 {
     match prior {

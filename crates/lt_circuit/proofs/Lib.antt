@@ -1,5 +1,7 @@
 pub mod Opening
 pub mod Standing
+pub mod Placing
+pub mod Handed
 pub mod Walk
 pub mod Tables
 pub mod Stores

@@ -1,6 +1,7 @@
 -- What the queries of a circuit stand on.
-use Rattle.std.proofs.Common.{◌≡◌, ◌≢◌, ℕ, ◌<◌, true, List, [], Option, Some, None, get_or, refl, sym, ap, ◌∙◌, subst}
+use Rattle.std.proofs.Common.{◌≡◌, ◌≢◌, ℕ, zero, suc, ◌<◌, ◌↔◌, Bool, true, false, not, List, [], Option, Some, None, get_or, refl, sym, ap, ◌∙◌, subst, arith}
 use Rattle.std.specs.Option.{option_map}
+use Rattle.std.specs.Bool.{IsTrue}
 use Rattle.lt_model.specs.declared.mark.Mark.{Mark}
 use Rattle.lt_model.specs.Marks.{AreMarks, and_then}
 use Rattle.lt_net.specs.declared.job.JobState.{JobState}
@@ -11,7 +12,7 @@ use Rattle.lt_net.specs.Net.{Net, IsSettled, is_held}
 use Rattle.lt_net.specs.Tree.{IsSerial, code_of, leaf_value, then_all}
 use Rattle.lt_circuit.specs.Board.{BoardView, state_of, claim_from, standing}
 use Rattle.lt_net.proofs.Serial.{serial_of}
-use Rattle.lt_circuit.proofs.Standing.{none_at}
+use Rattle.lt_circuit.proofs.Standing.{none_at, some_at}
 use Rattle.lt_circuit.specs.declared.entry.Entry.{Entry}
 use Rattle.lt_circuit.specs.declared.task.Prior.{Prior}
 use Rattle.lt_circuit.specs.Circuit.{IsCircuit}
@@ -32,6 +33,21 @@ idle_settled net b k none free j = by_state ((state_of b).status j) refl
     by_state Pending e = absurd (none j e)
     by_state Running e = absurd (unheld (ap is_held e))
     by_state Dirty e = absurd (unheld (ap is_held e))
+
+-- where each job is Clean no claim stands
+pub settled_idle : (net : Net) (b : BoardView) → IsKept net (state_of b) → IsSettled (state_of b) → standing b.claims ≡ 0
+settled_idle net b k settled = by_count (standing b.claims) refl
+  where
+    by_count : (n : ℕ) → standing b.claims ≡ n → standing b.claims ≡ 0
+    by_count zero e = e
+    by_count (suc n) e =
+        let h = some_at b.claims (omega (arith, e)) in
+        let claims : (state_of b).claim h.0 ≡ Some (claim_from h.1) = ap (option_map claim_from) h.2 in
+        let f : false ≡ true = sym (ap is_held (settled (code_of h.1.job))) ∙ k.held h.0 (claim_from h.1) claims in cc
+
+pub settled_where : {A : Type 0} (b : Bool) → (b ≡ true → A → ⊥) → (b ≡ false → A) → IsTrue (not b) ↔ A
+settled_where true f g = (λ t. absurd (let h : false ≡ true = t in cc), λ a. absurd (f refl a))
+settled_where false f g = (λ t. g refl, λ a. refl)
 
 module _ {T : Type 0} (does : ℕ → List Mark → List Mark) (stands_for : T → ℕ → List Mark → Type 0) (fits : List Mark → Type 0) (has : ℕ → Type 0)
     (board : BoardView) (journal : List Entry) (tallies : List (Option (Prior T))) (used capacity : ℕ) (h : IsCircuit does stands_for fits has board journal tallies used capacity)

@@ -1,5 +1,5 @@
 -- How many claims stand, after one more and after one less.
-use Rattle.std.proofs.Common.{◌≡◌, ℕ, zero, suc, ◌+◌, ◌<◌, ◌≤◌, List, [], ◌∷◌, ◌++◌, Option, Some, None, length, get_or, set, take, refl, ap, ◌∙◌, arith, add-one}
+use Rattle.std.proofs.Common.{◌≡◌, ℕ, zero, suc, ◌+◌, ◌<◌, ◌≤◌, List, [], ◌∷◌, ◌++◌, Option, Some, None, length, get_or, set, refl, ap, ◌∙◌, arith}
 use Rattle.lt_circuit.specs.Board.{one_if, standing, table}
 
 module _ {X : Type 0} where
@@ -10,12 +10,25 @@ module _ {X : Type 0} where
   one_less (None ∷ ys) (suc k) x e = one_less ys k x e
   one_less (Some y ∷ ys) (suc k) x e = ap (λ n. n + 1) (one_less ys k x e)
 
-  pub one_more : (xs : List (Option X)) (k : ℕ) (x : X) → k < length xs → get_or xs k None ≡ None → standing (set xs k (Some x)) ≡ standing xs + 1
-  one_more [] k x h e = absurd (omega arith)
-  one_more (None ∷ ys) zero x h e = refl
-  one_more (Some y ∷ ys) zero x h e = cc
-  one_more (None ∷ ys) (suc k) x h e = one_more ys k x (omega arith) e
-  one_more (Some y ∷ ys) (suc k) x h e = ap (λ n. n + 1) (one_more ys k x (omega arith) e)
+  -- the count after a claim is put where one may stand, and after it goes
+  pub put_there : (xs : List (Option X)) (k : ℕ) (x : X) → k < length xs → standing (set xs k (Some x)) + one_if (get_or xs k None) ≡ standing xs + 1
+  put_there [] k x h = absurd (omega arith)
+  put_there (None ∷ ys) zero x h = omega arith
+  put_there (Some y ∷ ys) zero x h = omega arith
+  put_there (None ∷ ys) (suc k) x h = put_there ys k x (omega arith)
+  put_there (Some y ∷ ys) (suc k) x h = let e = put_there ys k x (omega arith) in omega arith
+
+  pub gone_there : (xs : List (Option X)) (k : ℕ) → standing (set xs k None) + one_if (get_or xs k None) ≡ standing xs
+  gone_there [] k = refl
+  gone_there (None ∷ ys) zero = omega arith
+  gone_there (Some y ∷ ys) zero = refl
+  gone_there (None ∷ ys) (suc k) = gone_there ys k
+  gone_there (Some y ∷ ys) (suc k) = let e = gone_there ys k in omega arith
+
+  pub at_most_all : (xs : List (Option X)) → standing xs ≤ length xs
+  at_most_all [] = omega arith
+  at_most_all (None ∷ ys) = omega (arith, at_most_all ys)
+  at_most_all (Some y ∷ ys) = omega (arith, at_most_all ys)
 
   pub at_most_one_more : (xs : List (Option X)) (k : ℕ) (x : X) → standing (set xs k (Some x)) ≤ standing xs + 1
   at_most_one_more [] k x = omega arith
@@ -23,22 +36,6 @@ module _ {X : Type 0} where
   at_most_one_more (Some y ∷ ys) zero x = omega arith
   at_most_one_more (None ∷ ys) (suc k) x = at_most_one_more ys k x
   at_most_one_more (Some y ∷ ys) (suc k) x = let h = at_most_one_more ys k x in omega arith
-
-  -- the claims before a place, and the one there
-  count_next : (xs : List (Option X)) (k : ℕ) (d : Option X) → k < length xs → standing (take (suc k) xs) ≡ standing (take k xs) + one_if (get_or xs k d)
-  count_next [] k d h = absurd (omega arith)
-  count_next (None ∷ ys) zero d h = refl
-  count_next (Some y ∷ ys) zero d h = refl
-  count_next (None ∷ ys) (suc k) d h = count_next ys k d (omega arith)
-  count_next (Some y ∷ ys) (suc k) d h =
-      let e = count_next ys k d (omega arith) in
-      omega arith
-
-  pub counted : (xs : List (Option X)) (k n one : ℕ) (o d : Option X) → k < length xs → n ≡ standing (take k xs) → o ≡ get_or xs k d → one ≡ one_if o → n + one ≡ standing (take (k + 1) xs)
-  counted xs k n one o d h a e f =
-      let next = count_next xs k d h in
-      let same : one ≡ one_if (get_or xs k d) = f ∙ ap one_if e in
-      rw add-one (omega arith)
 
   pub none_more : (xs : List (Option X)) → standing (xs ++ None ∷ []) ≡ standing xs
   none_more [] = refl

@@ -1,6 +1,5 @@
 -- What each event keeps of a circuit's fields.
-use Rattle.std.proofs.Common.{◌≡◌, ◌≢◌, ℕ, ◌+◌, ◌-◌, ◌*◌, ◌/◌, ◌%◌, ◌<◌, ◌≤◌, inl, inr, true, false, List, [], ◌∷◌, ◌++◌, Option, Some, None, map, length, get_or, set, refl, sym, ap, ◌∙◌, subst, arith, length-set}
-use Rattle.std.specs.Prelude.{◌==◌}
+use Rattle.std.proofs.Common.{◌≡◌, ◌≢◌, ℕ, ◌+◌, ◌-◌, ◌*◌, ◌<◌, ◌≤◌, inl, inr, true, false, List, [], ◌∷◌, ◌++◌, Option, Some, None, map, length, get_or, set, refl, sym, ap, ◌∙◌, subst, arith, length-set}
 use Rattle.std.specs.Option.{option_map}
 use Rattle.std.proofs.lemmas.List.{map-append}
 use Rattle.lt_model.specs.declared.mark.Mark.{Mark}
@@ -10,7 +9,7 @@ use Rattle.lt_net.specs.declared.job.JobName.{JobName}
 use Rattle.lt_net.specs.declared.job.JobName.TheVariants.{Leaf, Merge, Correct}
 use Rattle.lt_circuit.specs.declared.cells.Held.{Held}
 use Rattle.lt_net.specs.Kept.{IsKept}
-use Rattle.lt_net.specs.Net.{Net, State, Claim, Claims, Finishes, Abandons, is_held, update, claim_of, claimed, finished, abandoned, step, replay, opening}
+use Rattle.lt_net.specs.Net.{Net, State, Claim, is_held, update, claim_of, claimed, finished, abandoned, step, replay, opening}
 use Rattle.lt_net.specs.Tree.{tree_of, leaves_in, inputs_of, code_of, circuit_net}
 use Rattle.lt_circuit.specs.Board.{BoardView, state_of, claim_from, standing, table}
 use Rattle.lt_net.proofs.Fitting.{AllFit, reached_fit}
@@ -19,7 +18,7 @@ use Rattle.lt_net.proofs.Jobs.{job_of-code}
 use Rattle.lt_net.proofs.Kept.{at_update}
 use Rattle.lt_circuit.proofs.Opening.{get_same, length-table}
 use Rattle.lt_net.proofs.Serial.{reached_kept}
-use Rattle.lt_net.proofs.Shape.{eq_true, eq_false, lt_true}
+use Rattle.lt_net.proofs.Shape.{eq_true, lt_true}
 use Rattle.lt_circuit.proofs.Standing.{one_less, at_most_one_more}
 use Rattle.lt_circuit.specs.declared.entry.Entry.{Entry}
 use Rattle.lt_circuit.specs.declared.task.Prior.{Prior}

@@ -10,7 +10,6 @@ use Rattle.lt_net.proofs.Shape.{eq_false}
 use Rattle.lt_net.specs.declared.job.JobState.{JobState}
 use Rattle.lt_net.specs.declared.job.JobState.TheVariants.{Clean, Pending, Running}
 use Rattle.lt_circuit.specs.declared.cells.Node.{Node}
-use Rattle.lt_circuit.specs.declared.cells.Inputs.{Inputs}
 use Rattle.lt_circuit.specs.declared.cells.Held.{Held}
 use Rattle.lt_net.specs.Net.{Net, Claim, update, ended, read, claimed, abandoned}
 use Rattle.lt_circuit.specs.Store.{closed, kept_leaf}

@@ -1,6 +1,6 @@
 -- The task of a job on what a claim captured is of that claim, and fits.
-use Rattle.std.proofs.Common.{◌≡◌, ◌≢◌, ℕ, ◌+◌, ◌*◌, ◌%◌, Bool, true, false, List, [], ◌∷◌, ◌++◌, Option, Some, None, length, get_or, refl, sym, ap, ◌∙◌, arith}
-use Rattle.std.specs.Prelude.{if◌then◌else◌, ◌==◌, nat_lt}
+use Rattle.std.proofs.Common.{◌≡◌, ◌≢◌, ℕ, ◌+◌, Bool, true, false, List, [], ◌∷◌, ◌++◌, Option, Some, None, length, get_or, refl, sym, ap, ◌∙◌, arith}
+use Rattle.std.specs.Prelude.{if◌then◌else◌, nat_lt}
 use Rattle.std.specs.List.{AllByRecursion}
 use Rattle.lt_model.specs.declared.mark.Mark.{Mark}
 use Rattle.lt_net.specs.declared.job.JobState.TheVariants.{Pending}
@@ -13,7 +13,6 @@ use Rattle.lt_net.specs.Tree.{Tree, tree_of, right_in, leaves_in, node_in, if_in
 use Rattle.lt_circuit.specs.Board.{BoardView, state_of, done_of, inputs_list}
 use Rattle.lt_net.proofs.Kept.{update_same}
 use Rattle.lt_net.proofs.Jobs.{job_of-code}
-use Rattle.lt_net.proofs.Shape.{eq_false}
 use Rattle.lt_circuit.specs.declared.task.Prior.{Prior}
 use Rattle.lt_circuit.specs.declared.task.Task.{Task}
 use Rattle.lt_circuit.specs.Circuit.{AreTallies}

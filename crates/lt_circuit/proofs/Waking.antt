@@ -8,15 +8,14 @@ use Rattle.lt_net.proofs.Equal.{marks_decides}
 use Rattle.lt_net.specs.declared.job.JobState.{JobState}
 use Rattle.lt_net.specs.declared.job.JobState.TheVariants.{Clean, Pending, Running, Dirty}
 use Rattle.lt_circuit.specs.declared.cells.Node.{Node}
-use Rattle.lt_net.specs.Net.{Cell, Correction, Effect, same_cell, has_cell, same_at, woken}
+use Rattle.lt_net.specs.Net.{Net, State, Cell, Correction, Effect, same_cell, has_cell, same_at, woken}
 use Rattle.lt_net.specs.Tree.{tree_of, halved_tree, circuit_net, inputs_of, job_of}
 use Rattle.lt_circuit.specs.Store.{with_value, stored, readers_of, has_code}
 use Rattle.lt_circuit.specs.Board.{BoardView, state_of, board_state, value_in, bare_node, waked, waked_all}
 use Rattle.lt_net.proofs.Jobs.{cell_same, code_of-job}
 use Rattle.lt_net.proofs.Inside.{job_inside}
-use Rattle.std.proofs.lemmas.List.{get_or_default}
 use Rattle.lt_circuit.proofs.Readers.{readers, node_at}
-use Rattle.lt_net.proofs.Shape.{tree_leaves}
+use Rattle.lt_net.proofs.Shape.{eq_true, eq_false, tree_leaves}
 
 -- each of the jobs is in the table
 pub InTable : List ℕ → ℕ → Type 0
@@ -186,38 +185,53 @@ differs a b h = by_case (same_marks a b) refl
     by_case true e = absurd (h ((marks_decides a b).0 e))
     by_case false e = refl
 
--- the code's two ways through a store of an effect
-module _ (does : ℕ → List Mark → List Mark) (b : BoardView) (u : ℕ) (m : List Mark) (old seen : Node)
-    (inside : u + 1 < 2 * b.leaves) (nodes_there : length b.nodes ≡ max (2 * b.leaves - 1) 1) (states_there : length b.states ≡ 3 * (2 * b.leaves - 1))
-    (is : old ≡ get_or b.nodes u old) (is_seen : seen ≡ get_or b.nodes u seen) where
+-- the code's two ways through a store of an effect, and of a correction
+module _ (does : ℕ → List Mark → List Mark) (b : BoardView) (u : ℕ) (m : List Mark)
+    (inside : u + 1 < 2 * b.leaves) (nodes_there : length b.nodes ≡ max (2 * b.leaves - 1) 1) (states_there : length b.states ≡ 3 * (2 * b.leaves - 1)) where
   some : 0 < b.leaves
   some = omega (arith, inside)
 
   there : u < length b.nodes
   there = omega (arith, inside, nodes_there)
 
-  old_is : old ≡ get_or b.nodes u bare_node
-  old_is = is ∙ get_or_default b.nodes u old bare_node there
+  abbrev with_effect : Node
+  with_effect = record (get_or b.nodes u bare_node) { effect = m }
 
-  seen_is : seen ≡ get_or b.nodes u bare_node
-  seen_is = is_seen ∙ get_or_default b.nodes u seen bare_node there
+  abbrev with_correction : Node
+  with_correction = record (get_or b.nodes u bare_node) { correction = m }
 
-  pub effect_changed : (seen.effect ≡ m → ⊥)
-      → state_of (waked_all (record b { nodes = set b.nodes u (record old { effect = m }) }) (readers_of (halved_tree b.leaves) (Effect u))) ≡ stored (circuit_net does (tree_of b.leaves)) (state_of b) (Effect u) m
-  effect_changed ne = store_changed does b (Effect u) m (set b.nodes u (record old { effect = m })) (effect_written b.nodes u m (record old { effect = m }) there (ap (λ (k : Node). record k { effect = m }) old_is))
-      (differs (value_in b.nodes (Effect u)) m (λ e. ne (ap (λ (k : Node). k.effect) seen_is ∙ e))) some inside
+  pub effect_changed : ((get_or b.nodes u bare_node).effect ≡ m → ⊥)
+      → state_of (waked_all (record b { nodes = set b.nodes u with_effect }) (readers_of (halved_tree b.leaves) (Effect u))) ≡ stored (circuit_net does (tree_of b.leaves)) (state_of b) (Effect u) m
+  effect_changed ne = store_changed does b (Effect u) m (set b.nodes u with_effect) (effect_written b.nodes u m with_effect there refl)
+      (differs (value_in b.nodes (Effect u)) m ne) some inside
       (λ j e. omega (arith, states_there, readers_in_table b.leaves (Effect u) some inside j e))
 
-  pub effect_same : seen.effect ≡ m → state_of (record b { nodes = set b.nodes u (record old { effect = m }) }) ≡ stored (circuit_net does (tree_of b.leaves)) (state_of b) (Effect u) m
-  effect_same e = store_same does b (Effect u) m (set b.nodes u (record old { effect = m })) (effect_written b.nodes u m (record old { effect = m }) there (ap (λ (k : Node). record k { effect = m }) old_is))
-      ((marks_decides (value_in b.nodes (Effect u)) m).1 (sym (ap (λ (k : Node). k.effect) seen_is) ∙ e))
+  pub effect_same : (get_or b.nodes u bare_node).effect ≡ m → state_of (record b { nodes = set b.nodes u with_effect }) ≡ stored (circuit_net does (tree_of b.leaves)) (state_of b) (Effect u) m
+  effect_same e = store_same does b (Effect u) m (set b.nodes u with_effect) (effect_written b.nodes u m with_effect there refl)
+      ((marks_decides (value_in b.nodes (Effect u)) m).1 e)
 
-  pub correction_changed : (seen.correction ≡ m → ⊥)
-      → state_of (waked_all (record b { nodes = set b.nodes u (record old { correction = m }) }) (readers_of (halved_tree b.leaves) (Correction u))) ≡ stored (circuit_net does (tree_of b.leaves)) (state_of b) (Correction u) m
-  correction_changed ne = store_changed does b (Correction u) m (set b.nodes u (record old { correction = m })) (correction_written b.nodes u m (record old { correction = m }) there (ap (λ (k : Node). record k { correction = m }) old_is))
-      (differs (value_in b.nodes (Correction u)) m (λ e. ne (ap (λ (k : Node). k.correction) seen_is ∙ e))) some inside
+  pub correction_changed : ((get_or b.nodes u bare_node).correction ≡ m → ⊥)
+      → state_of (waked_all (record b { nodes = set b.nodes u with_correction }) (readers_of (halved_tree b.leaves) (Correction u))) ≡ stored (circuit_net does (tree_of b.leaves)) (state_of b) (Correction u) m
+  correction_changed ne = store_changed does b (Correction u) m (set b.nodes u with_correction) (correction_written b.nodes u m with_correction there refl)
+      (differs (value_in b.nodes (Correction u)) m ne) some inside
       (λ j e. omega (arith, states_there, readers_in_table b.leaves (Correction u) some inside j e))
 
-  pub correction_same : seen.correction ≡ m → state_of (record b { nodes = set b.nodes u (record old { correction = m }) }) ≡ stored (circuit_net does (tree_of b.leaves)) (state_of b) (Correction u) m
-  correction_same e = store_same does b (Correction u) m (set b.nodes u (record old { correction = m })) (correction_written b.nodes u m (record old { correction = m }) there (ap (λ (k : Node). record k { correction = m }) old_is))
-      ((marks_decides (value_in b.nodes (Correction u)) m).1 (sym (ap (λ (k : Node). k.correction) seen_is) ∙ e))
+  pub correction_same : (get_or b.nodes u bare_node).correction ≡ m → state_of (record b { nodes = set b.nodes u with_correction }) ≡ stored (circuit_net does (tree_of b.leaves)) (state_of b) (Correction u) m
+  correction_same e = store_same does b (Correction u) m (set b.nodes u with_correction) (correction_written b.nodes u m with_correction there refl)
+      ((marks_decides (value_in b.nodes (Correction u)) m).1 e)
+
+-- the marks stand there already
+pub store_there : (does : ℕ → List Mark → List Mark) (b : BoardView) (x : Cell) (m : List Mark) → value_in b.nodes x ≡ m → state_of b ≡ stored (circuit_net does (tree_of b.leaves)) (state_of b) x m
+store_there does b x m e = store_same does b x m b.nodes (λ y. by_case y (same_cell y x) refl) ((marks_decides (value_in b.nodes x) m).1 e)
+  where
+    by_case : (y : Cell) (t : Bool) → same_cell y x ≡ t → value_in b.nodes y ≡ (if t then m else value_in b.nodes y)
+    by_case y true f = ap (value_in b.nodes) (cell_same y x f) ∙ e
+    by_case y false f = refl
+
+-- after a store at one of two cells both have the marks, where the other had them
+pub both_have : (net : Net) (s : State) (v : ℕ) (m : List Mark) → m ≡ s.value (Correction v)
+    → (stored net s (Correction (v + 1)) m).value (Correction (v + 1)) ≡ (stored net s (Correction (v + 1)) m).value (Correction v)
+both_have net s v m e =
+    let here : (v + 1 == v + 1) ≡ true = eq_true (v + 1) in
+    let other : (v == v + 1) ≡ false = eq_false v (v + 1) (omega arith) in
+    rw (here, other) e

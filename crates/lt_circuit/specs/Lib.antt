@@ -1,4 +1,7 @@
 pub mod Board
+pub mod Jobs
+pub mod Nodes
+pub mod Holders
 pub mod Store
 pub mod Entry
 pub mod Job

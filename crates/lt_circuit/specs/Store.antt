@@ -1,5 +1,5 @@
 -- A finish in steps: the claim ends, each output is stored, and a leaf keeps its correction.
-use Rattle.std.specs.Prelude.{ℕ, ◌*◌, ◌+◌, Bool, false, if◌then◌else◌, List, [], ◌∷◌, Option, Some, None, ◌==◌, ◌||◌}
+use Rattle.std.specs.Prelude.{ℕ, ◌+◌, Bool, false, if◌then◌else◌, List, [], ◌∷◌, Option, Some, None, ◌==◌, ◌||◌}
 use Rattle.lt_model.specs.declared.mark.Mark.{Mark}
 use Rattle.lt_net.specs.Net.{Cell, Correction, Effect, Net, State, Claim, same_cell, same_at, woken, update, status_ended}
 use Rattle.lt_net.specs.Tree.{Tree, right_of, parent_of, leaf_at, code_of}

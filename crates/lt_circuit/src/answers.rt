@@ -1,5 +1,5 @@
 //! What a circuit tells. It takes no memory.
-ghost use Rattle.std.specs.Prelude.{◌≡◌, ◌≢◌, ◌≤◌, ◌<◌, ◌^◌, ℕ, [], None, Some, IfSome, IsTrue, ◌↔◌, slice_index_or};
+ghost use Rattle.std.specs.Prelude.{true, false, ◌≡◌, ◌≢◌, ◌≤◌, ◌<◌, ◌^◌, ℕ, [], None, Some, IfSome, IsTrue, ◌↔◌, slice_index_or};
 ghost use Rattle.lt_net.specs.declared.job.JobState.TheVariants.{Pending};
 ghost use Rattle.lt_circuit.specs.Board.{standing};
 ghost use Rattle.lt_net.specs.Net.{IsSettled, Effect};
@@ -23,29 +23,42 @@ impl<W: LeafWork> Circuit<W> {
         &self.journal
     }
 
-    /// Whether no job is Pending, Running or Dirty.
-    pub fn settled(&self) -> bool
-        ensures { IsTrue result ↔ IsSettled (state self.now) }
-    {
-        self.board.is_settled()
-    }
-
-    /// How many claims stand. Where none does and no job is Pending, the circuit is settled.
+    /// How many claims stand. Where none does and no job is Pending, the circuit is settled, and only there.
     pub fn in_flight(&self) -> u32
         ensures count { result ≡ standing self.now.board.claims }
         ensures few { result ≤ 16 }
         ensures settled { result ≡ 0 → ((j : ℕ) → (state self.now).status j ≢ Pending) → IsSettled (state self.now) }
+        ensures none { IsSettled (state self.now) → result ≡ 0 }
     {
         self.board.in_flight()
     }
 
-    /// A Pending job, if any.
-    pub(crate) fn next_pending(&self) -> Option<JobName>
-        ensures some { IfSome result (λ job. (state self.now).status (code_of job) ≡ Pending) }
-        ensures small { IfSome result (λ job. code_of job < 2 ^ 32) }
-        ensures none { result ≡ None → (job : ℕ) → (state self.now).status job ≢ Pending }
+    /// Whether no job is Pending, Running or Dirty.
+    pub fn settled(&self) -> bool
+        ensures { IsTrue result ↔ IsSettled (state self.now) }
     {
-        self.board.next_pending()
+        if self.in_flight() > 0 {
+            return false;
+        }
+        !self.has_pending()
+    }
+
+    // Whether a job is Pending.
+    fn has_pending(&self) -> bool
+        ensures some { result ≡ true → (job : ℕ) × ((state self.now).status job ≡ Pending) }
+        ensures none { result ≡ false → (job : ℕ) → (state self.now).status job ≢ Pending }
+    {
+        self.board.has_pending()
+    }
+
+    /// A Pending job for the worker, if any.
+    pub(crate) fn next_pending(&mut self, worker: u32) -> Option<JobName>
+        ensures same { self.new ≡ self.old }
+        ensures some { IfSome result (λ job. (state self.old).status (code_of job) ≡ Pending) }
+        ensures small { IfSome result (λ job. code_of job < 2 ^ 32) }
+        ensures none { result ≡ None → (job : ℕ) → (state self.old).status job ≢ Pending }
+    {
+        self.board.next_pending(worker)
     }
 
     /// Whether the job is Pending. A name that is no job's of the circuit isn't.

@@ -4,34 +4,35 @@
 ghost use Rattle.std.specs.Prelude.{◌≡◌, ℕ, ◌+◌, ◌*◌, ◌<◌, ◌≤◌, List, IfOk, Some, None};
 ghost use Rattle.lt_circuit.specs.Board.{BoardView, IsBoard};
 
-use crate::cells::{Held, Node};
+use crate::holders::Holders;
+use crate::jobs::Jobs;
+use crate::nodes::Nodes;
 use lt_delta::Marks;
-use lt_net::JobState;
 use std::marker::Model;
 
-/// The tables: per node, per job's code, per leaf, per worker.
+/// The tables: per node, per job's code, per leaf, per worker. Below `next_fresh` each leaf was taken as a fresh one, or wasn't one.
 #[derive(Drop)]
 pub struct Board {
     leaves: u32,
-    nodes: Vec<Node>,
-    states: Vec<JobState>,
+    nodes: Nodes,
+    jobs: Jobs,
     done: Vec<Option<Marks>>,
-    claims: Vec<Option<Held>>,
+    holders: Holders,
+    next_fresh: u32,
 }
 
 impl Model for Board {
     ghost Value = { BoardView };
 
-    ghost view = { λ b. record { leaves = b.leaves; nodes = b.nodes.items; states = b.states.items; done = b.done.items; claims = b.claims.items } };
+    ghost view = { λ b. record { leaves = b.leaves; nodes = b.nodes; states = b.jobs; done = b.done.items; claims = b.holders } };
 
-    ghost invariant = { λ b. IsBoard b.leaves b.nodes.items b.states.items b.done.items b.claims.items };
+    ghost invariant = { λ b. IsBoard b.leaves b.nodes b.jobs b.done.items b.holders };
 }
 
+mod choose;
 mod finish;
 mod hold;
 mod inputs;
 mod look;
 mod opening;
 mod store;
-
-pub use opening::nones;

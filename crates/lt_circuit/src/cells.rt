@@ -33,3 +33,11 @@ pub struct Captured {
     pub given: Inputs,
     pub prior: Option<Marks>,
 }
+
+/// What stood in the tables where a finish put something else.
+#[derive(Drop)]
+pub struct Stood {
+    pub held: Option<Held>,
+    pub first: Marks,
+    pub second: Option<Marks>,
+}

@@ -7,8 +7,9 @@ ghost use Rattle.lt_net.specs.Tree.{circuit_net, tree_of};
 ghost use Rattle.lt_net.specs.Alone.{IsUnclaimed};
 ghost use Rattle.lt_circuit.specs.Circuit.{CircuitView, IsCircuit, state};
 
-use crate::board::{Board, nones};
+use crate::board::Board;
 use crate::entry::Entry;
+use crate::holders::nones;
 use crate::task::Prior;
 use crate::work::LeafWork;
 use lt_face::NoMemory;
@@ -46,7 +47,8 @@ impl<W: LeafWork> Circuit<W> {
     {
         let board = Board::opening(alloc, leaves)?;
         let tallies = nones(alloc, leaves as usize)?;
-        let journal = Vec::new(alloc);
+        // What one worker writes down, and some more: so that the turns seldom ask for memory.
+        let journal = Vec::with_capacity(alloc, 8 * leaves as usize + 32)?;
         Ok(Circuit {
             work,
             board,

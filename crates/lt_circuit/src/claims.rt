@@ -57,7 +57,7 @@ impl<W: LeafWork> Circuit<W> {
         ensures answer { IsAnswer (W.does self.old.work) self.old self.new worker result }
         ensures coded { IsCoded result }
     {
-        match self.next_pending() {
+        match self.next_pending(worker) {
             Some(name) => match self.take(worker, name) {
                 Ok(job) => Claim::Job(job),
                 Err(_refused) => Claim::NoMemory,

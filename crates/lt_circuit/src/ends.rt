@@ -1,14 +1,16 @@
 //! The ends of claims. They take no memory.
 ghost use Rattle.std.specs.Prelude.{◌≡◌, ◌≢◌, ◌<◌, [], ◌∷◌, ◌++◌, ℕ, List, Some, None, length, slice_set};
 ghost use Rattle.lt_model.specs.declared.mark.Mark.{Mark};
-ghost use Rattle.lt_net.specs.Net.{Claim, abandoned, finished};
+ghost use Rattle.lt_net.specs.Net.{Claim, abandoned, finished, read};
 ghost use Rattle.lt_net.specs.Tree.{circuit_net, code_of, inputs_of, tree_of};
 ghost use Rattle.lt_circuit.specs.declared.entry.Event.TheVariants.{Finish, Abandon};
+ghost use Rattle.lt_net.specs.declared.job.JobState.TheVariants.{Running};
 ghost use Rattle.lt_circuit.specs.Board.{state_of};
 ghost use Rattle.lt_circuit.specs.Circuit.{state};
 ghost use Rattle.lt_circuit.specs.Job.{claim_of_job, claim_of_output, done_inputs, done_name, name_of_job, name_of_output, Gave, tallies_back, tallies_done};
 
 use crate::board::Board;
+use crate::cells::Stood;
 use crate::circuit::Circuit;
 use crate::entry::{Entry, Event};
 use crate::job::Job;
@@ -23,14 +25,15 @@ use std::sync::Arc;
 #[derive(Drop)]
 pub struct Spent<W: LeafWork> {
     work: Arc<W, Global>,
-    first: Marks,
-    second: Option<Marks>,
+    stood: Stood,
+    used: Used<W::Tally>,
 }
 
-/// The marks that stood where a job's outputs stand now.
+/// What a job used that stands nowhere now: a leaf's tally of before, and inputs.
 #[derive(Drop)]
-struct Stood {
-    first: Marks,
+struct Used<T> {
+    prior: Option<Prior<T>>,
+    first: Option<Marks>,
     second: Option<Marks>,
 }
 
@@ -40,9 +43,11 @@ fn store<T: Drop>(
     tallies: &mut Vec<Option<Prior<T>>>,
     worker: u32,
     did: Done<T>,
-) -> Stood
+) -> (Stood, Used<T>)
     requires worker { worker < 16 }
     requires job { inputs_of (tree_of board.old.leaves) (done_name did) ≢ [] }
+    requires current { (state_of board.old).status (code_of (done_name did)) ≡ Running →
+        done_inputs did ≡ read (state_of board.old).value (inputs_of (tree_of board.old.leaves) (done_name did)) }
     requires tallies { length tallies.old.items ≡ board.old.leaves }
     ensures leaves { board.new.leaves ≡ board.old.leaves }
     ensures claims { board.new.claims ≡ slice_set board.old.claims worker None }
@@ -55,39 +60,45 @@ fn store<T: Drop>(
             leaf,
             tally,
             kept,
-            prior: _prior,
+            prior,
             effect,
         } => {
-            let first = board.finish_leaf(worker, leaf, kept, effect);
+            let stood = board.finish_leaf(worker, leaf, kept, effect);
             tallies[leaf as usize] = Some(tally);
-            Stood {
-                first,
+            let used = Used {
+                prior,
+                first: None,
                 second: None,
-            }
+            };
+            (stood, used)
         }
         Done::Merge {
             node,
-            left: _left,
-            right: _right,
+            left,
+            right,
             effect,
         } => {
-            let first = board.finish_merge(worker, node, effect);
-            Stood {
-                first,
-                second: None,
-            }
+            let stood = board.finish_merge(worker, node, effect);
+            let used = Used {
+                prior: None,
+                first: Some(left),
+                second: Some(right),
+            };
+            (stood, used)
         }
         Done::Correct {
             node,
             correction,
-            left: _left,
+            left,
             to_right,
         } => {
-            let (left, right) = board.finish_correct(worker, node, correction, to_right);
-            Stood {
-                first: left,
-                second: Some(right),
-            }
+            let stood = board.finish_correct(worker, node, correction, to_right);
+            let used = Used {
+                prior: None,
+                first: Some(left),
+                second: None,
+            };
+            (stood, used)
         }
     }
 }
@@ -108,17 +119,13 @@ impl<W: LeafWork> Circuit<W> {
         let _leaves = self.board.leaves();
         let Output { work, did } = output;
         let job = did.name();
-        let Stood { first, second } = store(&mut self.board, &mut self.tallies, worker, did);
+        let (stood, used) = store(&mut self.board, &mut self.tallies, worker, did);
         self.journal.push_reserved(Entry {
             worker,
             job,
             event: Event::Finish,
         });
-        Spent {
-            work,
-            first,
-            second,
-        }
+        Spent { work, stood, used }
     }
 
     /// The worker gives its job up, and the tally that a leaf's claim took goes back.

@@ -1,31 +1,31 @@
 -- Command lines, by the commands' definition.
-use Rattle.std.proofs.Common.{◌≡◌, refl, List, [], ◌∷◌, Option, Some, None, codes}
+use Rattle.std.proofs.Common.{◌≡◌, false, true, refl, List, [], ◌∷◌, Option, Some, None, codes}
 use Rattle.clap.specs.Words.{Text}
 use Rattle.clap.proofs.OnLiterals.{clap_on_literals}
 use Rattle.lt_command.specs.Command.{command}
 use Rattle.lt_command.specs.declared.words.Command as declared
-use Rattle.lt_command.specs.declared.words.Command.TheVariants.{Run}
+use Rattle.lt_command.specs.declared.words.Command.TheVariants.{Bench, Run}
 
 abbrev asked : List Text → Option declared.Command
 asked words = command (codes "lt_shell" ∷ words)
 
-four_where_no_number : asked (codes "run" ∷ []) ≡ Some (Run 4)
+four_where_no_number : asked (codes "run" ∷ []) ≡ Some (Run 4 false)
 unfolding command clap_on_literals
 four_where_no_number = refl
 
-one : asked (codes "run" ∷ codes "--workers" ∷ codes "1" ∷ []) ≡ Some (Run 1)
+one : asked (codes "run" ∷ codes "--workers" ∷ codes "1" ∷ []) ≡ Some (Run 1 false)
 unfolding command clap_on_literals
 one = refl
 
-sixteen : asked (codes "run" ∷ codes "--workers=16" ∷ []) ≡ Some (Run 16)
+sixteen : asked (codes "run" ∷ codes "--workers=16" ∷ []) ≡ Some (Run 16 false)
 unfolding command clap_on_literals
 sixteen = refl
 
-leading_zero : asked (codes "run" ∷ codes "--workers" ∷ codes "04" ∷ []) ≡ Some (Run 4)
+leading_zero : asked (codes "run" ∷ codes "--workers" ∷ codes "04" ∷ []) ≡ Some (Run 4 false)
 unfolding command clap_on_literals
 leading_zero = refl
 
-plus : asked (codes "run" ∷ codes "--workers" ∷ codes "+4" ∷ []) ≡ Some (Run 4)
+plus : asked (codes "run" ∷ codes "--workers" ∷ codes "+4" ∷ []) ≡ Some (Run 4 false)
 unfolding command clap_on_literals
 plus = refl
 
@@ -57,7 +57,7 @@ help : asked (codes "help" ∷ []) ≡ None
 unfolding command clap_on_literals
 help = refl
 
-end_of_options : asked (codes "run" ∷ codes "--" ∷ []) ≡ Some (Run 4)
+end_of_options : asked (codes "run" ∷ codes "--" ∷ []) ≡ Some (Run 4 false)
 unfolding command clap_on_literals
 end_of_options = refl
 
@@ -76,3 +76,19 @@ no_command = refl
 no_word : command [] ≡ None
 unfolding command clap_on_literals
 no_word = refl
+
+with_marks : asked (codes "run" ∷ codes "--marks" ∷ codes "--workers" ∷ codes "2" ∷ []) ≡ Some (Run 2 true)
+unfolding command clap_on_literals
+with_marks = refl
+
+marks_with_a_value : asked (codes "run" ∷ codes "--marks=true" ∷ []) ≡ None
+unfolding command clap_on_literals
+marks_with_a_value = refl
+
+bench : asked (codes "bench" ∷ codes "--seed" ∷ codes "1" ∷ codes "--items=64" ∷ codes "--programs" ∷ codes "32" ∷ []) ≡ Some (Bench 1 64 32 4)
+unfolding command clap_on_literals
+bench = refl
+
+no_seed : asked (codes "bench" ∷ codes "--items" ∷ codes "1" ∷ codes "--programs" ∷ codes "1" ∷ []) ≡ None
+unfolding command clap_on_literals
+no_seed = refl

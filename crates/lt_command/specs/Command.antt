@@ -1,12 +1,13 @@
 -- What words ask for, by the commands' definition.
-use Rattle.std.specs.Prelude.{◌≤◌, ◌^◌, ◌&&◌, ℕ, Bool, List, Option, Some, None, codes, is_some, if◌then◌else◌, max, min, nat_lt, option_and_then, unwrap_or}
+use Rattle.std.specs.Prelude.{◌≤◌, ◌^◌, ◌&&◌, ℕ, Bool, List, Option, Some, None, codes, false, is_some, if◌then◌else◌, max, min, nat_lt, option_and_then, unwrap_or}
+use Rattle.std.specs.Option.{option_map_or}
 use Rattle.std.specs.Str.{bytes_eq}
 use Rattle.std.specs.Str.Parse.{digits_value, without_leading_plus}
 use Rattle.clap.specs.ValueTests.{is_numeral}
 use Rattle.clap.specs.Walk.{is_empty}
-use Rattle.clap.specs.Words.{Row, Text, fault_of, one_of, subcommand_of}
+use Rattle.clap.specs.Words.{Row, Text, fault_of, first_of, one_of, subcommand_of}
 use Rattle.lt_command.specs.declared.words.Command as declared
-use Rattle.lt_command.specs.declared.words.Command.TheVariants.{Run}
+use Rattle.lt_command.specs.declared.words.Command.TheVariants.{Bench, Run}
 use Rattle.lt_command.specs.Definition as definition
 
 -- the number that a text spells, where it is below 2^k
@@ -16,19 +17,41 @@ number_of k text =
     if is_numeral digits && nat_lt (digits_value 10 digits) (2 ^ k)
     then Some (digits_value 10 digits) else None
 
+-- the number of an option, within its bounds, where another stands for one that isn't given
+abbrev pub number_within : ℕ → ℕ → ℕ → Text → List Row → ℕ
+number_within least most otherwise id rows =
+    max least (min (unwrap_or (option_and_then (number_of 32) (one_of id rows)) otherwise) most)
+
 -- how many workers a command's matches ask for: 4 where they don't say
 abbrev pub workers_in : List Row → ℕ
-workers_in rows =
-    max 1 (min (unwrap_or (option_and_then (number_of 32) (one_of (codes "workers") rows)) 4) 16)
+workers_in = number_within 1 16 4 (codes "workers")
 
--- it has from 1 to 16 workers
-abbrev pub HasWorkers : declared.Command → Type 0
-HasWorkers (Run workers) = (1 ≤ workers) × (workers ≤ 16)
+-- whether they ask for the marks
+abbrev pub marks_in : List Row → Bool
+marks_in rows = option_map_or (λ text. bytes_eq text (codes "true")) (first_of (codes "marks") rows) false
+
+abbrev pub seed_in : List Row → ℕ
+seed_in rows = unwrap_or (option_and_then (number_of 64) (one_of (codes "seed") rows)) 0
+
+abbrev pub items_in : List Row → ℕ
+items_in = number_within 1 16384 1 (codes "items")
+
+abbrev pub programs_in : List Row → ℕ
+programs_in = number_within 1 65536 1 (codes "programs")
+
+-- it has from 1 to 16 workers, from 1 to 16384 items and from 1 to 65536 programs
+abbrev pub IsWithin : declared.Command → Type 0
+IsWithin (Run workers marks) = (1 ≤ workers) × (workers ≤ 16)
+IsWithin (Bench seed items programs workers) =
+    (1 ≤ items) × (items ≤ 16384) × (1 ≤ programs) × (programs ≤ 65536) × (1 ≤ workers) × (workers ≤ 16)
 
 -- the command whose matches these are
 abbrev pub command_in : Option (Text × List Row) → Option declared.Command
 command_in None = None
-command_in (Some p) = if bytes_eq p.0 (codes "run") then Some (Run (workers_in p.1)) else None
+command_in (Some p) =
+    if bytes_eq p.0 (codes "run") then Some (Run (workers_in p.1) (marks_in p.1))
+    else if bytes_eq p.0 (codes "bench") then Some (Bench (seed_in p.1) (items_in p.1) (programs_in p.1) (workers_in p.1))
+    else None
 
 -- the command that the words ask for; none where the definition doesn't take them
 unfoldable pub command : List Text → Option declared.Command

@@ -1,7 +1,8 @@
 -- The commands, as the parser of command lines reads them.
 use Rattle.std.specs.Prelude.{Some, codes, pos, true}
 use Rattle.clap.specs.Words.{App, Rule, new_app, new_rule, with_rule, with_subcommand}
-use Rattle.clap.specs.declared.builder.value_parser.ValueParser.TheVariants.{Signed}
+use Rattle.clap.specs.declared.builder.value_parser.ValueParser.TheVariants.{Signed, Unsigned}
+use Rattle.clap.specs.declared.builder.action.ArgAction.TheVariants.{SetTrue}
 
 -- `--workers N`, with N from 1 to 16
 abbrev pub workers : Rule
@@ -10,9 +11,44 @@ workers = record (new_rule (codes "workers")) {
   parser = Some (Signed (pos 1) (pos 16));
 }
 
+-- `--marks`
+abbrev pub marks : Rule
+marks = record (new_rule (codes "marks")) {
+  long = Some (codes "marks");
+  action = Some SetTrue;
+}
+
+-- `--seed S`, with S below 2^64
+abbrev pub seed : Rule
+seed = record (new_rule (codes "seed")) {
+  long = Some (codes "seed");
+  required = true;
+  parser = Some (Unsigned 0 18446744073709551615);
+}
+
+-- `--items I`, with I from 1 to 16384
+abbrev pub items : Rule
+items = record (new_rule (codes "items")) {
+  long = Some (codes "items");
+  required = true;
+  parser = Some (Signed (pos 1) (pos 16384));
+}
+
+-- `--programs P`, with P from 1 to 65536
+abbrev pub programs : Rule
+programs = record (new_rule (codes "programs")) {
+  long = Some (codes "programs");
+  required = true;
+  parser = Some (Signed (pos 1) (pos 65536));
+}
+
 -- `run`
 abbrev pub run : App
-run = with_rule (new_app (codes "run")) workers
+run = with_rule (with_rule (new_app (codes "run")) workers) marks
+
+-- `bench`
+abbrev pub bench : App
+bench = with_rule (with_rule (with_rule (with_rule (new_app (codes "bench")) seed) items) programs) workers
 
 -- one of the commands is required
 abbrev pub program : App
@@ -21,4 +57,4 @@ program =
     record a { top = record a.top { subcommand_required = true } }
 
 abbrev pub commands : App
-commands = with_subcommand program run.top
+commands = with_subcommand (with_subcommand program run.top) bench.top

@@ -4,7 +4,7 @@ ghost use Rattle.clap.specs.Words.{app_of, rule_of};
 ghost use Rattle.clap.specs.declared.builder.command.Command.TheViews.{out-Command as fields_of};
 ghost use Rattle.lt_command.specs.Definition as definition;
 
-use clap::{Arg, Command, value_parser};
+use clap::{Arg, ArgAction, Command, value_parser};
 use std::alloc::{AllocError, Global};
 
 // `--workers N`: how many workers run a batch.
@@ -17,12 +17,67 @@ fn workers<'a>(alloc: Global) -> Arg<'a>
         .value_parser(value_parser!(u32).range(1..=16))
 }
 
+// `--marks`: the marks of each program that is done are told too.
+fn marks<'a>(alloc: Global) -> Arg<'a>
+    ensures rule { rule_of result ≡ definition.marks }
+    ensures local { result.global ≡ false }
+{
+    Arg::new(alloc, "marks")
+        .long("marks")
+        .action(ArgAction::SetTrue)
+}
+
+// `--seed S`: where the draws of a generated script begin.
+fn seed<'a>(alloc: Global) -> Arg<'a>
+    ensures rule { rule_of result ≡ definition.seed }
+    ensures local { result.global ≡ false }
+{
+    Arg::new(alloc, "seed")
+        .long("seed")
+        .required(true)
+        .value_parser(value_parser!(u64))
+}
+
+// `--items I`: how many things a generated script has in stock.
+fn items<'a>(alloc: Global) -> Arg<'a>
+    ensures rule { rule_of result ≡ definition.items }
+    ensures local { result.global ≡ false }
+{
+    Arg::new(alloc, "items")
+        .long("items")
+        .required(true)
+        .value_parser(value_parser!(u32).range(1..=16384))
+}
+
+// `--programs P`: how many programs of a generated script buy.
+fn programs<'a>(alloc: Global) -> Arg<'a>
+    ensures rule { rule_of result ≡ definition.programs }
+    ensures local { result.global ≡ false }
+{
+    Arg::new(alloc, "programs")
+        .long("programs")
+        .required(true)
+        .value_parser(value_parser!(u32).range(1..=65536))
+}
+
 // `run`: a script is read and its report written.
 fn run<'a>(alloc: Global) -> Result<Command<'a>, AllocError>
     ensures app { IfOk result (λ command. app_of command ≡ definition.run) }
     ensures local { IfOk result (λ command. (fields_of command).has_globals ≡ false) }
 {
-    Command::new(alloc, "run").arg(workers(alloc))
+    let run = Command::new(alloc, "run").arg(workers(alloc))?;
+    run.arg(marks(alloc))
+}
+
+// `bench`: a generated script is run and its summary written.
+fn bench<'a>(alloc: Global) -> Result<Command<'a>, AllocError>
+    ensures app { IfOk result (λ command. app_of command ≡ definition.bench) }
+    ensures local { IfOk result (λ command. (fields_of command).has_globals ≡ false) }
+{
+    let bench = Command::new(alloc, "bench").arg(seed(alloc))?;
+    let bench = bench.arg(items(alloc))?;
+    let bench = bench.arg(programs(alloc))?;
+    bench.arg(workers(alloc))
 }
 
 /// The commands. The words name one of them.
@@ -30,6 +85,8 @@ pub fn commands<'a>(alloc: Global) -> Result<Command<'a>, AllocError>
     ensures { IfOk result (λ command. app_of command ≡ definition.commands) }
 {
     let run = run(alloc)?;
+    let bench = bench(alloc)?;
     let program = Command::new(alloc, "lt_shell").subcommand_required(true);
-    program.subcommand(run)
+    let program = program.subcommand(run)?;
+    program.subcommand(bench)
 }

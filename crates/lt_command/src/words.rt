@@ -1,7 +1,7 @@
 //! What words ask for.
 ghost use Rattle.std.specs.Prelude.{◌≡◌, ◌≤◌, IfOk, IfSome, map, string_bytes};
 ghost use Rattle.clap.specs.Words.{found_of, rows_of, subcommand_rows_of};
-ghost use Rattle.lt_command.specs.Command.{command, command_in, HasWorkers, workers_in};
+ghost use Rattle.lt_command.specs.Command.{command, command_in, marks_in, number_within, seed_in, IsWithin};
 
 use crate::definition::commands;
 use clap::ArgMatches;
@@ -13,45 +13,77 @@ use std::alloc::Global;
 #[derive(Clone, Copy, Debug, PartialEq, Eq)]
 pub enum Command {
     /// Reads a script and writes its report; so many workers run each batch.
-    Run { workers: u32 },
+    Run {
+        workers: u32,
+        marks: bool,
+    },
+    /// Runs a generated script and writes its summary.
+    Bench {
+        seed: u64,
+        items: u32,
+        programs: u32,
+        workers: u32,
+    },
 }
 
-/// How many workers there are where the words don't say.
-const WORKERS: u32 = 4;
-
-// How many workers a command's matches ask for. The parser takes no number but 1 to 16.
-fn workers_of(matches: &ArgMatches<'_>) -> u32
-    ensures value { result ≡ workers_in (rows_of (found_of matches.now)) }
-    ensures some { 1 ≤ result }
-    ensures few { result ≤ 16 }
+// The number of an option, where another stands for one that isn't given. The parser takes none outside these bounds.
+fn number_of(matches: &ArgMatches<'_>, id: &str, otherwise: u32, least: u32, most: u32) -> u32
+    requires { least ≤ most }
+    ensures value { result ≡ number_within least most otherwise id.now (rows_of (found_of matches.now)) }
+    ensures least { least ≤ result }
+    ensures most { result ≤ most }
 {
     matches
-        .get_one::<u32>("workers")
-        .unwrap_or(WORKERS)
-        .clamp(1, 16)
+        .get_one::<u32>(id)
+        .unwrap_or(otherwise)
+        .clamp(least, most)
+}
+
+// Whether the marks are asked for.
+fn has_marks(matches: &ArgMatches<'_>) -> bool
+    ensures { result ≡ marks_in (rows_of (found_of matches.now)) }
+{
+    match matches.get_str("marks") {
+        Some(text) => text == "true",
+        None => false,
+    }
+}
+
+fn seed_of(matches: &ArgMatches<'_>) -> u64
+    ensures { result ≡ seed_in (rows_of (found_of matches.now)) }
+{
+    matches.get_one::<u64>("seed").unwrap_or(0)
 }
 
 // The command that a parse came to.
 fn command_met(matches: &ArgMatches<'_>) -> Option<Command>
     ensures value { result ≡ command_in (subcommand_rows_of matches.now) }
-    ensures workers { IfSome result HasWorkers }
+    ensures within { IfSome result IsWithin }
 {
     let Some((name, inner)) = matches.subcommand() else {
         return None;
     };
     if name == "run" {
-        Some(Command::Run {
-            workers: workers_of(inner),
-        })
-    } else {
-        None
+        return Some(Command::Run {
+            workers: number_of(inner, "workers", 4, 1, 16),
+            marks: has_marks(inner),
+        });
     }
+    if name == "bench" {
+        return Some(Command::Bench {
+            seed: seed_of(inner),
+            items: number_of(inner, "items", 1, 1, 16384),
+            programs: number_of(inner, "programs", 1, 1, 65536),
+            workers: number_of(inner, "workers", 4, 1, 16),
+        });
+    }
+    None
 }
 
 /// What the words ask for, by the commands' definition. None where it doesn't take them; a call for help isn't taken.
 pub fn command_of(alloc: Global, words: &[String]) -> Result<Option<Command>, NoMemory>
     ensures value { IfOk result (λ asked. asked ≡ command (map string_bytes words.now)) }
-    ensures workers { IfOk result (λ asked. IfSome asked HasWorkers) }
+    ensures within { IfOk result (λ asked. IfSome asked IsWithin) }
 {
     let commands = commands(alloc)?;
     match commands.try_get_matches_from(words) {

@@ -29,7 +29,7 @@ above_key m k (n ∷ marks) h above = (go (mark_cmp m k) refl, above_key m k mar
     go Equal e = sym (mark_total.congr m k n e) ∙ above.0
     go Greater e = mark_total.trans k m n (mark_back m k e) above.0
 
-less_is : (o : Ordering) → is_lt o ≡ true → o ≡ Less
+pub less_is : (o : Ordering) → is_lt o ≡ true → o ≡ Less
 less_is Less h = refl
 less_is Equal h = absurd (true≢false (sym h))
 less_is Greater h = absurd (true≢false (sym h))
@@ -84,7 +84,7 @@ parted (x ∷ xs) k up zero (suc j) d le within h = before_lower x (get_or xs j 
 parted (x ∷ xs) k up (suc i) zero d le within h = absurd (omega arith)
 parted (x ∷ xs) k up (suc i) (suc j) d le within h = parted xs k up.1 i j d (omega arith) (omega arith) h
 
-all_owned : {X : Type 0} (f : X → Mark) (P : Mark → Type 0) (xs : List X) (i : ℕ) → i ≤ length xs → ((k : ℕ) (d : X) → 0 ≤ k → k < i → P (f (get_or xs k d))) → AllByRecursion P (take i (map f xs))
+pub all_owned : {X : Type 0} (f : X → Mark) (P : Mark → Type 0) (xs : List X) (i : ℕ) → i ≤ length xs → ((k : ℕ) (d : X) → 0 ≤ k → k < i → P (f (get_or xs k d))) → AllByRecursion P (take i (map f xs))
 all_owned f P xs zero le at = tt
 all_owned f P [] (suc i) le at = tt
 all_owned f P (x ∷ xs) (suc i) le at = (at 0 x (omega arith) (omega arith), all_owned f P xs i (omega arith) (λ k d low lt. at (suc k) d (omega arith) (omega arith)))

@@ -8,3 +8,4 @@ pub mod Laid
 pub mod Kept
 pub mod Finds
 pub mod Edited
+pub mod Puts

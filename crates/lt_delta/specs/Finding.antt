@@ -1,7 +1,7 @@
 -- The place of a row among marks.
-use Rattle.std.specs.Prelude.{◌≡◌, ℕ, ◌≤◌, Bool, true, false, length, take, drop}
+use Rattle.std.specs.Prelude.{◌≡◌, ℕ, zero, suc, ◌≤◌, Bool, true, false, [], ◌∷◌, length, take, drop}
 use Rattle.std.specs.List.{AllByRecursion}
-use Rattle.std.specs.Ordering.{is_lt}
+use Rattle.std.specs.Ordering.{is_lt, is_eq}
 use Rattle.lt_face.specs.State.{Row}
 use Rattle.lt_model.specs.declared.mark.Mark.{Mark}
 use Rattle.lt_model.specs.Marks.{Marks, mark_cmp}
@@ -15,3 +15,9 @@ pub record IsPlaceFor (marks : Marks) (relation : ℕ) (row : Row) (i : ℕ) : T
   pub within : i ≤ length marks
   pub before : AllByRecursion (λ m. is_before relation row m ≡ true) (take i marks)
   pub after : AllByRecursion (λ m. is_before relation row m ≡ false) (drop i marks)
+
+-- the mark at the place is on the row of m
+abbrev pub tied_at : Marks → ℕ → Mark → Bool
+tied_at [] i m = false
+tied_at (n ∷ marks) zero m = is_eq (mark_cmp n m)
+tied_at (n ∷ marks) (suc i) m = tied_at marks i m

@@ -11,7 +11,7 @@ use std::cmp::Ordering;
 use std::sync::Arc;
 
 /// Whether the mark is on a row before this one.
-fn is_before(mark: &Mark, relation: u32, row: &Row) -> bool
+pub(crate) fn is_before(mark: &Mark, relation: u32, row: &Row) -> bool
     ensures { result ≡ comes_before relation row.now mark.now }
 {
     match mark.relation.cmp(&relation) {
@@ -21,8 +21,8 @@ fn is_before(mark: &Mark, relation: u32, row: &Row) -> bool
     }
 }
 
-/// The place of the first mark that isn't on a row before this one.
-fn place_for(marks: &[Arc<Mark>], relation: u32, row: &Row) -> usize
+/// The place of the first mark that isn't on a row before this one, by a binary search.
+pub(crate) fn place_for(marks: &[Arc<Mark>], relation: u32, row: &Row) -> usize
     requires { AreMarks (map arc_value marks.now) }
     ensures { IsPlaceFor (map arc_value marks.now) relation row.now result }
 {

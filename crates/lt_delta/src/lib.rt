@@ -1,6 +1,7 @@
 //! Marks: what a program writes, as rows that come into their relations or go.
 #![tactic(auto)]
 
+mod adding;
 mod edits;
 mod finding;
 pub mod laws;

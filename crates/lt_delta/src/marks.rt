@@ -1,10 +1,13 @@
 //! `Marks`: a list of marks, shared by count, and each of them too.
-ghost use Rattle.std.specs.Prelude.{◌≡◌, ◌<◌, ◌↔◌, [], map, length, slice_get, Some, IfOk, IsTrue};
+ghost use Rattle.std.specs.Prelude.{◌≡◌, ◌<◌, ◌≤◌, ◌↔◌, ℕ, [], true, false, map, length, slice_get, Some, IfOk, OnOk, OnErr, IsTrue};
 ghost use Rattle.std.specs.Arc.{arc_value};
+ghost use Rattle.lt_model.specs.declared.mark.Mark.{Mark as MarkView};
 ghost use Rattle.lt_model.specs.Laws.{mark_on};
 ghost use Rattle.lt_model.specs.Marks.{AreMarks, and_then};
+ghost use Rattle.lt_delta.specs.Finding.{is_before};
 
-use crate::finding::sign_on;
+use crate::adding::put_all;
+use crate::finding::{place_for, sign_on};
 use crate::merging::merged;
 use crate::order::is_same;
 use crate::sorting::settled;
@@ -14,6 +17,9 @@ use lt_model::mark::{Mark, MarkList};
 use std::alloc::Global;
 use std::marker::Model;
 use std::sync::Arc;
+
+/// So many marks are put among others one by one.
+const FEW: usize = 8;
 
 /// Marks, strictly ascending by (relation, row): one for each row at most.
 #[derive(Drop)]
@@ -78,6 +84,26 @@ impl Marks {
         Ok(Marks { list })
     }
 
+    /// Puts the later marks among these, each in place of the one on its row: a few one by one, and more by a merge. Want of
+    /// memory leaves the marks as they were.
+    pub fn add(&mut self, later: &Marks) -> Result<(), NoMemory>
+        ensures ok { OnOk result (self.new ≡ and_then self.old later.now) }
+        ensures err { OnErr result (self.new ≡ self.old) }
+    {
+        if later.len() <= FEW {
+            let there: &mut Arc<Vec<Arc<Mark>>> = &mut self.list;
+            match Arc::get_mut(there) {
+                Some(list) => {
+                    put_all(list, &later.list)?;
+                    return Ok(());
+                }
+                None => {}
+            }
+        }
+        *self = Marks::and_then(self, later)?;
+        Ok(())
+    }
+
     /// How many marks there are. They ascend strictly.
     pub fn len(&self) -> usize
         ensures count { result ≡ length self.now }
@@ -100,6 +126,15 @@ impl Marks {
         ensures { result ≡ mark_on self.now relation row.now }
     {
         sign_on(&self.list, relation, row)
+    }
+
+    /// The place of the first mark that isn't on a row before this one, by a binary search.
+    pub fn place_for(&self, relation: u32, row: &Row) -> usize
+        ensures within { result ≤ length self.now }
+        ensures before { (p : ℕ) (m : MarkView) → slice_get self.now p ≡ Some m → p < result → is_before relation row.now m ≡ true }
+        ensures after { (p : ℕ) (m : MarkView) → slice_get self.now p ≡ Some m → result ≤ p → is_before relation row.now m ≡ false }
+    {
+        place_for(&self.list, relation, row)
     }
 
     /// Whether both have the same marks.

@@ -1,6 +1,8 @@
 //! `FlatOver`: a sorted vector of rows with edits laid over it.
-ghost use Rattle.std.specs.Prelude.{◌≡◌, IfOk, OnOk, OnErr};
+ghost use Rattle.std.specs.Prelude.{◌≡◌, fold, IfOk, OnOk, OnErr};
+ghost use Rattle.std.specs.List.{AllByRecursion};
 ghost use Rattle.lt_face.specs.Rows.{IsRow, IsRowSet, with_row, without_row};
+ghost use Rattle.lt_flat.specs.Flat.{kept};
 ghost use Rattle.lt_over.specs.Overlaid.{overlaid};
 
 use crate::listing::listed;
@@ -87,6 +89,53 @@ impl FlatOver {
     {
         let set = self.set.laid(gone, come)?;
         Ok(FlatOver { set })
+    }
+}
+
+/// So many rows are put in or taken out one by one, and more by a merge.
+const SINGLE: usize = 8;
+
+/// Takes out each of the rows.
+fn take_all(set: &mut FlatOver, rows: &[Row]) -> Result<(), NoMemory>
+    requires { AllByRecursion (IsRow set.old.width) rows.now }
+    ensures rows { OnOk result (set.new.rows ≡ kept set.old.rows rows.now) }
+    ensures width { set.new.width ≡ set.old.width }
+{
+    for row in rows {
+        set.take(row)?;
+    }
+    Ok(())
+}
+
+/// Puts in each of the rows.
+fn put_all(set: &mut FlatOver, rows: &[Row]) -> Result<(), NoMemory>
+    requires { AllByRecursion (IsRow set.old.width) rows.now }
+    ensures rows { OnOk result (set.new.rows ≡ fold with_row set.old.rows rows.now) }
+    ensures width { set.new.width ≡ set.old.width }
+{
+    for row in rows {
+        set.put(row.copy_row())?;
+    }
+    Ok(())
+}
+
+impl FlatOver {
+    /// The set without some rows, and then with others, each list ascending. A few are taken out and put in one by one: in
+    /// place, where no other set shares the rows that are laid over the base.
+    pub fn lay(self, gone: RowList, come: RowList) -> Result<FlatOver, NoMemory>
+        requires gone { IsRowSet self.width gone }
+        requires come { IsRowSet self.width come }
+        ensures rows { IfOk result (λ set. set.rows ≡ overlaid self.rows gone come) }
+        ensures width { IfOk result (λ set. set.width ≡ self.width) }
+    {
+        if gone.len() > SINGLE || come.len() > SINGLE {
+            let set = self.laid(gone, come)?;
+            return Ok(set);
+        }
+        let mut set = self;
+        take_all(&mut set, gone.as_slice())?;
+        put_all(&mut set, come.as_slice())?;
+        Ok(set)
     }
 }
 

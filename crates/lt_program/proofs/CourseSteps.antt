@@ -1,13 +1,10 @@
 -- What one more statement does to a course.
-use Rattle.std.proofs.Common.{◌≡◌, ℕ, ◌+◌, ◌≤◌, Bool, true, false, List, [], ◌∷◌, ◌++◌, Option, None, refl, sym, ap, ◌∙◌, subst}
-use Rattle.std.specs.Prelude.{if◌then◌else◌}
+use Rattle.std.proofs.Common.{◌≡◌, ℕ, ◌+◌, ◌≤◌, true, List, [], ◌∷◌, ◌++◌, Option, sym, ap, ◌∙◌, subst}
 use Rattle.lt_face.specs.State.{State}
 use Rattle.lt_face.proofs.RowLemmas.{each_weaker}
 use Rattle.lt_model.specs.declared.normal.Body.{Body}
 use Rattle.lt_model.specs.declared.normal.Stmt.{Stmt}
-use Rattle.lt_model.specs.declared.reply.Reply.{Reply}
-use Rattle.lt_model.specs.declared.reply.Reply.TheVariants.{Done, Refused}
-use Rattle.lt_model.specs.Effect.{Effect, Writes, Needs, Prints, effect}
+use Rattle.lt_model.specs.Effect.{Effect, effect}
 use Rattle.lt_model.specs.Fits.{FitsStatement}
 use Rattle.lt_model.specs.Marks.{Marks, laid}
 use Rattle.lt_base.specs.Tables.{Table, state_of, has_index}
@@ -16,26 +13,11 @@ use Rattle.lt_query.specs.Needs.{body_of}
 use Rattle.lt_query.specs.Runnable.{AreWide}
 use Rattle.lt_query.specs.Stated.{stated_plan}
 use Rattle.lt_program.specs.declared.course.Course.{Course}
+use Rattle.lt_program.specs.declared.course.Laid.{Laid}
 use Rattle.lt_program.specs.declared.part.Part.{Part}
-use Rattle.lt_program.specs.Tally.{IsPartOn, HasIndexesOf, IsLaid, IsLaidOn, Grows, is_refused, is_still, next, statement_cost}
+use Rattle.lt_program.specs.Tally.{IsPartOn, HasIndexesOf, IsLaidOn, Grows, next, statement_cost}
 use Rattle.lt_program.proofs.NoAtoms.{nothing, part_same, effect_same, cost_same}
 use Rattle.lt_program.proofs.Widths.{AreWide-laid, FitsStatement-laid}
-
-still_marks : (number : ℕ) (e : Effect) (reply : Reply) (marks : Marks) → is_refused reply ≡ false → is_still e ≡ true → (next number e (reply, marks)).1 ≡ marks
-still_marks number (Writes []) (Done prints) marks going still = refl
-still_marks number (Writes (m ∷ more)) (Done prints) marks going still = cc
-still_marks number (Needs true) (Done prints) marks going still = refl
-still_marks number (Needs false) (Done prints) marks going still = cc
-still_marks number (Prints kinds rows) (Done prints) marks going still = refl
-still_marks number e (Refused j) marks going still = refl
-
--- the marks stay, and so does what is laid
-pub IsLaid-still : (base : List Table) (number : ℕ) (e : Effect) (reply : Reply) (marks new : Marks) (laid : Option (List Table)) → is_refused reply ≡ false → is_still e ≡ true → new ≡ (next number e (reply, marks)).1 → IsLaid base marks laid → IsLaid base new laid
-IsLaid-still base number e reply marks new laid going still is h = subst (λ (m : Marks). IsLaid base m laid) (sym (is ∙ still_marks number e reply marks going still)) h
-
-pub laid_settled : (base : List Table) (number : ℕ) (e : Effect) (reply : Reply) (marks new : Marks) (laid : Option (List Table)) (quiet : Bool) → is_refused reply ≡ false → quiet ≡ is_still e → new ≡ (next number e (reply, marks)).1 → IsLaid base marks laid → IsLaid base new (if quiet then laid else None)
-laid_settled base number e reply marks new laid true going same is h = IsLaid-still base number e reply marks new laid going (sym same) is h
-laid_settled base number e reply marks new laid false going same is h = tt
 
 module _ (base : List Table) (marks : Marks) (tables : List Table) (on : IsLaidOn base marks tables) where
   pub wide_on : AreWide (state_of base) → AreWide (state_of tables)
@@ -82,22 +64,7 @@ pub cost_alone : (base : State) (marks : Marks) (stmt : Stmt) (old new : ℕ) �
 cost_alone base marks stmt old new none h = subst (λ n. new ≤ old + n) (cost_same base (laid base marks) stmt none) h
 
 -- what is laid is of no account
-pub grows_settled : (number : ℕ) (stmt : Stmt) (base : State) (old mid new : Course) (l : Option (List Table)) → new ≡ record mid { laid = l } → Grows number stmt base old mid → Grows number stmt base old new
-grows_settled number stmt base old mid new l e g = record {
-  part = g.part;
-  is_part = g.is_part;
-  parts = ap (λ (x : Course). x.parts) e ∙ g.parts;
-  reply = ap (λ (x : Course). x.reply) e ∙ g.reply;
-  marks = ap (λ (x : Course). x.marks) e ∙ g.marks;
-}
-
-pub grows_taken : (number : ℕ) (stmt : Stmt) (base : State) (old mid new : Course) (l : Option (List Table)) → mid ≡ record old { laid = l } → Grows number stmt base mid new → Grows number stmt base old new
+pub grows_taken : (number : ℕ) (stmt : Stmt) (base : State) (old mid new : Course) (l : Option Laid) → mid ≡ record old { laid = l } → Grows number stmt base mid new → Grows number stmt base old new
 grows_taken number stmt base old mid new l e g =
     let h : Grows number stmt base (record old { laid = l }) new = subst (λ (x : Course). Grows number stmt base x new) e g in
     record { part = h.part; is_part = h.is_part; parts = h.parts; reply = h.reply; marks = h.marks }
-
--- what is laid after a statement
-pub laid_after : (base : List Table) (number : ℕ) (e : Effect) (mid new : Course) (reply : Reply) (marks : Marks) (laid : Option (List Table)) (quiet : Bool) → is_refused reply ≡ false → quiet ≡ is_still e → mid.marks ≡ (next number e (reply, marks)).1 → IsLaid base marks laid
-    → new ≡ record mid { laid = (if quiet then laid else None) } → IsLaid base new.marks new.laid
-laid_after base number e mid new reply marks laid quiet going same is h made =
-    subst (λ (x : Course). IsLaid base x.marks x.laid) (sym made) (laid_settled base number e reply marks mid.marks laid quiet going same is h)

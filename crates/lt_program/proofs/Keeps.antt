@@ -1,9 +1,9 @@
 -- What a tally keeps of another, and what it tells of its statements.
-use Rattle.std.proofs.Common.{◌≡◌, ℕ, suc, ◌+◌, ◌<◌, ◌≤◌, false, List, [], ◌∷◌, ◌++◌, length, Some, get_or, refl, sym, ap, ◌∙◌, subst, arith}
+use Rattle.std.proofs.Common.{◌≡◌, ℕ, suc, ◌+◌, ◌<◌, ◌≤◌, List, [], ◌∷◌, ◌++◌, length, Some, get_or, sym, ap, ◌∙◌, subst, arith}
 use Rattle.std.specs.Prelude.{slice_get}
 use Rattle.std.proofs.lemmas.Option.{slice_get-get_or}
 use Rattle.lt_face.specs.Rows.{IsAscending, has_row}
-use Rattle.lt_face.specs.State.{Row, State, rows_in}
+use Rattle.lt_face.specs.State.{Row, rows_in}
 use Rattle.lt_model.specs.declared.normal.Stmt.{Stmt}
 use Rattle.lt_model.specs.Fits.{FitMarks}
 use Rattle.lt_model.specs.Marks.{Marks, laid}
@@ -15,7 +15,7 @@ use Rattle.lt_program.specs.Kept.{first_rows, second_rows, marks_past}
 use Rattle.lt_program.specs.Sound.{tally_of, IsSound}
 use Rattle.lt_program.specs.Tally.{TallyView, IsPartOn, IsRun, run_of_first, state_before}
 use Rattle.lt_program.proofs.Recalls.{first_ascends, second_ascends, marks_recalled}
-use Rattle.lt_program.proofs.Sounds.{sound_fits, statement_fits}
+use Rattle.lt_program.proofs.Sounds.{statement_fits}
 use Rattle.lt_program.proofs.Stays.{part_stays}
 use Rattle.lt_program.proofs.TallyGrows.{first_fits}
 use Rattle.lt_program.proofs.Widths.{narrow}

@@ -21,3 +21,4 @@ pub mod TallyCosts
 pub mod Recalls
 pub mod Stays
 pub mod Keeps
+pub mod LaterMarks

@@ -1,5 +1,5 @@
 -- What a statement does, by its outcome alone, is what it does on the state.
-use Rattle.std.proofs.Common.{◌≡◌, ℕ, suc, ◌+◌, ◌<◌, Bool, true, false, not, List, [], ◌∷◌, ◌++◌, length, Some, refl, sym, ap, ◌∙◌, subst, arith}
+use Rattle.std.proofs.Common.{◌≡◌, ℕ, suc, ◌+◌, ◌<◌, Bool, true, false, not, [], ◌∷◌, ◌++◌, length, Some, refl, sym, ap, ◌∙◌, subst}
 use Rattle.std.specs.Prelude.{slice_get, if◌then◌else◌}
 use Rattle.lt_face.specs.Rows.{IsAscending}
 use Rattle.lt_face.specs.State.{State}
@@ -13,7 +13,7 @@ use Rattle.lt_base.specs.Tables.{state_of}
 use Rattle.lt_program.specs.declared.course.Course.{Course}
 use Rattle.lt_program.specs.declared.part.Outcome.{Outcome}
 use Rattle.lt_program.specs.declared.part.Part.{Part}
-use Rattle.lt_program.specs.Kept.{first_rows, second_rows, truth_in, refused_by, marks_past, effect_by}
+use Rattle.lt_program.specs.Kept.{first_rows, second_rows, refused_by, marks_past, effect_by}
 use Rattle.lt_program.specs.Tally.{TallyView, IsPartOn, IsRun, Grows, outcome_on, is_refused, next, run_of_first, state_before}
 use Rattle.lt_program.proofs.Picked.{answers_rise}
 use Rattle.lt_program.proofs.RunGrows.{first_more}

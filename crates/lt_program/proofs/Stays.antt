@@ -1,5 +1,5 @@
 -- A part of a statement stays its part where no covered row differs.
-use Rattle.std.proofs.Common.{◌≡◌, ap, ◌∙◌}
+use Rattle.std.proofs.Common.{ap, ◌∙◌}
 use Rattle.lt_face.specs.State.{State}
 use Rattle.lt_model.specs.declared.normal.Stmt.{Stmt}
 use Rattle.lt_model.specs.declared.normal.Stmt.TheVariants.{Insert, Delete, Replace, Need, Print}
@@ -8,7 +8,6 @@ use Rattle.lt_model.specs.Fits.{FitsStatement}
 use Rattle.lt_sense.specs.Sense.{AgreeWhereCovered}
 use Rattle.lt_join.proofs.Kept.{some_answer_kept}
 use Rattle.lt_join.proofs.Repair.{answers_same, Certifies-moved, IsTight-moved}
-use Rattle.lt_program.specs.declared.part.Outcome.{Outcome}
 use Rattle.lt_program.specs.declared.part.Outcome.TheVariants.{Rows, Both, Truth}
 use Rattle.lt_program.specs.declared.part.Part.{Part}
 use Rattle.lt_program.specs.Tally.{IsPartOn}

@@ -9,8 +9,8 @@ use Rattle.lt_model.specs.declared.reply.Printed.{Printed}
 use Rattle.lt_model.specs.declared.reply.Reply.{Reply}
 use Rattle.lt_model.specs.declared.reply.Reply.TheVariants.{Done, Refused}
 use Rattle.lt_model.specs.Answers.{answers, some_answer}
-use Rattle.lt_model.specs.Marks.{Marks, laid}
-use Rattle.lt_model.specs.Effect.{Effect, Writes, Needs, Prints, effect}
+use Rattle.lt_model.specs.Marks.{Marks, AreMarks, and_then, laid}
+use Rattle.lt_model.specs.Effect.{Effect, effect}
 use Rattle.lt_model.specs.Run.{run, run_on}
 use Rattle.lt_base.specs.Tables.{Table, state_of, has_index}
 use Rattle.lt_query.specs.declared.plans.Guide.{Guide}
@@ -21,6 +21,7 @@ use Rattle.lt_sense.specs.Sense.{IsTight}
 use Rattle.lt_join.specs.Certify.{Certifies, Vouches}
 use Rattle.lt_join.specs.Cost.{bound}
 use Rattle.lt_program.specs.declared.course.Course.{Course}
+use Rattle.lt_program.specs.declared.course.Laid.{Laid}
 use Rattle.lt_program.specs.declared.part.Outcome.{Outcome}
 use Rattle.lt_program.specs.declared.part.Outcome.TheVariants.{Rows, Both, Truth}
 use Rattle.lt_program.specs.declared.part.Part.{Part}
@@ -133,21 +134,27 @@ abbrev pub with_print : Reply → Printed → Reply
 with_print (Done prints) printed = Done (prints ++ printed ∷ [])
 with_print (Refused j) printed = Refused j
 
--- the effect leaves the marks as they are
-abbrev pub is_still : Effect → Bool
-is_still (Writes []) = true
-is_still (Writes (m ∷ marks)) = false
-is_still (Needs holds) = holds
-is_still (Prints kinds rows) = true
-
 -- the database with the marks laid on it, and its indexes
 pub record IsLaidOn (base : List Table) (marks : Marks) (tables : List Table) : Type 0 where
   pub state : state_of tables ≡ laid (state_of base) marks
   pub indexes : (relation : ℕ) (columns : List ℕ) → has_index tables relation columns ≡ has_index base relation columns
 
-abbrev pub IsLaid : List Table → Marks → Option (List Table) → Type 0
+-- the marks that came later, if any did
+abbrev pub those : Option Marks → Marks
+those None = []
+those (Some marks) = marks
+
+-- the first of the marks are laid, and the others came later
+pub record IsLaidUpTo (base : List Table) (marks : Marks) (l : Laid) : Type 0 where
+  pub first : Marks
+  pub on : IsLaidOn base first l.tables
+  pub joined : marks ≡ and_then first (those l.later)
+  pub first_up : AreMarks first
+  pub later_up : AreMarks (those l.later)
+
+abbrev pub IsLaid : List Table → Marks → Option Laid → Type 0
 IsLaid base marks None = Unit {0}
-IsLaid base marks (Some tables) = IsLaidOn base marks tables
+IsLaid base marks (Some l) = IsLaidUpTo base marks l
 
 -- one more part, and what comes of the statement's effect
 pub record Grows (number : ℕ) (stmt : Stmt) (base : State) (old new : Course) : Type 0 where

@@ -1,13 +1,13 @@
 //! How far the run of a program has come on a database.
-ghost use Rattle.std.specs.Prelude.{◌≡◌, ◌≤◌, ◌+◌, false, None, OnOk, OnErr, IfOk, ◌++◌, ◌∷◌, [], if◌then◌else◌};
+ghost use Rattle.std.specs.Prelude.{◌≡◌, ◌≤◌, ◌+◌, ℕ, List, false, None, OnOk, OnErr, IfOk, ◌++◌, ◌∷◌, []};
 ghost use Rattle.lt_face.specs.State.{State};
 ghost use Rattle.lt_model.specs.Fits.{FitMarks, FitsStatement};
-ghost use Rattle.lt_model.specs.Marks.{laid};
-ghost use Rattle.lt_base.specs.Tables.{state_of};
+ghost use Rattle.lt_model.specs.Marks.{Marks as MarksView, AreMarks, and_then, laid};
+ghost use Rattle.lt_base.specs.Tables.{Table, state_of, has_index};
 ghost use Rattle.lt_query.specs.Needs.{body_of as body_in};
 ghost use Rattle.lt_query.specs.Runnable.{AreWide};
 ghost use Rattle.lt_program.specs.Effect.{view};
-ghost use Rattle.lt_program.specs.Tally.{HasIndexesOf, IsLaid, IsLaidOn, IsPartOn, Grows, is_refused, is_still, next, with_print, statement_cost};
+ghost use Rattle.lt_program.specs.Tally.{HasIndexesOf, IsLaid, IsLaidOn, IsLaidUpTo, IsPartOn, Grows, is_refused, next, those, with_print, statement_cost};
 
 use crate::effect::Effect;
 use crate::evaluation::{Step, evaluated};
@@ -25,24 +25,69 @@ use lt_sense::Sense;
 use std::alloc::Global;
 use std::mem;
 
-/// The parts, the reply and the marks of the statements so far. The marks are laid on the database at the first statement
-/// that reads rows after them, and not before.
+/// A database with the first of a program's marks laid on it, and the marks that came after these.
+#[derive(Drop)]
+pub(crate) struct Laid {
+    pub tables: Database,
+    pub later: Option<Marks>,
+}
+
+/// The parts, the reply and the marks of the statements so far. Marks are laid on the database at the first statement that
+/// reads rows after them, and not before; what is laid stays so.
 #[derive(Drop)]
 pub(crate) struct Course {
-    pub laid: Option<Database>,
+    pub laid: Option<Laid>,
     pub parts: Items<SharedPart>,
     pub reply: Reply,
     pub marks: Marks,
 }
 
-/// Whether the marks stay as they are.
-fn is_quiet(effect: &Effect) -> bool
-    ensures { result ≡ is_still (view effect.now) }
+impl Laid {
+    /// The database with the later marks laid on it, too.
+    fn finish(self) -> Result<Database, NoMemory>
+        requires { FitMarks (state_of self.tables) (those self.later) }
+        ensures state { IfOk result (λ tables. state_of tables ≡ laid (state_of self.tables) (those self.later)) }
+        ensures indexes { IfOk result (λ tables. (relation : ℕ) (columns : List ℕ) → has_index tables relation columns ≡ has_index self.tables relation columns) }
+    {
+        let Laid { tables, later } = self;
+        match later {
+            None => Ok(tables),
+            Some(marks) => {
+                let tables = tables.lay(&marks)?;
+                Ok(tables)
+            }
+        }
+    }
+}
+
+/// The marks with others after them.
+fn joined(first: Option<Marks>, marks: &Marks) -> Result<Marks, NoMemory>
+    ensures { IfOk result (λ all. all ≡ and_then (those first) marks.now) }
 {
-    match effect {
-        Effect::Writes(marks) => marks.len() == 0,
-        Effect::Needs(holds) => *holds,
-        Effect::Prints(..) => true,
+    match first {
+        None => {
+            let _ascending = marks.len();
+            let same = marks.share()?;
+            Ok(same)
+        }
+        Some(mut all) => {
+            all.add(marks)?;
+            Ok(all)
+        }
+    }
+}
+
+/// What is laid, with more marks to be laid after it. Where there is no memory for them, it is given up.
+fn followed(laid: Laid, marks: &Marks) -> Option<Laid>
+    ensures { (base : List Table) (before : MarksView) → IsLaidUpTo base before laid → IsLaid base (and_then before marks.now) result }
+{
+    let Laid { tables, later } = laid;
+    match joined(later, marks) {
+        Ok(all) => Some(Laid {
+            tables,
+            later: Some(all),
+        }),
+        Err(NoMemory) => None,
     }
 }
 
@@ -92,24 +137,65 @@ impl Course {
         requires laid { IsLaid base.now self.old.marks self.old.laid }
         requires fits { FitMarks (state_of base.now) self.old.marks }
         ensures laid { IfOk result (IsLaidOn base.now self.old.marks) }
+        ensures ascending { AreMarks self.old.marks }
         ensures rest { self.new ≡ record self.old { laid = None } }
     {
+        let _ascending = self.marks.len();
         match mem::replace(&mut self.laid, None) {
-            Some(laid) => Ok(laid),
+            Some(laid) => {
+                base.look_over();
+                let tables = laid.finish()?;
+                Ok(tables)
+            }
             None => {
-                let laid = base.laid(&self.marks)?;
-                Ok(laid)
+                let tables = base.laid(&self.marks)?;
+                Ok(tables)
             }
         }
     }
 
-    /// One more part that leaves the reply as it is, and these marks.
-    fn write(&mut self, part: SharedPart, marks: Marks) -> Result<(), NoMemory>
-        ensures ok { OnOk result (self.new ≡ record self.old { parts = self.old.parts ++ part ∷ []; marks = marks }) }
+    /// Keeps marks that aren't laid yet, where a database is laid.
+    fn follow(&mut self, marks: &Marks)
+        ensures rest { self.new ≡ record self.old { laid = self.new.laid } }
+        ensures laid { (base : List Table) (before : MarksView) → IsLaid base before self.old.laid → IsLaid base (and_then before marks.now) self.new.laid }
+    {
+        match mem::replace(&mut self.laid, None) {
+            None => {}
+            Some(laid) => {
+                self.laid = followed(laid, marks);
+            }
+        }
+    }
+
+    /// One more part that leaves the reply as it is, and these marks after the others.
+    fn write(&mut self, part: SharedPart, marks: &Marks) -> Result<(), NoMemory>
+        ensures ok { OnOk result (self.new ≡ record self.old { laid = self.new.laid; parts = self.old.parts ++ part ∷ []; marks = and_then self.old.marks marks.now }) }
+        ensures laid { (base : List Table) → IsLaid base self.old.marks self.old.laid → IsLaid base self.new.marks self.new.laid }
         ensures err { OnErr result (self.new ≡ self.old) }
     {
         self.parts.push(part)?;
-        self.marks = marks;
+        match self.marks.add(marks) {
+            Ok(()) => {
+                self.follow(marks);
+                Ok(())
+            }
+            Err(NoMemory) => {
+                self.parts.pop();
+                Err(NoMemory)
+            }
+        }
+    }
+
+    /// One more part, and the program is refused.
+    fn refuse(&mut self, number: u32, part: SharedPart) -> Result<(), NoMemory>
+        ensures ok { OnOk result (self.new ≡ record { laid = None; parts = self.old.parts ++ part ∷ []; reply = Reply.Refused number; marks = [] }) }
+        ensures err { OnErr result (self.new ≡ self.old) }
+    {
+        let none = Marks::empty(self.parts.allocator())?;
+        self.parts.push(part)?;
+        self.laid = None;
+        self.reply = Reply::Refused(number);
+        self.marks = none;
         Ok(())
     }
 
@@ -134,24 +220,16 @@ impl Course {
         ensures parts { OnOk result (self.new.parts ≡ self.old.parts ++ part ∷ []) }
         ensures reply { OnOk result (self.new.reply ≡ (next number (view effect) (self.old.reply, self.old.marks)).0) }
         ensures marks { OnOk result (self.new.marks ≡ (next number (view effect) (self.old.reply, self.old.marks)).1) }
-        ensures laid { self.new.laid ≡ self.old.laid }
+        ensures laid { (base : List Table) → IsLaid base self.old.marks self.old.laid → IsLaid base self.new.marks self.new.laid }
         ensures err { OnErr result (self.new ≡ self.old) }
     {
         match effect {
-            Effect::Writes(marks) => {
-                let marks = Marks::and_then(&self.marks, &marks)?;
-                self.write(part, marks)
-            }
+            Effect::Writes(marks) => self.write(part, &marks),
             Effect::Needs(true) => {
                 self.parts.push(part)?;
                 Ok(())
             }
-            Effect::Needs(false) => {
-                let none = Marks::empty(self.parts.allocator())?;
-                self.write(part, none)?;
-                self.reply = Reply::Refused(number);
-                Ok(())
-            }
+            Effect::Needs(false) => self.refuse(number, part),
             Effect::Prints(kinds, rows) => self.print(
                 part,
                 Printed {
@@ -160,15 +238,6 @@ impl Course {
                     rows,
                 },
             ),
-        }
-    }
-
-    /// Gives up the database with the marks laid on it, unless the marks are as they were.
-    fn settle(&mut self, quiet: bool)
-        ensures { self.new ≡ record self.old { laid = (if quiet then self.old.laid else None) } }
-    {
-        if !quiet {
-            self.laid = None;
         }
     }
 
@@ -196,9 +265,7 @@ impl Course {
         let step = evaluated(alloc, base, stmt, moves)?;
         let Step { part, effect } = step;
         let part = SharedPart::new(alloc, insensitive(alloc, part))?;
-        let quiet = is_quiet(&effect);
         self.accept(number, part, effect)?;
-        self.settle(quiet);
         Ok(())
     }
 
@@ -225,14 +292,15 @@ impl Course {
         ensures marks_kept { OnErr result (self.new.marks ≡ self.old.marks) }
     {
         let alloc = self.parts.allocator();
-        let laid = self.take_laid(base)?;
-        let step = evaluated(alloc, &laid, stmt, moves)?;
+        let tables = self.take_laid(base)?;
+        let step = evaluated(alloc, &tables, stmt, moves)?;
         let Step { part, effect } = step;
         let part = SharedPart::new(alloc, part)?;
-        let quiet = is_quiet(&effect);
+        self.laid = Some(Laid {
+            tables,
+            later: None,
+        });
         self.accept(number, part, effect)?;
-        self.laid = Some(laid);
-        self.settle(quiet);
         Ok(())
     }
 
@@ -254,9 +322,7 @@ impl Course {
     {
         let effect = effect_by(self.parts.allocator(), stmt, &part.part().outcome)?;
         let part = part.share()?;
-        let quiet = is_quiet(&effect);
         self.accept(number, part, effect)?;
-        self.settle(quiet);
         Ok(())
     }
 

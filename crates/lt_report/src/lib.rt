@@ -8,6 +8,7 @@ mod reply;
 mod rows;
 mod show;
 
+pub use line::put_line;
 pub use lines::{put_bad_item, put_bad_program, put_batch, put_fault, put_usage, put_version};
 pub use marks::put_marks;
 pub use reply::put_reply;

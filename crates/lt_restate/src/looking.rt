@@ -1,16 +1,14 @@
 //! A sense's gaps and hits, looked up among marks in their order.
-ghost use Rattle.std.specs.Prelude.{◌≡◌, ◌<◌, ◌≤◌, ◌∷◌, ℕ, [], true, false, length, slice_get, Some};
+ghost use Rattle.std.specs.Prelude.{◌≡◌, ◌<◌, ◌≤◌, ◌∷◌, [], true, false, length};
 ghost use Rattle.std.specs.List.{AllByRecursion};
 ghost use Rattle.std.specs.Ordering.{is_eq};
 ghost use Rattle.lt_face.specs.Lists.{IsIn};
 ghost use Rattle.lt_face.specs.Rows.{row_cmp};
 ghost use Rattle.lt_sense.specs.declared.covering.KeptGap.{KeptGap as KeptGapView};
 ghost use Rattle.lt_sense.specs.declared.covering.Hit.{Hit as HitView};
-ghost use Rattle.lt_model.specs.declared.mark.Mark.{Mark as MarkView};
 ghost use Rattle.lt_model.specs.Fits.{FitMarks};
 ghost use Rattle.lt_model.specs.Marks.{laid};
 ghost use Rattle.lt_base.specs.Tables.{state_of};
-ghost use Rattle.lt_delta.specs.Finding.{is_before};
 ghost use Rattle.lt_program.specs.Tally.{state_before};
 ghost use Rattle.lt_restate.specs.Found.{IsFoundIn};
 ghost use Rattle.lt_restate.specs.Looked.{in_gap as lies_in_gap, on_hit as lies_on_hit, is_covered, IsQuietBelow, IsLoudAt, BeginsAt, StandTogether, IsInOrder, first_of};
@@ -19,41 +17,9 @@ use crate::changed::{Found, found_at, is_changed};
 use lt_delta::Marks;
 use lt_face::items::Items;
 use lt_face::row::Row;
-use lt_model::mark::Mark;
 use lt_program::Tally;
 use lt_sense::{Hit, KeptGap, Sense};
 use std::alloc::Global;
-use std::cmp::Ordering;
-
-/// Whether the mark is on a row before this one, by relation and row.
-fn comes_before(mark: &Mark, relation: u32, row: &Row) -> bool
-    ensures { result ≡ is_before relation row.now mark.now }
-{
-    match mark.relation.cmp(&relation) {
-        Ordering::Less => true,
-        Ordering::Equal => mark.row.cmp(row).is_lt(),
-        Ordering::Greater => false,
-    }
-}
-
-/// The place of the first mark that isn't on a row before this one, by a binary search.
-fn place_for(marks: &Marks, relation: u32, row: &Row) -> usize
-    ensures within { result ≤ length marks.now }
-    ensures before { (p : ℕ) (m : MarkView) → slice_get marks.now p ≡ Some m → p < result → is_before relation row.now m ≡ true }
-    ensures after { (p : ℕ) (m : MarkView) → slice_get marks.now p ≡ Some m → result ≤ p → is_before relation row.now m ≡ false }
-{
-    let mut low = 0;
-    let mut high = marks.len();
-    'halves: while low < high {
-        let middle = low + (high - low) / 2;
-        if comes_before(marks.mark(middle), relation, row) {
-            low = middle + 1;
-        } else {
-            high = middle;
-        }
-    }
-    low
-}
 
 /// Whether the columns of the gap stand in text order as far as its prefix and one further, and no cell of the prefix is 0:
 /// then its rows stand together in their order.
@@ -115,7 +81,7 @@ fn place_in_gap(
     ensures loud { result < limit → IsLoudAt (lies_in_gap gap.now) (laid (state_of old.now.base) past.now) (state_before (length new.now.parts) new.now.program (state_of new.now.base)) marks.now result }
 {
     let (first, together) = beginning(gap.columns.allocator(), gap);
-    let start = place_for(marks, gap.relation, &first);
+    let start = marks.place_for(gap.relation, &first);
     let _ascending = marks.len();
     for at in start..limit {
         let mark = marks.mark(at);
@@ -155,7 +121,7 @@ fn place_on_hit(
     ensures quiet { IsQuietBelow (lies_on_hit hit.now) (laid (state_of old.now.base) past.now) (state_before (length new.now.parts) new.now.program (state_of new.now.base)) marks.now result }
     ensures loud { result < limit → IsLoudAt (lies_on_hit hit.now) (laid (state_of old.now.base) past.now) (state_before (length new.now.parts) new.now.program (state_of new.now.base)) marks.now result }
 {
-    let at = place_for(marks, hit.relation, &hit.row);
+    let at = marks.place_for(hit.relation, &hit.row);
     let _ascending = marks.len();
     if at >= limit {
         return limit;

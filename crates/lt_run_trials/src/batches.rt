@@ -162,7 +162,7 @@ fn agrees<R: Threads + Wait + Sync>(
 #[test]
 fn mixed_batches_are_serial(rt: HostRuntime) -> Result<(), NoMemory> {
     for count in [0usize, 1, 2, 3, 4, 5, 6, 7, 8, 64, 256] {
-        for workers in [1u32, 4, 16] {
+        for workers in [1u32, 2, 3, 4, 16] {
             holds(&rt, agrees(&rt, rt.alloc(), count, workers)?);
         }
     }

@@ -11,3 +11,4 @@ pub mod Listing
 pub mod Splits
 pub mod Within
 pub mod Reading
+pub mod Totality

@@ -4,3 +4,4 @@ pub mod Ahead
 pub mod Tree
 pub mod Parsed
 pub mod Reading
+pub mod Laws

@@ -18,6 +18,7 @@ mod runs;
 mod standing;
 mod statements;
 mod terms;
+pub mod theorems;
 mod token;
 mod tree;
 

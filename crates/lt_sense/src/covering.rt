@@ -1,11 +1,12 @@
 //! The two kinds of thing that cover rows: gaps and hits.
-ghost use Rattle.std.specs.Prelude.{◌≡◌, ◌≤◌, slice_index};
+ghost use Rattle.std.specs.Prelude.{◌≡◌, ◌≤◌, length, slice_index};
 ghost use Rattle.lt_face.specs.State.{permuted};
 ghost use Rattle.lt_sense.specs.Sense.{lies_in as lies_within, gap_covers};
 
 use lt_face::items::Perm;
 use lt_face::key::Key;
 use lt_face::row::Row;
+use std::alloc::Global;
 
 /// A gap that a move left: in the relation, with its columns in this order, no row began with the prefix and had a next
 /// cell from `lo` to below `hi`.
@@ -51,6 +52,18 @@ fn cell_at(row: &Row, column: u32) -> Key
     } else {
         0
     }
+}
+
+/// The row's cells in an order of columns.
+pub(crate) fn cells_in(alloc: Global, columns: &[u32], row: &Row) -> Row
+    requires { length columns.now ≤ 8 }
+    ensures { result ≡ permuted columns.now row.now }
+{
+    let mut cells = Row::from_cells(alloc, &[]);
+    for column in columns {
+        cells.push(cell_at(row, *column));
+    }
+    cells
 }
 
 /// Whether the row's cells, in the gap's order of columns, begin with its prefix and the next lies within its bounds.

@@ -1,7 +1,11 @@
 //! What an evaluation was sensitive to: gaps between keys that its moves passed, and rows that it met.
 #![tactic(auto)]
 
+mod counted;
 mod covering;
+mod hits;
+mod order;
+mod sealing;
 mod sense;
 mod spot;
 mod store;

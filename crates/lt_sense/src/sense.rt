@@ -1,5 +1,5 @@
 //! The sense of an evaluation.
-ghost use Rattle.std.specs.Prelude.{◌≡◌, ◌<◌, ◌≤◌, ◌∷◌, ◌++◌, [], length, IfOk, OnOk, OnErr, IfSome, IfNone, is_some, true};
+ghost use Rattle.std.specs.Prelude.{◌≡◌, ℕ, ◌<◌, ◌≤◌, ◌+◌, ◌*◌, ◌^◌, ◌∷◌, ◌++◌, [], length, IfOk, OnOk, OnErr, IfSome, IfNone, is_some, true};
 ghost use Rattle.std.specs.List.{list_any};
 
 use crate::covering::{Hit, KeptGap};
@@ -8,6 +8,7 @@ use crate::store::Store;
 use lt_face::items::{Changes, Items, Perm};
 use lt_face::key::Key;
 use lt_face::memory::NoMemory;
+use lt_face::moves::Moves;
 use lt_face::row::Row;
 use std::alloc::Global;
 use std::marker::Model;
@@ -16,22 +17,26 @@ use std::marker::Model;
 #[derive(Drop)]
 pub struct Sense {
     store: Store,
+    sealed: bool,
 }
 
 impl Model for Sense {
     ghost use Rattle.lt_sense.specs.Kept.{Sense as Kept};
     ghost use Rattle.lt_sense.specs.Stored.{sense_of, IsSound};
+    ghost use Rattle.lt_sense.specs.Ordered.{IsSealedIf};
 
     ghost Value = { Kept };
 
     ghost view = { λ s. sense_of s.store };
 
-    ghost invariant = { λ s. IsSound s.store };
+    ghost invariant = { λ s. IsSound s.store × IsSealedIf s.sealed (sense_of s.store) };
 }
 
 impl Sense {
     ghost use Rattle.lt_face.specs.Lists.{IsIn};
-    ghost use Rattle.lt_sense.specs.Sense.{covers, gap_covers, hit_covers};
+    ghost use Rattle.lt_face.specs.State.{Row as RowView, State};
+    ghost use Rattle.lt_sense.specs.Sense.{covers, gap_covers, hit_covers, IsTight};
+    ghost use Rattle.lt_sense.specs.Ordered.{IsSealed, AreNarrow, orders_of};
     ghost use Rattle.lt_sense.specs.Spots.{IsSpotOf, AreUncovered, IsFirstCovered};
 
     /// Sensitive to nothing.
@@ -40,6 +45,7 @@ impl Sense {
     {
         Sense {
             store: Store::new(alloc),
+            sealed: true,
         }
     }
 
@@ -60,6 +66,7 @@ impl Sense {
         if hi <= lo {
             return Ok(());
         }
+        self.sealed = false;
         self.store.add_gap(relation, perm, prefix, lo, hi)?;
         Ok(())
     }
@@ -70,8 +77,35 @@ impl Sense {
         ensures gaps { self.new.gaps ≡ self.old.gaps }
         ensures err { OnErr result (self.new ≡ self.old) }
     {
+        self.sealed = false;
         self.store.add_hit(relation, row)?;
         Ok(())
+    }
+
+    /// Puts gaps and hits in order, and joins gaps under one prefix that overlap or adjoin. What is covered stays, there are no
+    /// more gaps nor hits than before, and no row of a state lies in a joined gap where none did in its parts. Want of memory
+    /// leaves the sense as it was.
+    pub fn seal(&mut self) -> Result<(), NoMemory>
+        ensures sealed { OnOk result (IsSealed self.new) }
+        ensures covers { OnOk result ((relation : ℕ) (row : RowView) → covers self.new relation row ≡ covers self.old relation row) }
+        ensures gaps { OnOk result (length self.new.gaps ≤ length self.old.gaps) }
+        ensures hits { OnOk result (length self.new.hits ≤ length self.old.hits) }
+        ensures tight { OnOk result ((state : State) → IsTight self.old state → IsTight self.new state) }
+        ensures err { OnErr result (self.new ≡ self.old) }
+    {
+        if self.sealed {
+            return Ok(());
+        }
+        self.store.seal()?;
+        self.sealed = true;
+        Ok(())
+    }
+
+    /// Whether nothing was added since gaps and hits were put in order.
+    pub fn is_sealed(&self) -> bool
+        ensures { result ≡ true → IsSealed self.now }
+    {
+        self.sealed
     }
 
     /// How many gaps there are.
@@ -128,6 +162,41 @@ impl Sense {
             return Some(Spot::Hit);
         }
         None
+    }
+
+    /// As `spot`, by binary searches: one of the gaps for each order of the relation's columns and each width of a prefix, and
+    /// one of the hits. A step compares the row with one gap or hit. No memory is taken.
+    pub fn spot_counted<L>(&self, relation: u32, row: &Row, steps: &mut Moves<L>) -> Option<Spot>
+        requires { IsSealed self.now }
+        ensures covered { is_some result ≡ covers self.now relation row.now }
+        ensures spot { IfSome result (IsSpotOf self.now relation row.now) }
+        ensures steps { AreNarrow self.now.gaps → (d : ℕ) → length self.now.gaps + length self.now.hits < 2 ^ d → steps.new ≤ steps.old + (8 * orders_of relation self.now.gaps + 1) * d }
+    {
+        match self.store.sealed_gap_with(relation, row, steps) {
+            Some(gap) => {
+                let prefix = self.store.prefix_of(gap);
+                Some(Spot::Gap {
+                    prefix,
+                    lo: gap.lo,
+                    hi: gap.hi,
+                })
+            }
+            None => {
+                if self.store.has_sealed_hit(relation, row, steps) {
+                    return Some(Spot::Hit);
+                }
+                None
+            }
+        }
+    }
+
+    /// As `covers`, by binary searches, in as many steps as `spot_counted`.
+    pub fn covers_counted<L>(&self, relation: u32, row: &Row, steps: &mut Moves<L>) -> bool
+        requires { IsSealed self.now }
+        ensures value { result ≡ covers self.now relation row.now }
+        ensures steps { AreNarrow self.now.gaps → (d : ℕ) → length self.now.gaps + length self.now.hits < 2 ^ d → steps.new ≤ steps.old + (8 * orders_of relation self.now.gaps + 1) * d }
+    {
+        self.spot_counted(relation, row, steps).is_some()
     }
 
     /// The place in the list of the first changed row that is covered, and what covers it; None exactly where no changed row

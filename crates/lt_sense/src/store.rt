@@ -63,7 +63,7 @@ pub struct Store {
 }
 
 /// The cells of a piece.
-fn cells_of(cells: &[Key], piece: Piece) -> &[Key]
+pub(crate) fn cells_of(cells: &[Key], piece: Piece) -> &[Key]
     requires { IsPiece cells.now piece }
     ensures { result.now ≡ piece_of cells.now piece }
 {
@@ -206,7 +206,7 @@ impl Store {
     }
 
     /// Whether a gap covers the row.
-    fn gap_covers_row(&self, gap: Passed, relation: u32, row: &Row) -> bool
+    pub(crate) fn gap_covers_row(&self, gap: Passed, relation: u32, row: &Row) -> bool
         requires sound { IsSound self.now }
         requires there { gap.run < length self.now.runs.items }
         ensures { result ≡ gap_covers (stored_gap self.now gap) relation row.now }

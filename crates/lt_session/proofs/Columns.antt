@@ -15,7 +15,7 @@ use Rattle.lt_model.specs.Schema.{Schema, number_of, columns_of}
 use Rattle.lt_model.specs.Report.{World, at_version}
 use Rattle.lt_model.specs.Marks.{Marks, change, lay, laid, write}
 use Rattle.lt_check.specs.States.{IsStateOf}
-use Rattle.lt_session.specs.Texts.{held}
+use Rattle.lt_report.specs.Texts.{held}
 use Rattle.lt_session.specs.Versions.{IsFront}
 
 abbrev Heading : Type 0

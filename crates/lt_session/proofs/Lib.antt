@@ -1,12 +1,12 @@
-pub mod Joining
-pub mod Rows
 pub mod Columns
 pub mod Versions
 pub mod Folds
+pub mod Said
 pub mod Batches
 pub mod Goods
 pub mod Telling
-pub mod Shown
 pub mod Showing
+pub mod Writing
 pub mod Fronts
 pub mod Ends
+pub mod Statuses

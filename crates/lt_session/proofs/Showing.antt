@@ -1,5 +1,5 @@
 -- What a session writes of a relation that is there, now or at a version that is there.
-use Rattle.std.proofs.Common.{◌≡◌, ◌≤◌, ℕ, List, length, Some, sym, ap, subst, ◌∙◌}
+use Rattle.std.proofs.Common.{◌≡◌, ◌≤◌, ℕ, Bool, List, length, Some, refl, sym, ap, subst, ◌∙◌}
 use Rattle.std.specs.Prelude.{Option, slice_get, IfSome}
 use Rattle.std.specs.Borrow.{Bor}
 use Rattle.std.specs.Option.{option_copied}
@@ -7,14 +7,16 @@ use Rattle.lt_face.specs.State.{Row, State, rows_in, Relation}
 use Rattle.lt_model.specs.declared.kind.Kind.{Kind}
 use Rattle.lt_model.specs.Schema.{Schema, number_of, columns_of}
 use Rattle.lt_model.specs.Report as model
+use Rattle.lt_model.specs.declared.syntax.Item.TheVariants.{Show}
 use Rattle.lt_model.specs.Report.{at_version, says, shown, show_text}
 use Rattle.lt_base.specs.Tables.{Table, state_of}
-use Rattle.lt_session.specs.Texts.{held}
+use Rattle.lt_report.specs.Texts.{held}
 use Rattle.lt_session.specs.Versions.{IsFront, database_of}
-use Rattle.lt_session.specs.World.{Shows}
+use Rattle.lt_session.specs.World.{said, Shows, unwritten}
 use Rattle.lt_session.specs.declared.world.World.{World}
 use Rattle.lt_session.proofs.Columns.{some_columns, front_then, set_wide, set_held}
 use Rattle.lt_session.proofs.Folds.{shows}
+use Rattle.lt_session.proofs.Said.{Shows-unwritten}
 use Rattle.lt_session.proofs.Versions.{state_at, made}
 
 module _ (w : World) (m : model.World) (s : Shows w m) (name : List ℕ) (n : ℕ) (at : Option ℕ) (db : List Table) (versions : List (List Table)) (columns : List Kind) (rows : Option (Bor Relation))
@@ -46,3 +48,9 @@ module _ (w : World) (m : model.World) (s : Shows w m) (name : List ℕ) (n : �
       ∙ ap (λ (ks : List Kind). says m (show_text name at ks (rows_in (at_version m at) n))) (sym same_columns)
       ∙ ap (λ (st : State). says m (show_text name at columns (rows_in st n))) state
       ∙ ap (λ (rs : List Row). says m (show_text name at columns rs)) (sym (set_held rows (state_of db) n are))
+
+pub show_said : (marks : Bool) (w : World) (m : model.World) (s : Shows w m) (name : List ℕ) (n : ℕ) (at : Option ℕ) (db : List Table) (columns : List Kind) (rows : Option (Bor Relation))
+    → Some n ≡ number_of w.schema name → Some db ≡ database_of w.database w.versions at → columns ≡ columns_of w.schema name → option_copied rows ≡ slice_get (state_of db) n
+    → said marks m (Show name at) ≡ show_text name at columns (held (λ (set : Relation). set.rows) rows)
+show_said marks w m s name n at db columns rows found there cols are =
+    ap (λ (v : model.World). v.text) (is_shown w (unwritten m) (Shows-unwritten w m s) name n at db w.versions columns rows found refl there cols are)

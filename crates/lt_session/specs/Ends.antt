@@ -1,15 +1,23 @@
 -- What each way to end shows of the source and the sink.
-use Rattle.std.specs.Prelude.{ℕ, ◌<◌, ◌≤◌, false, List, length}
+use Rattle.std.specs.Prelude.{ℕ, Bool, ◌<◌, ◌≤◌, ◌⊎◌, List, length, Some, None, ⊤}
 use Rattle.std.specs.declared.option.Option.{Option}
 use Rattle.std.specs.Io.KnownBytes.{Appends, Consumes, IsAtEnd, Keeps}
+use Rattle.lt_command.specs.declared.words.Command.{Command}
+use Rattle.lt_command.specs.declared.words.Command.TheVariants.{Bench, Run}
 use Rattle.lt_edges.specs.Causes.{Rose}
 use Rattle.lt_model.specs.declared.syntax.Item.{Item}
 use Rattle.lt_model.specs.Script.{Close, End, Fault, Script}
 use Rattle.lt_model.specs.Report.{report}
+use Rattle.lt_report.specs.Puts.{AppendsFront}
 use Rattle.lt_session.specs.declared.status.Status.{Status}
 use Rattle.lt_session.specs.declared.status.Status.TheVariants.{Done, NotTaken, Faulty, ReadFault, WriteFault, NoMemory, TooLong}
 use Rattle.lt_session.specs.Input.{limit}
-use Rattle.lt_session.specs.Writing.{AppendsFront}
+
+-- the words ask for a run, with marks or without, of which this holds
+abbrev pub IfRun : Option Command → (Bool → Type 0) → Type 0
+IfRun (Some (Run workers marks)) P = P marks
+IfRun (Some (Bench seed items programs workers)) P = ⊤
+IfRun None P = ⊤
 
 -- these are all bytes that the source had left, and they are within the limit
 pub record IsInput (left_old left_new : Option (List ℕ)) (bytes : List ℕ) : Type 0 where
@@ -18,42 +26,42 @@ pub record IsInput (left_old left_new : Option (List ℕ)) (bytes : List ℕ) : 
   pub within : length bytes ≤ limit
 
 -- the input is a script without a fault, and its report was written
-pub record IsReported (left_old left_new holds_old holds_new : Option (List ℕ)) : Type 0 where
+pub record IsReported (marks : Bool) (left_old left_new holds_old holds_new : Option (List ℕ)) : Type 0 where
   pub bytes : List ℕ
   pub input : IsInput left_old left_new bytes
   pub items : List Item
   pub script : Script bytes items End
-  pub written : Appends holds_old holds_new (report false items End)
+  pub written : Appends holds_old holds_new (report marks items End)
 
 -- the input is a script with a fault, and its report was written, whose last line is the fault
-pub record IsFaultReported (left_old left_new holds_old holds_new : Option (List ℕ)) : Type 0 where
+pub record IsFaultReported (marks : Bool) (left_old left_new holds_old holds_new : Option (List ℕ)) : Type 0 where
   pub bytes : List ℕ
   pub input : IsInput left_old left_new bytes
   pub items : List Item
   pub line : ℕ
   pub code : ℕ
   pub script : Script bytes items (Fault line code)
-  pub written : Appends holds_old holds_new (report false items (Fault line code))
+  pub written : Appends holds_old holds_new (report marks items (Fault line code))
 
 -- a front of the input's report was written
-pub record IsPart (left_old left_new holds_old holds_new : Option (List ℕ)) : Type 0 where
+pub record IsPart (marks : Bool) (left_old left_new holds_old holds_new : Option (List ℕ)) : Type 0 where
   pub bytes : List ℕ
   pub input : IsInput left_old left_new bytes
   pub items : List Item
   pub close : Close
   pub script : Script bytes items close
-  pub written : AppendsFront holds_old holds_new (report false items close)
+  pub written : AppendsFront holds_old holds_new (report marks items close)
 
 -- more than the limit was read
 abbrev pub IsTooLong : Option (List ℕ) → Option (List ℕ) → Type 0
 IsTooLong left_old left_new = (taken : List ℕ) × Consumes left_old left_new taken × (limit < length taken)
 
 -- how a run of a script ends
-abbrev pub EndsAs : Status → Option (List ℕ) → Option (List ℕ) → ℕ → ℕ → Option (List ℕ) → Option (List ℕ) → ℕ → ℕ → Type 0
-EndsAs Done l m r s h i w x = IsReported l m h i
-EndsAs NotTaken l m r s h i w x = ⊥
-EndsAs Faulty l m r s h i w x = IsFaultReported l m h i
-EndsAs ReadFault l m r s h i w x = Rose r s × Keeps h i
-EndsAs WriteFault l m r s h i w x = Rose w x × IsPart l m h i
-EndsAs NoMemory l m r s h i w x = Keeps h i
-EndsAs TooLong l m r s h i w x = IsTooLong l m × Keeps h i
+abbrev pub EndsAs : Bool → Status → Option (List ℕ) → Option (List ℕ) → ℕ → ℕ → Option (List ℕ) → Option (List ℕ) → ℕ → ℕ → Type 0
+EndsAs marks Done l m r s h i w x = IsReported marks l m h i
+EndsAs marks NotTaken l m r s h i w x = ⊥
+EndsAs marks Faulty l m r s h i w x = IsFaultReported marks l m h i
+EndsAs marks ReadFault l m r s h i w x = Rose r s × Keeps h i
+EndsAs marks WriteFault l m r s h i w x = Rose w x × IsPart marks l m h i
+EndsAs marks NoMemory l m r s h i w x = Keeps h i ⊎ IsPart marks l m h i
+EndsAs marks TooLong l m r s h i w x = IsTooLong l m × Keeps h i

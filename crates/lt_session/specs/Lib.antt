@@ -1,4 +1,3 @@
-pub mod Texts
 pub mod Batches
 pub mod Versions
 pub mod World

@@ -1,19 +1,28 @@
 -- Reports of scripts.
 use Rattle.std.specs.Prelude.{◌≡◌, ℕ, Bool, true, false, List}
+use Rattle.std.specs.declared.option.Option.{Option}
+use Rattle.std.specs.Io.KnownBytes.{Appends}
 use Rattle.lt_model.specs.declared.syntax.Item.{Item}
 use Rattle.lt_model.specs.Script.{Close, End, Fault, Script}
-use Rattle.lt_model.specs.Report as model
-use Rattle.lt_session.specs.declared.script.Report.{Report}
+use Rattle.lt_model.specs.Report.{report}
+use Rattle.lt_report.specs.Puts.{AppendsFront}
 
 -- whether a script ends with a fault
 abbrev pub is_fault : Close → Bool
 is_fault End = false
 is_fault (Fault line code) = true
 
--- it is the report of the bytes as a script, and says whether they have a fault
-pub record IsReportOf (bytes : List ℕ) (report : Report) : Type 0 where
+-- the report of the bytes as a script was written, and it is told whether they have a fault
+pub record IsReportOf (marks : Bool) (bytes : List ℕ) (faulty : Bool) (old new : Option (List ℕ)) : Type 0 where
   pub items : List Item
   pub close : Close
   pub script : Script bytes items close
-  pub text : report.text.items ≡ model.report false items close
-  pub faulty : report.faulty ≡ is_fault close
+  pub written : Appends old new (report marks items close)
+  pub told : faulty ≡ is_fault close
+
+-- a front of the report of the bytes was written
+pub record IsFrontOf (marks : Bool) (bytes : List ℕ) (old new : Option (List ℕ)) : Type 0 where
+  pub items : List Item
+  pub close : Close
+  pub script : Script bytes items close
+  pub written : AppendsFront old new (report marks items close)

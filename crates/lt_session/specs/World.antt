@@ -1,5 +1,5 @@
 -- What a session has, as the fold over the items of a script sees it.
-use Rattle.std.specs.Prelude.{◌≡◌, ◌≤◌, false, [], ◌∷◌, length, map}
+use Rattle.std.specs.Prelude.{◌≡◌, ◌≤◌, Bool, [], ◌∷◌, length, map}
 use Rattle.std.specs.List.{AllByRecursion}
 use Rattle.lt_model.specs.declared.syntax.Item.{Item}
 use Rattle.lt_model.specs.Report as model
@@ -16,7 +16,6 @@ pub record Shows (w : World) (m : model.World) : Type 0 where
   pub state : m.state ≡ state_of w.database
   pub versions : [] ∷ m.versions ≡ map state_of w.versions
   pub older : AllByRecursion (IsFront m.schema) m.versions
-  pub text : m.text ≡ w.report.items
 
 -- it stands somewhere
 pub record IsWorld (w : World) : Type 0 where
@@ -25,4 +24,12 @@ pub record IsWorld (w : World) : Type 0 where
 
 -- the session stands behind the item
 abbrev pub Takes : World → Item → World → Type 0
-Takes old item new = (m : model.World) → Shows old m → Shows new (model.step false m item)
+Takes old item new = (marks : Bool) (m : model.World) → Shows old m → Shows new (model.step marks m item)
+
+-- where the fold stands, with nothing written
+abbrev pub unwritten : model.World → model.World
+unwritten m = record m { text = [] }
+
+-- what the fold writes of the item
+abbrev pub said : Bool → model.World → Item → model.Text
+said marks m item = (model.step marks (unwritten m) item).text

@@ -1,23 +1,29 @@
 //! The programs of a batch: their check, and the lines of what they answered.
-ghost use Rattle.std.specs.Prelude.{◌≡◌, ◌≤◌, [], ◌∷◌, ◌++◌, length, map, filter_map, IfOk, OnOk};
+ghost use Rattle.std.specs.Prelude.{◌≡◌, [], ◌∷◌, ◌++◌, map, filter_map, IfOk, OnOk};
 ghost use Rattle.std.specs.Arc.{arc_value};
 ghost use Rattle.std.specs.List.{AllByRecursion};
 ghost use Rattle.lt_face.specs.State.{State};
 ghost use Rattle.lt_model.specs.Check.{checked};
 ghost use Rattle.lt_model.specs.Limits.{IsProgramWithin};
-ghost use Rattle.lt_model.specs.Report.{good_of, batch_text, version_text};
+ghost use Rattle.lt_model.specs.Report.{batch_text, done_text, good_of, version_text};
 ghost use Rattle.lt_model.specs.declared.syntax.Program.{Program as ProgramType};
 ghost use Rattle.lt_check.specs.States.{IsStateOf};
 ghost use Rattle.lt_program.specs.Run.{AreReplied};
-ghost use Rattle.lt_session.specs.Batches.{checked_of, FitsIfGood, told};
+ghost use Rattle.lt_report.specs.Headed.{IsHeaded};
+ghost use Rattle.lt_report.specs.Puts.{Puts};
+ghost use Rattle.lt_session.specs.Batches.{checked_of, FitsIfGood, HasAnswers, told};
 
-use crate::text::{put_bad_program, put_batch, put_reply, put_version};
+use lt_batch::{Effects, Replies};
 use lt_check::check::{CheckFault, check};
 use lt_check::schema::Schema;
+use lt_delta::Marks;
+use lt_edges::{Failed, Sink};
 use lt_face::NoMemory;
+use lt_model::name::{Headings, Name};
 use lt_model::normal::Prog;
 use lt_model::reply::Reply;
 use lt_model::syntax::Program;
+use lt_report::{put_bad_program, put_batch, put_marks, put_reply, put_version};
 use std::alloc::Global;
 use std::sync::Arc;
 
@@ -26,6 +32,15 @@ use std::sync::Arc;
 pub enum Judgement {
     Good(Arc<Prog>),
     Bad { code: u32, statement: u32 },
+}
+
+/// What a batch did: its number, what the check of each program gave, and of those without a code the replies and marks.
+#[derive(Drop)]
+pub struct Ran {
+    pub number: u64,
+    pub judgements: Vec<Judgement>,
+    pub replies: Replies,
+    pub effects: Effects,
 }
 
 // Checks a program.
@@ -87,27 +102,49 @@ pub fn good_ones(alloc: Global, judgements: &[Judgement]) -> Result<Vec<Arc<Prog
     Ok(good)
 }
 
-/// The lines of the programs in batch order. Those without a code take their replies from the list.
-pub fn put_programs(
-    out: &mut Vec<u8>,
+// What a program without a code answered, and what it wrote, where the marks are asked for.
+fn put_done<K: Sink>(
+    sink: &mut K,
+    name: &Name,
+    reply: &Reply,
+    effect: &Marks,
+    headings: &Headings,
+    marks: bool,
+) -> Result<(), Failed>
+    requires replied { AreReplied reply.now }
+    requires headed { AllByRecursion (IsHeaded headings.now) effect.now }
+    ensures { Puts result (K.holds sink.old) (K.holds sink.new) (K.faults sink.old) (K.faults sink.new) (done_text marks headings.now name.now (reply.now, effect.now)) }
+{
+    put_reply(sink, name, reply)?;
+    if marks {
+        return put_marks(sink, effect, headings);
+    }
+    Ok(())
+}
+
+// The lines of the programs in batch order. Those without a code take their replies and marks from the lists.
+fn put_programs<K: Sink>(
+    sink: &mut K,
     programs: &[Program],
     judgements: &[Judgement],
     replies: &[Reply],
-) -> Result<(), NoMemory>
-    requires same { length judgements.now ≡ length programs.now }
-    requires enough { length (filter_map good_of (map checked_of judgements.now)) ≤ length replies.now }
-    requires replied { AllByRecursion AreReplied replies.now }
-    ensures { OnOk result (out.new.items ≡ out.old.items ++ told programs.now (map checked_of judgements.now) replies.now) }
+    effects: &[Marks],
+    headings: &Headings,
+    marks: bool,
+) -> Result<(), Failed>
+    requires { HasAnswers headings.now programs.now judgements.now replies.now effects.now }
+    ensures { Puts result (K.holds sink.old) (K.holds sink.new) (K.faults sink.old) (K.faults sink.new) (told marks headings.now programs.now (map checked_of judgements.now) replies.now effects.now) }
 {
     let mut next = 0;
     for (i, program) in programs.iter().enumerate() {
         match &judgements[i] {
             Judgement::Good(_) => {
-                put_reply(out, program.name.as_bytes(), &replies[next])?;
+                let reply = &replies[next];
+                put_done(sink, &program.name, reply, &effects[next], headings, marks)?;
                 next += 1;
             }
             Judgement::Bad { code, statement } => {
-                put_bad_program(out, program.name.as_bytes(), *code, *statement)?;
+                put_bad_program(sink, &program.name, *code, *statement)?;
             }
         }
     }
@@ -115,20 +152,27 @@ pub fn put_programs(
 }
 
 /// The lines of a batch: its number, its programs in batch order, and its version, which has the same number.
-pub fn put_report(
-    out: &mut Vec<u8>,
-    number: u64,
+pub fn put_ran<K: Sink>(
+    sink: &mut K,
     programs: &[Program],
-    judgements: &[Judgement],
-    replies: &[Reply],
-) -> Result<(), NoMemory>
-    requires same { length judgements.now ≡ length programs.now }
-    requires enough { length (filter_map good_of (map checked_of judgements.now)) ≤ length replies.now }
-    requires replied { AllByRecursion AreReplied replies.now }
-    ensures { OnOk result (out.new.items ≡ ((out.old.items ++ batch_text number) ++ told programs.now (map checked_of judgements.now) replies.now) ++ version_text number) }
+    ran: &Ran,
+    headings: &Headings,
+    marks: bool,
+) -> Result<(), Failed>
+    requires { HasAnswers headings.now programs.now ran.now.judgements.items ran.now.replies ran.now.effects }
+    ensures { Puts result (K.holds sink.old) (K.holds sink.new) (K.faults sink.old) (K.faults sink.new) (batch_text ran.now.number ++ told marks headings.now programs.now (map checked_of ran.now.judgements.items) ran.now.replies ran.now.effects ++ version_text ran.now.number) }
 {
-    put_batch(out, number)?;
-    put_programs(out, programs, judgements, replies)?;
-    put_version(out, number)?;
-    Ok(())
+    put_batch(sink, ran.number)?;
+    let replies = ran.replies.as_slice();
+    let effects = ran.effects.as_slice();
+    put_programs(
+        sink,
+        programs,
+        &ran.judgements,
+        replies,
+        effects,
+        headings,
+        marks,
+    )?;
+    put_version(sink, ran.number)
 }

@@ -2,12 +2,12 @@
 #![tactic(auto)]
 
 mod batch;
+mod halt;
 mod input;
-mod output;
+mod options;
 mod repair;
 mod script;
 mod status;
-mod text;
 mod world;
 
 pub use repair::repair_main;

@@ -3,21 +3,31 @@ ghost use Rattle.std.specs.Prelude.{◌≡◌, ◌≤◌, IsTrue, IfSome, IsSome
 ghost use Rattle.std.specs.Io.KnownBytes.{Appends, Keeps};
 ghost use Rattle.lt_edges.specs.Causes.{Rose};
 ghost use Rattle.lt_model.specs.Report.{usage_text};
-ghost use Rattle.lt_command.specs.Command.{is_taken};
+ghost use Rattle.lt_command.specs.Command.{command, is_taken};
+ghost use Rattle.lt_report.specs.Puts.{AppendsFront, Puts};
 ghost use Rattle.lt_session.specs.Input.{limit};
 ghost use Rattle.lt_session.specs.Statuses.{status_code};
-ghost use Rattle.lt_session.specs.Ends.{IsReported, IsFaultReported, IsTooLong, IsPart, EndsAs};
-ghost use Rattle.lt_session.specs.Writing.{AppendsFront};
+ghost use Rattle.lt_session.specs.Ends.{EndsAs, IfRun, IsFaultReported, IsPart, IsReported, IsTooLong};
 
+use crate::halt::Halt;
 use crate::input::{InputError, read_all};
-use crate::output::write_lines;
-use crate::script::report_of;
+use crate::options::Options;
+use crate::script::write_report;
 use crate::status::{Status, code};
 use lt_command::{Command, command_of};
-use lt_edges::{Gate, Sink, Source};
+use lt_edges::{Failed, Gate, Sink, Source};
+use lt_report::put_usage;
 use std::alloc::Global;
 use std::sync::Wait;
 use std::thread::Threads;
+
+// Writes the usage line and passes it on.
+fn write_usage<K: Sink>(sink: &mut K) -> Result<(), Failed>
+    ensures { Puts result (K.holds sink.old) (K.holds sink.new) (K.faults sink.old) (K.faults sink.new) usage_text }
+{
+    put_usage(sink)?;
+    sink.flush()
+}
 
 // Where the words aren't taken.
 fn refuse_words<K: Sink>(sink: &mut K) -> Status
@@ -26,9 +36,7 @@ fn refuse_words<K: Sink>(sink: &mut K) -> Status
     ensures write_fault { status_code result ≡ 4 → Rose (K.faults sink.old) (K.faults sink.new) }
     ensures status { (status_code result ≡ 1) ⊎ (status_code result ≡ 4) }
 {
-    let usage =
-        "usage: lt_shell run [--workers N] [--marks] | lt_shell bench --seed S --items I --programs P [--workers N]\n";
-    match write_lines(sink, usage.as_bytes()) {
+    match write_usage(sink) {
         Ok(()) => Status::NotTaken,
         Err(_) => Status::WriteFault,
     }
@@ -40,11 +48,11 @@ fn run_script<R: Threads + Wait + Sync, S: Source, K: Sink, G: Gate>(
     alloc: Global,
     source: &mut S,
     sink: &mut K,
-    workers: u32,
+    options: Options,
     gate: &G,
 ) -> Status
-    requires workers { (1 ≤ workers) × (workers ≤ 16) }
-    ensures { EndsAs result (S.left source.old) (S.left source.new) (S.faults source.old) (S.faults source.new)
+    requires workers { (1 ≤ options.workers) × (options.workers ≤ 16) }
+    ensures { EndsAs options.marks result (S.left source.old) (S.left source.new) (S.faults source.old) (S.faults source.new)
         (K.holds sink.old) (K.holds sink.new) (K.faults sink.old) (K.faults sink.new) }
 {
     let bytes = match read_all(alloc, source) {
@@ -53,11 +61,13 @@ fn run_script<R: Threads + Wait + Sync, S: Source, K: Sink, G: Gate>(
         Err(InputError::Failed) => return Status::ReadFault,
         Err(InputError::TooLong) => return Status::TooLong,
     };
-    let Ok(report) = report_of(rt, alloc, &bytes, workers, gate) else {
-        return Status::NoMemory;
+    let faulty = match write_report(rt, alloc, sink, &bytes, options, gate) {
+        Ok(faulty) => faulty,
+        Err(Halt::NoMemory) => return Status::NoMemory,
+        Err(Halt::Failed) => return Status::WriteFault,
     };
-    match write_lines(sink, &report.text) {
-        Ok(()) if report.faulty => Status::Faulty,
+    match sink.flush() {
+        Ok(()) if faulty => Status::Faulty,
         Ok(()) => Status::Done,
         Err(_) => Status::WriteFault,
     }
@@ -74,29 +84,32 @@ pub fn repair_main<R: Threads + Wait + Sync, S: Source, K: Sink, G: Gate>(
     sink: &mut K,
     gate: &G,
 ) -> u8
-    // The bytes written are the report of the bytes read.
-    ensures reported { result ≡ 0 → IsReported (S.left source.old) (S.left source.new) (K.holds sink.old) (K.holds sink.new) }
-    ensures faulty { result ≡ 2 → IsFaultReported (S.left source.old) (S.left source.new) (K.holds sink.old) (K.holds sink.new) }
+    // A run: the bytes written are the report of the bytes read, with marks where they are asked for.
+    ensures reported { result ≡ 0 → IfRun (command (map string_bytes words.now)) (λ marks. IsReported marks (S.left source.old) (S.left source.new) (K.holds sink.old) (K.holds sink.new)) }
+    ensures faulty { result ≡ 2 → IfRun (command (map string_bytes words.now)) (λ marks. IsFaultReported marks (S.left source.old) (S.left source.new) (K.holds sink.old) (K.holds sink.new)) }
     // Why it ended otherwise.
     ensures words { (result ≡ 1) ⊎ (result ≡ 4) ⊎ (result ≡ 5) ⊎ IsTrue (is_taken (map string_bytes words.now)) }
-    ensures not_taken { result ≡ 1 → is_taken (map string_bytes words.now) ≡ false }
+    ensures not_taken { result ≡ 1 → IfRun (command (map string_bytes words.now)) (λ marks. ⊥) }
     ensures usage { result ≡ 1 → Appends (K.holds sink.old) (K.holds sink.new) usage_text }
     ensures read_fault { result ≡ 3 → Rose (S.faults source.old) (S.faults source.new) }
     ensures write_fault { result ≡ 4 → Rose (K.faults sink.old) (K.faults sink.new) }
     ensures too_long { result ≡ 6 → IsTooLong (S.left source.old) (S.left source.new) }
     ensures known { result ≤ 6 }
     // What was written until then.
-    ensures part { result ≡ 4 → IsTrue (is_taken (map string_bytes words.now)) → IsPart (S.left source.old) (S.left source.new) (K.holds sink.old) (K.holds sink.new) }
+    ensures part { result ≡ 4 → IfRun (command (map string_bytes words.now)) (λ marks. IsPart marks (S.left source.old) (S.left source.new) (K.holds sink.old) (K.holds sink.new)) }
+    ensures memory_part { result ≡ 5 → IfRun (command (map string_bytes words.now)) (λ marks. Keeps (K.holds sink.old) (K.holds sink.new) ⊎ IsPart marks (S.left source.old) (S.left source.new) (K.holds sink.old) (K.holds sink.new)) }
     ensures usage_part { result ≡ 4 → is_taken (map string_bytes words.now) ≡ false → AppendsFront (K.holds sink.old) (K.holds sink.new) usage_text }
-    ensures unwritten { ((result ≡ 3) ⊎ (result ≡ 5) ⊎ (result ≡ 6)) → Keeps (K.holds sink.old) (K.holds sink.new) }
+    ensures unwritten { ((result ≡ 3) ⊎ (result ≡ 6)) → Keeps (K.holds sink.old) (K.holds sink.new) }
     // Where no read and no write failed and the input is within the limit, it is run, or memory ran out.
-    ensures complete { IsTrue (is_taken (map string_bytes words.now)) → (Rose (S.faults source.old) (S.faults source.new) → ⊥) → (Rose (K.faults sink.old) (K.faults sink.new) → ⊥)
-        → IfSome (S.left source.old) (λ bytes. length bytes ≤ limit) → IsSome (S.left source.old) → (result ≡ 0) ⊎ (result ≡ 2) ⊎ (result ≡ 5) }
+    ensures complete { IfRun (command (map string_bytes words.now)) (λ marks. (Rose (S.faults source.old) (S.faults source.new) → ⊥) → (Rose (K.faults sink.old) (K.faults sink.new) → ⊥)
+        → IfSome (S.left source.old) (λ bytes. length bytes ≤ limit) → IsSome (S.left source.old) → (result ≡ 0) ⊎ (result ≡ 2) ⊎ (result ≡ 5)) }
 {
     match command_of(alloc, words) {
-        Ok(Some(Command::Run { workers })) => {
-            code(run_script(rt, alloc, source, sink, workers, gate))
+        Ok(Some(Command::Run { workers, marks })) => {
+            let options = Options { workers, marks };
+            code(run_script(rt, alloc, source, sink, options, gate))
         }
+        Ok(Some(Command::Bench { .. })) => code(refuse_words(sink)),
         Ok(None) => code(refuse_words(sink)),
         Err(_) => code(Status::NoMemory),
     }

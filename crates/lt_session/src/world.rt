@@ -1,34 +1,37 @@
 //! What a script has made so far.
-ghost use Rattle.std.specs.Prelude.{◌≡◌, ◌≤◌, ◌++◌, ◌∷◌, [], length, IfOk, OnOk};
+ghost use Rattle.std.specs.Prelude.{◌≡◌, ◌≤◌, ◌++◌, ◌∷◌, [], length, false, Bool, IfOk, OnOk};
 ghost use Rattle.std.specs.List.{AllByRecursion};
-ghost use Rattle.std.specs.Option.{option_copied};
+ghost use Rattle.std.specs.Option.{option_copied, option_map_or};
 ghost use Rattle.lt_model.specs.declared.syntax.Item.TheVariants as items;
 ghost use Rattle.lt_model.specs.Limits.{IsWithinLimits, IsProgramWithin};
-ghost use Rattle.lt_model.specs.Report.{opening};
+ghost use Rattle.lt_model.specs.Report.{bad_text, opening};
+ghost use Rattle.lt_report.specs.Puts.{Puts};
 ghost use Rattle.lt_session.specs.Versions.{database_of};
+ghost use Rattle.lt_session.specs.Writing.{Writes};
 
-use crate::batch::{all_judged, good_ones, put_report};
-use crate::text::{put_bad, put_show};
+use crate::batch::{Ran, all_judged, good_ones, put_ran};
+use crate::halt::Halt;
+use crate::options::Options;
 use lt_base::Database;
-use lt_batch::run_batch;
+use lt_batch::{Outcome, run_batch};
 use lt_check::schema::{DeclareFault, Schema};
-use lt_edges::Gate;
+use lt_edges::{Failed, Gate, Sink};
 use lt_face::NoMemory;
 use lt_model::kind::KindList;
 use lt_model::name::Name;
 use lt_model::syntax::{Item, Program};
+use lt_report::{put_bad_item, put_rows};
 use lt_versions::Versions;
 use std::alloc::Global;
 use std::sync::Wait;
 use std::thread::Threads;
 
-/// The relations by name, the database, its versions by number, and the report. Version 0 has no relations.
+/// The relations by name, the database, and its versions by number. Version 0 has no relations.
 #[derive(Drop)]
 pub struct World {
     pub schema: Schema,
     pub database: Database,
     pub versions: Versions,
-    pub report: Vec<u8>,
 }
 
 // The database of now, or of a version that is there.
@@ -46,7 +49,9 @@ fn database_at<'a>(
 }
 
 impl World {
-    ghost use Rattle.lt_session.specs.World.{Shows, IsWorld, Takes};
+    ghost use Rattle.lt_model.specs.Report as model;
+    ghost use Rattle.lt_session.specs.Batches.{IsRun};
+    ghost use Rattle.lt_session.specs.World.{IsWorld, said, Shows, Takes};
 
     /// No relation, and no version but the empty one.
     pub fn new(alloc: Global) -> Result<World, NoMemory>
@@ -57,50 +62,63 @@ impl World {
             schema: Schema::new(alloc),
             database: Database::empty(alloc),
             versions,
-            report: Vec::new(alloc),
         })
     }
 
-    /// A relation more, without rows.
-    pub fn declare(&mut self, name: Name, kinds: KindList) -> Result<(), NoMemory>
+    /// A relation more, without rows, or the code that the item has.
+    pub fn declare(&mut self, name: Name, kinds: KindList) -> Result<Option<u32>, NoMemory>
         requires { IsWithinLimits (items.Relation name kinds) }
-        ensures { OnOk result (Takes self.old (items.Relation name kinds) self.new) }
+        ensures world { OnOk result (Takes self.old (items.Relation name kinds) self.new) }
+        ensures code { IfOk result (λ code. (marks : Bool) (m : model.World) → Shows self.old m → said marks m (items.Relation name kinds) ≡ option_map_or bad_text code []) }
     {
         let width = kinds.as_slice().len();
         match self.schema.declare(name, kinds) {
             Ok(_) => {
                 self.database = self.database.declared(width)?;
-                Ok(())
+                Ok(None)
             }
-            Err(DeclareFault::Taken) => {
-                put_bad(&mut self.report, 24)?;
-                Ok(())
-            }
-            Err(DeclareFault::Full) => {
-                put_bad(&mut self.report, 25)?;
-                Ok(())
-            }
+            Err(DeclareFault::Taken) => Ok(Some(24)),
+            Err(DeclareFault::Full) => Ok(Some(25)),
             Err(DeclareFault::NoMemory) => Err(NoMemory),
         }
     }
 
+    // Takes a declaration. The code that it has is written.
+    fn relation<K: Sink>(&mut self, sink: &mut K, name: Name, kinds: KindList) -> Result<(), Halt>
+        requires { IsWithinLimits (items.Relation name kinds) }
+        ensures world { OnOk result (Takes self.old (items.Relation name kinds) self.new) }
+        ensures text { (marks : Bool) (m : model.World) → Shows self.old m → Writes result (K.holds sink.old) (K.holds sink.new) (K.faults sink.old) (K.faults sink.new) (said marks m (items.Relation name kinds)) }
+    {
+        let code = self.declare(name, kinds)?;
+        match code {
+            Some(code) => {
+                put_bad_item(sink, code)?;
+                Ok(())
+            }
+            None => Ok(()),
+        }
+    }
+
     /// Writes what a relation holds, or what it held at a version.
-    pub fn show(&mut self, name: &Name, at: Option<u64>) -> Result<(), NoMemory>
-        requires { IsWorld self.old }
-        ensures { OnOk result (Takes self.old (items.Show name.now at) self.new) }
+    pub fn show<K: Sink>(
+        &self,
+        alloc: Global,
+        sink: &mut K,
+        name: &Name,
+        at: Option<u64>,
+    ) -> Result<(), Failed>
+        requires { IsWorld self.now }
+        ensures { (marks : Bool) (m : model.World) → Shows self.now m → Puts result (K.holds sink.old) (K.holds sink.new) (K.faults sink.old) (K.faults sink.new) (said marks m (items.Show name.now at)) }
     {
         let Some(number) = self.schema.find(name) else {
-            put_bad(&mut self.report, 20)?;
-            return Ok(());
+            return put_bad_item(sink, 20);
         };
         let Some(database) = database_at(&self.database, &self.versions, at) else {
-            put_bad(&mut self.report, 26)?;
-            return Ok(());
+            return put_bad_item(sink, 26);
         };
         let columns = self.schema.columns(name);
         let rows = database.rows(number);
-        put_show(&mut self.report, name.as_bytes(), at, columns, rows)?;
-        Ok(())
+        put_rows(sink, alloc, name, at, columns, rows)
     }
 
     /// The number that the next version has.
@@ -112,66 +130,100 @@ impl World {
     }
 
     /// Makes this the database and its next version.
-    fn keep(&mut self, database: &Database) -> Result<(), NoMemory>
-        ensures database { OnOk result (self.new.database ≡ database.now) }
-        ensures versions { OnOk result (self.new.versions ≡ self.old.versions ++ database.now ∷ []) }
+    fn keep(&mut self, database: Database) -> Result<(), NoMemory>
+        ensures database { OnOk result (self.new.database ≡ database) }
+        ensures versions { OnOk result (self.new.versions ≡ self.old.versions ++ database ∷ []) }
         ensures schema { OnOk result (self.new.schema ≡ self.old.schema) }
-        ensures report { OnOk result (self.new.report ≡ self.old.report) }
     {
         let version = database.share()?;
         self.versions.publish(version)?;
-        self.database = database.share()?;
+        self.database = database;
         Ok(())
     }
 
     /// Runs a batch by so many workers and makes its version. The programs without a code are the leaves of a repair circuit.
-    pub fn batch<R: Threads + Wait + Sync, G: Gate>(
+    pub fn run<R: Threads + Wait + Sync, G: Gate>(
         &mut self,
         rt: &R,
         alloc: Global,
         programs: &[Program],
         workers: u32,
         gate: &G,
-    ) -> Result<(), NoMemory>
+    ) -> Result<Ran, NoMemory>
         requires workers { (1 ≤ workers) × (workers ≤ 16) }
         requires world { IsWorld self.old }
         requires within { AllByRecursion IsProgramWithin programs.now }
         requires few { length programs.now ≤ 256 }
-        ensures { OnOk result (Takes self.old (items.Batch programs.now) self.new) }
+        ensures ran { IfOk result (λ ran. IsRun self.old programs.now ran) }
+        ensures world { OnOk result (Takes self.old (items.Batch programs.now) self.new) }
+        ensures schema { OnOk result (self.new.schema ≡ self.old.schema) }
     {
         let number = self.next_number();
         let judgements = all_judged(alloc, programs, &self.schema)?;
         let good = good_ones(alloc, &judgements)?;
         let outcome = run_batch(rt, alloc, &self.database, &good, workers, gate)?;
-        put_report(
-            &mut self.report,
+        let Outcome {
+            replies,
+            effects,
+            db,
+            ..
+        } = outcome;
+        self.keep(db)?;
+        Ok(Ran {
             number,
-            programs,
-            &judgements,
-            outcome.replies.as_slice(),
-        )?;
-        self.keep(&outcome.db)?;
-        Ok(())
+            judgements,
+            replies,
+            effects,
+        })
     }
 
-    /// Takes the next item of a script.
-    pub fn take<R: Threads + Wait + Sync, G: Gate>(
+    /// Runs a batch and writes its lines.
+    pub fn batch<R: Threads + Wait + Sync, K: Sink, G: Gate>(
         &mut self,
         rt: &R,
         alloc: Global,
-        item: Item,
-        workers: u32,
+        sink: &mut K,
+        programs: &[Program],
+        options: Options,
         gate: &G,
-    ) -> Result<(), NoMemory>
-        requires workers { (1 ≤ workers) × (workers ≤ 16) }
+    ) -> Result<(), Halt>
+        requires workers { (1 ≤ options.workers) × (options.workers ≤ 16) }
+        requires world { IsWorld self.old }
+        requires within { AllByRecursion IsProgramWithin programs.now }
+        requires few { length programs.now ≤ 256 }
+        ensures world { OnOk result (Takes self.old (items.Batch programs.now) self.new) }
+        ensures text { (m : model.World) → Shows self.old m → Writes result (K.holds sink.old) (K.holds sink.new) (K.faults sink.old) (K.faults sink.new) (said options.marks m (items.Batch programs.now)) }
+    {
+        let ran = self.run(rt, alloc, programs, options.workers, gate)?;
+        put_ran(sink, programs, &ran, self.schema.headings(), options.marks)?;
+        Ok(())
+    }
+
+    /// Takes the next item of a script: what it answers is written.
+    pub fn take<R: Threads + Wait + Sync, K: Sink, G: Gate>(
+        &mut self,
+        rt: &R,
+        alloc: Global,
+        sink: &mut K,
+        item: Item,
+        options: Options,
+        gate: &G,
+    ) -> Result<(), Halt>
+        requires workers { (1 ≤ options.workers) × (options.workers ≤ 16) }
         requires world { IsWorld self.old }
         requires within { IsWithinLimits item }
-        ensures { OnOk result (Takes self.old item self.new) }
+        ensures world { OnOk result (Takes self.old item self.new) }
+        ensures text { (m : model.World) → Shows self.old m → Writes result (K.holds sink.old) (K.holds sink.new) (K.faults sink.old) (K.faults sink.new) (said options.marks m item) }
     {
         match item {
-            Item::Relation { name, kinds } => self.declare(name, kinds),
-            Item::Batch { programs } => self.batch(rt, alloc, programs.as_slice(), workers, gate),
-            Item::Show { name, at } => self.show(&name, at),
+            Item::Relation { name, kinds } => self.relation(sink, name, kinds),
+            Item::Batch { programs } => {
+                self.batch(rt, alloc, sink, programs.as_slice(), options, gate)
+            }
+            Item::Show { name, at } => {
+                self.show(alloc, sink, &name, at)?;
+                Ok(())
+            }
         }
     }
 }

@@ -1,15 +1,19 @@
-//! Scripts: the items and the first faults that they are read as, the codes of their statements, and
-//! whole scripts, bytes in and bytes out.
+//! Scripts: the items and the first faults that they are read as, the codes of their statements,
+//! the script of the bench, and whole scripts, bytes in and bytes out.
 #![tactic(auto)]
 
 #[cfg(test)]
 mod agree;
+#[cfg(test)]
+mod benches;
 #[cfg(test)]
 mod checks;
 #[cfg(test)]
 mod endings;
 #[cfg(test)]
 mod items;
+#[cfg(test)]
+mod marks;
 #[cfg(test)]
 mod scripts;
 #[cfg(test)]

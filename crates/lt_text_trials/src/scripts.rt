@@ -237,7 +237,7 @@ fn ends_where_a_read_or_a_write_fails(rt: HostRuntime) -> Result<(), Fail> {
     let mut source = MemSource::new(alloc, script, 7, &[])?;
     let (status, sink) = outcome(&rt, alloc, &mut source, &[3])?;
     same(&rt, status, 4);
-    same(&rt, sink.bytes(), b"batch 1\np done\n".as_slice());
+    same(&rt, sink.bytes(), b"batch ".as_slice());
     Ok(())
 }
 

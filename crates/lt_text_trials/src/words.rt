@@ -18,16 +18,19 @@ pub(crate) fn words_of(alloc: Global, words: &[&str]) -> Result<Vec<String>, All
     Ok(all)
 }
 
-// Command lines without the program's name, one word between spaces, and how many workers they ask for.
-const LINES: [(&str, Option<u32>); 30] = [
-    ("run", Some(4)),
-    ("run --workers 1", Some(1)),
-    ("run --workers 16", Some(16)),
-    ("run --workers=4", Some(4)),
-    ("run --workers 04", Some(4)),
-    ("run --workers +4", Some(4)),
-    ("run --", Some(4)),
-    ("run --workers 2 --", Some(2)),
+// Command lines without the program's name, one word between spaces; how many workers they ask for, and whether for marks.
+const LINES: [(&str, Option<(u32, bool)>); 38] = [
+    ("run", Some((4, false))),
+    ("run --workers 1", Some((1, false))),
+    ("run --workers 16", Some((16, false))),
+    ("run --workers=4", Some((4, false))),
+    ("run --workers 04", Some((4, false))),
+    ("run --workers +4", Some((4, false))),
+    ("run --", Some((4, false))),
+    ("run --workers 2 --", Some((2, false))),
+    ("run --marks", Some((4, true))),
+    ("run --marks --workers 2", Some((2, true))),
+    ("run --workers 2 --marks", Some((2, true))),
     ("", None),
     ("run --workers", None),
     ("run --workers 0", None),
@@ -42,6 +45,11 @@ const LINES: [(&str, Option<u32>); 30] = [
     ("--workers 4 run", None),
     ("run run", None),
     ("run -- run", None),
+    ("run --marks=true", None),
+    ("run --marks true", None),
+    ("run --marks --marks", None),
+    ("run -- --marks", None),
+    ("--marks run", None),
     ("--help", None),
     ("help", None),
     ("help run", None),
@@ -50,6 +58,37 @@ const LINES: [(&str, Option<u32>); 30] = [
     ("run --version", None),
     ("ru", None),
     ("walk", None),
+];
+
+// Command lines of the bench: the seed, how many items and programs there are, and how many workers.
+const BENCHES: [(&str, Option<(u64, u32, u32, u32)>); 15] = [
+    (
+        "bench --seed 1 --items 64 --programs 32",
+        Some((1, 64, 32, 4)),
+    ),
+    (
+        "bench --workers 16 --programs 32 --items 64 --seed 1",
+        Some((1, 64, 32, 16)),
+    ),
+    ("bench --seed 0 --items 1 --programs 1", Some((0, 1, 1, 4))),
+    (
+        "bench --seed 18446744073709551615 --items 16384 --programs 65536",
+        Some((18_446_744_073_709_551_615, 16_384, 65_536, 4)),
+    ),
+    ("bench", None),
+    ("bench --items 64 --programs 32", None),
+    ("bench --seed 1 --programs 32", None),
+    ("bench --seed 1 --items 64", None),
+    (
+        "bench --seed 18446744073709551616 --items 64 --programs 32",
+        None,
+    ),
+    ("bench --seed -1 --items 64 --programs 32", None),
+    ("bench --seed 1 --items 0 --programs 32", None),
+    ("bench --seed 1 --items 16385 --programs 32", None),
+    ("bench --seed 1 --items 64 --programs 0", None),
+    ("bench --seed 1 --items 64 --programs 65537", None),
+    ("bench --seed 1 --items 64 --programs 32 --marks", None),
 ];
 
 // The words of a line, after the program's name.
@@ -62,12 +101,31 @@ fn line_words(alloc: Global, line: &str) -> Result<Vec<String>, AllocError> {
 }
 
 #[test]
-fn asks_for_workers(rt: HostRuntime) -> Result<(), Fail> {
-    for (line, workers) in LINES {
+fn asks_for_a_run(rt: HostRuntime) -> Result<(), Fail> {
+    for (line, options) in LINES {
         let words = line_words(rt.alloc(), line)?;
         let asked = command_of(rt.alloc(), &words)?;
-        let expected = match workers {
-            Some(workers) => Some(Command::Run { workers }),
+        let expected = match options {
+            Some((workers, marks)) => Some(Command::Run { workers, marks }),
+            None => None,
+        };
+        same_at(&rt, asked, expected, line);
+    }
+    Ok(())
+}
+
+#[test]
+fn asks_for_a_bench(rt: HostRuntime) -> Result<(), Fail> {
+    for (line, numbers) in BENCHES {
+        let words = line_words(rt.alloc(), line)?;
+        let asked = command_of(rt.alloc(), &words)?;
+        let expected = match numbers {
+            Some((seed, items, programs, workers)) => Some(Command::Bench {
+                seed,
+                items,
+                programs,
+                workers,
+            }),
             None => None,
         };
         same_at(&rt, asked, expected, line);
@@ -78,12 +136,12 @@ fn asks_for_workers(rt: HostRuntime) -> Result<(), Fail> {
 #[test]
 fn runs_or_tells_how_it_is_called(rt: HostRuntime) -> Result<(), Fail> {
     let alloc = rt.alloc();
-    for (line, workers) in LINES {
+    for (line, options) in LINES {
         let words = line_words(alloc, line)?;
         let mut source = MemSource::new(alloc, b"", 1, &[])?;
         let mut sink = MemSink::new(alloc, 1000, &[])?;
         let status = repair_main(&rt, alloc, &words, &mut source, &mut sink, &OpenGate);
-        let (expected, written) = match workers {
+        let (expected, written) = match options {
             Some(_) => (0, ""),
             None => (1, USAGE),
         };

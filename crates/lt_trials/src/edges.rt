@@ -1,12 +1,13 @@
 //! Sources and sinks in memory, those that never fail, and those over the library's readers and writers.
 use crate::agree::{holds, same};
 use lt_edges::{
-    Failed, Gate, MemSink, MemSource, OpenGate, Sink, Source, StdSink, StdSource, SureSink,
-    SureSource,
+    Failed, Gate, MeetGate, MemSink, MemSource, OpenGate, Sink, Source, StdSink, StdSource,
+    SureSink, SureSource,
 };
 use lt_face::NoMemory;
 use std::io::{self, ErrorKind, Read, Write};
 use std::process::Abort;
+use std::sync::Wait;
 
 #[test]
 fn reads_in_steps_up_to_the_end(rt: HostRuntime) -> Result<(), NoMemory> {
@@ -55,6 +56,20 @@ fn never_fails(rt: HostRuntime) {
     same(&rt, sink.write(b"abc"), Ok(3));
     same(&rt, sink.flush(), Ok(()));
     OpenGate.pass(&rt, 0, 0);
+}
+
+/// Whether a gate that holds job 0 until job 3 has come was met by these two calls of one thread.
+fn meets<R: Wait>(rt: &R, first: u32, second: u32) -> bool {
+    let gate = MeetGate::new(0, 3, 10);
+    gate.pass(rt, 0, first);
+    gate.pass(rt, 0, second);
+    gate.met()
+}
+
+#[test]
+fn one_thread_meets_only_what_came_before(rt: HostRuntime) {
+    same(&rt, meets(&rt, 0, 3), false);
+    same(&rt, meets(&rt, 3, 0), true);
 }
 
 #[test]

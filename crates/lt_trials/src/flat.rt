@@ -5,22 +5,24 @@ use crate::agree::{holds, same};
 use lt_face::{CELL_LIMIT, Items, Key, NoMemory, Row, RowReads, RowSet};
 use lt_flat::FlatRows;
 use lt_over::FlatOver;
+use lt_shared::SharedRows;
 use std::alloc::Global;
 use std::process::Abort;
 
 /// A row of two cells.
-type Pair = (Key, Key);
+pub(crate) type Pair = (Key, Key);
 
 /// One row goes in, or out.
 #[derive(Clone, Copy)]
-enum Edit {
+pub(crate) enum Edit {
     Insert(Pair),
     Remove(Pair),
 }
 
 use Edit::{Insert, Remove};
 
-fn row(alloc: Global, pair: Pair) -> Row
+/// The row of two cells.
+pub(crate) fn row(alloc: Global, pair: Pair) -> Row
     ensures { result ≡ pair.0 ∷ pair.1 ∷ [] }
 {
     Row::from_cells(alloc, &[pair.0, pair.1])
@@ -56,7 +58,7 @@ fn pairs<S: RowReads>(alloc: Global, set: &S) -> Result<Vec<Pair>, NoMemory> {
 }
 
 /// Makes an edit on a set of pairs.
-fn made<S: RowSet>(
+pub(crate) fn made<S: RowSet>(
     rt: &impl Abort,
     alloc: Global,
     set: &mut S,
@@ -152,7 +154,9 @@ fn takes_edits(rt: HostRuntime) -> Result<(), NoMemory> {
     takes::<FlatRows>(&rt, rt.alloc(), &edits)?;
     takes_shared::<FlatRows>(&rt, rt.alloc(), &edits)?;
     takes::<FlatOver>(&rt, rt.alloc(), &edits)?;
-    takes_shared::<FlatOver>(&rt, rt.alloc(), &edits)
+    takes_shared::<FlatOver>(&rt, rt.alloc(), &edits)?;
+    takes::<SharedRows>(&rt, rt.alloc(), &edits)?;
+    takes_shared::<SharedRows>(&rt, rt.alloc(), &edits)
 }
 
 /// The rows (1, 7) and (2, 7).
@@ -183,7 +187,8 @@ fn begins<S: RowSet>(rt: &impl Abort, alloc: Global) -> Result<(), NoMemory> {
 #[test]
 fn begins_from_sorted_rows(rt: HostRuntime) -> Result<(), NoMemory> {
     begins::<FlatRows>(&rt, rt.alloc())?;
-    begins::<FlatOver>(&rt, rt.alloc())
+    begins::<FlatOver>(&rt, rt.alloc())?;
+    begins::<SharedRows>(&rt, rt.alloc())
 }
 
 /// Makes a set of no rows.
@@ -196,5 +201,6 @@ fn begins_bare<S: RowSet>(rt: &impl Abort, alloc: Global) -> Result<(), NoMemory
 #[test]
 fn begins_from_no_rows(rt: HostRuntime) -> Result<(), NoMemory> {
     begins_bare::<FlatRows>(&rt, rt.alloc())?;
-    begins_bare::<FlatOver>(&rt, rt.alloc())
+    begins_bare::<FlatOver>(&rt, rt.alloc())?;
+    begins_bare::<SharedRows>(&rt, rt.alloc())
 }

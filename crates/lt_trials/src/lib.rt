@@ -18,6 +18,8 @@ mod names;
 #[cfg(test)]
 mod net;
 #[cfg(test)]
+mod pages;
+#[cfg(test)]
 mod plans;
 #[cfg(test)]
 mod rows;

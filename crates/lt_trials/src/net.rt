@@ -2,10 +2,10 @@
 ghost use Rattle.std.specs.Prelude.{◌≡◌, IfOk};
 
 use crate::agree::{holds, same};
-use lt_circuit::board::{Board, nones};
+use lt_circuit::board::Board;
 use lt_circuit::tree::{leaf_at, node_of, parent_of, right_of};
 use lt_face::NoMemory;
-use lt_net::{JobName, JobState};
+use lt_net::JobName;
 use std::alloc::Global;
 
 #[test]
@@ -67,9 +67,12 @@ fn two_leaves(alloc: Global) -> Result<Board, NoMemory>
 
 #[test]
 fn an_opening_waits_for_its_leaves(rt: HostRuntime) -> Result<(), NoMemory> {
-    let board = two_leaves(rt.alloc())?;
-    same(&rt, (board.leaves(), board.is_settled()), (2, false));
-    holds(&rt, board.first_pending() == Some(JobName::Leaf(0)));
+    let mut board = two_leaves(rt.alloc())?;
+    same(&rt, (board.leaves(), board.has_pending()), (2, true));
+    holds(&rt, board.next_pending(0) == Some(JobName::Leaf(0)));
+    holds(&rt, board.next_pending(1) == Some(JobName::Leaf(0)));
+    holds(&rt, board.next_pending(2) == Some(JobName::Leaf(1)));
+    holds(&rt, board.next_pending(1) == Some(JobName::Leaf(0)));
     same(&rt, board.in_flight(), 0);
     for (job, pending) in [
         (JobName::Leaf(0), true),
@@ -96,32 +99,16 @@ fn an_opening_has_no_marks(rt: HostRuntime) -> Result<(), NoMemory> {
     Ok(())
 }
 
-/// Whether the opening of a batch of no programs is settled, and has no job that is pending.
-fn is_empty_settled(alloc: Global) -> Result<bool, NoMemory> {
-    let empty = Board::opening(alloc, 0)?;
-    let settled = empty.is_settled();
-    let none = empty.first_pending().is_none();
-    Ok(settled && none)
+/// Whether the opening of a batch of no programs has no job that is Pending, for any worker.
+fn has_none_pending(alloc: Global) -> Result<bool, NoMemory> {
+    let mut empty = Board::opening(alloc, 0)?;
+    let none = empty.next_pending(0).is_none() && empty.next_pending(1).is_none();
+    Ok(none && !empty.has_pending())
 }
 
 #[test]
-fn an_opening_of_no_leaves_is_settled(rt: HostRuntime) -> Result<(), NoMemory> {
-    let is_so = is_empty_settled(rt.alloc())?;
+fn an_opening_of_no_leaves_has_none_pending(rt: HostRuntime) -> Result<(), NoMemory> {
+    let is_so = has_none_pending(rt.alloc())?;
     holds(&rt, is_so);
-    Ok(())
-}
-
-/// Whether these are three places that hold nothing.
-fn are_three_nones(places: &[Option<JobState>]) -> bool {
-    match places {
-        [a, b, c] => a.is_none() && b.is_none() && c.is_none(),
-        _ => false,
-    }
-}
-
-#[test]
-fn as_many_nones(rt: HostRuntime) -> Result<(), NoMemory> {
-    let places: Vec<Option<JobState>> = nones(rt.alloc(), 3)?;
-    holds(&rt, are_three_nones(&places));
     Ok(())
 }

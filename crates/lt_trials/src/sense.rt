@@ -123,3 +123,36 @@ fn the_first_changed_row_that_is_covered_is_found(rt: HostRuntime) -> Result<(),
     holds(&rt, elsewhere.is_none());
     Ok(())
 }
+
+/// A sense whose gaps and hits stand in no order; some gaps overlap or adjoin, and a hit comes twice.
+fn unordered(alloc: Global) -> Result<Sense, NoMemory> {
+    let own = columns(alloc, &[0])?;
+    let turned = columns(alloc, &[1, 0])?;
+    let straight = columns(alloc, &[0, 1])?;
+    let none = row(alloc, &[]);
+    let four = row(alloc, &[4]);
+    let mut sense = Sense::new(alloc);
+    for (lo, hi) in [(7, 9), (2, 5), (20, END), (4, 6), (6, 7)] {
+        sense.add_gap(3, &own, &none, lo, hi)?;
+    }
+    sense.add_gap(1, &turned, &four, 3, 5)?;
+    sense.add_gap(1, &straight, &four, 9, 10)?;
+    sense.add_gap(1, &turned, &none, 8, 9)?;
+    sense.add_gap(1, &turned, &four, 0, 3)?;
+    sense.add_hit(1, &row(alloc, &[4, 7]))?;
+    add_hits(alloc, &mut sense, &[9, 1, 9])?;
+    Ok(sense)
+}
+
+/// How many gaps and hits are left once the sense is sealed, and whether it is in order.
+fn sealed(alloc: Global) -> Result<(usize, usize, bool), NoMemory> {
+    let mut sense = unordered(alloc)?;
+    sense.seal()?;
+    Ok((sense.gap_count(), sense.hit_count(), sense.is_sealed()))
+}
+
+#[test]
+fn a_sealed_sense_has_fewer_gaps(rt: HostRuntime) -> Result<(), NoMemory> {
+    same(&rt, sealed(rt.alloc())?, (5, 3, true));
+    Ok(())
+}

@@ -27,12 +27,12 @@ impl Board {
             state_of self.new ≡ claimed (circuit_net effect (tree_of self.old.leaves)) (state_of self.old) worker (code_of job) }
     {
         let _leaves = self.leaves;
-        self.states[job.code() as usize] = JobState::Running;
-        self.claims[worker as usize] = Some(Held { job, inputs, prior });
+        self.jobs.set_state(job, JobState::Running);
+        self.holders.hold(worker, Held { job, inputs, prior });
     }
 
-    /// The worker gives its job up: the job is Pending again.
-    pub fn abandon(&mut self, worker: u32, job: JobName)
+    /// The worker gives its job up: the job is Pending again. It answers what the worker held.
+    pub fn abandon(&mut self, worker: u32, job: JobName) -> Option<Held>
         requires worker { worker < 16 }
         requires job { code_of job < 3 * (2 * self.old.leaves - 1) }
         ensures leaves { self.new.leaves ≡ self.old.leaves }
@@ -40,7 +40,7 @@ impl Board {
         ensures state { (claim : Claim) → claim.job ≡ code_of job → state_of self.new ≡ abandoned (state_of self.old) worker claim }
     {
         let _leaves = self.leaves;
-        self.states[job.code() as usize] = JobState::Pending;
-        self.claims[worker as usize] = None;
+        self.jobs.set_state(job, JobState::Pending);
+        self.holders.free(worker)
     }
 }

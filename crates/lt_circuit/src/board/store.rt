@@ -10,6 +10,7 @@ ghost use Rattle.lt_circuit.specs.Store.{closed, stored, kept_leaf, readers_of};
 ghost use Rattle.lt_circuit.specs.Board.{state_of, waked, waked_all};
 
 use super::Board;
+use crate::cells::Held;
 use crate::tree::{leaf_at, parent_of, right_of};
 use lt_delta::Marks;
 use lt_net::{JobName, JobState};
@@ -52,9 +53,8 @@ impl Board {
         ensures { self.new ≡ waked self.old (code_of job) }
     {
         let _leaves = self.leaves;
-        let place = job.code() as usize;
-        let state = self.states[place];
-        self.states[place] = woken(state);
+        let state = self.jobs.state(job);
+        self.jobs.set_state(job, woken(state));
     }
 
     /// The readers of a node's effect.
@@ -91,8 +91,8 @@ impl Board {
         ensures state { (effect : ℕ → List MarkType → List MarkType) →
             state_of self.new ≡ stored (circuit_net effect (tree_of self.old.leaves)) (state_of self.old) (Effect node) marks }
     {
-        let changed = is_change(&self.nodes[node as usize].effect, &marks);
-        let old = mem::replace(&mut self.nodes[node as usize].effect, marks);
+        let changed = is_change(self.nodes.effect(node), &marks);
+        let old = self.nodes.put_effect(node, marks);
         if changed {
             self.wake_effect(node);
         }
@@ -107,16 +107,38 @@ impl Board {
         ensures state { (effect : ℕ → List MarkType → List MarkType) →
             state_of self.new ≡ stored (circuit_net effect (tree_of self.old.leaves)) (state_of self.old) (Correction node) marks }
     {
-        let changed = is_change(&self.nodes[node as usize].correction, &marks);
-        let old = mem::replace(&mut self.nodes[node as usize].correction, marks);
+        let changed = is_change(self.nodes.correction(node), &marks);
+        let old = self.nodes.put_correction(node, marks);
         if changed {
             self.wake_correction(node);
         }
         old
     }
 
-    /// The job's claim ends, and where an input changed since, the job is to be done again.
-    pub(crate) fn close(&mut self, worker: u32, job: JobName)
+    /// The marks stand as the correction of an inner node's left child. Where they are `current` they are the node's own, and are
+    /// compared only if the child may have others. It answers the marks that stood, or these.
+    pub(crate) fn hand_left(&mut self, node: u32, marks: Marks, current: bool) -> Marks
+        requires node { node + 2 < 2 * self.old.leaves }
+        requires current { current ≡ true → marks ≡ (state_of self.old).value (Correction node) }
+        ensures leaves { self.new.leaves ≡ self.old.leaves }
+        ensures claims { self.new.claims ≡ self.old.claims }
+        ensures state { (effect : ℕ → List MarkType → List MarkType) →
+            state_of self.new ≡ stored (circuit_net effect (tree_of self.old.leaves)) (state_of self.old) (Correction (node + 1)) marks }
+    {
+        let _leaves = self.leaves;
+        if !current {
+            return self.store_correction(node + 1, marks);
+        }
+        if self.nodes.is_handed(node) {
+            return marks;
+        }
+        let old = self.store_correction(node + 1, marks);
+        self.nodes.hand(node);
+        old
+    }
+
+    /// The job's claim ends, and where an input changed since, the job is to be done again. It answers what the worker held.
+    pub(crate) fn close(&mut self, worker: u32, job: JobName) -> Option<Held>
         requires worker { worker < 16 }
         requires job { code_of job < 3 * (2 * self.old.leaves - 1) }
         ensures leaves { self.new.leaves ≡ self.old.leaves }
@@ -124,19 +146,18 @@ impl Board {
         ensures state { (claim : Claim) → claim.job ≡ code_of job → state_of self.new ≡ closed (state_of self.old) worker claim }
     {
         let _leaves = self.leaves;
-        let place = job.code() as usize;
-        let state = self.states[place];
-        self.states[place] = ended(state);
-        self.claims[worker as usize] = None;
+        let state = self.jobs.state(job);
+        self.jobs.set_state(job, ended(state));
+        self.holders.free(worker)
     }
 
-    /// The leaf finished with this correction.
-    pub(crate) fn keep(&mut self, leaf: u32, correction: Marks)
+    /// The leaf finished with this correction. It answers the one before.
+    pub(crate) fn keep(&mut self, leaf: u32, correction: Marks) -> Option<Marks>
         requires { leaf < self.old.leaves }
         ensures leaves { self.new.leaves ≡ self.old.leaves }
         ensures claims { self.new.claims ≡ self.old.claims }
         ensures state { state_of self.new ≡ kept_leaf (state_of self.old) (code_of (Leaf leaf)) correction }
     {
-        self.done[leaf as usize] = Some(correction);
+        mem::replace(&mut self.done[leaf as usize], Some(correction))
     }
 }

@@ -2,7 +2,7 @@ use Rattle.std.proofs.Common.{sym, subst}
 use Rattle.lt_model.specs.Fits.{Fits}
 use Rattle.lt_base.specs.Tables.{state_of}
 use Rattle.lt_program.specs.Tally.{HasIndexes}
-use Rattle.lt_batch.proofs.Unlike.{marked_or_agree}
+use Rattle.lt_batch.proofs.Runs.{marked_or_agree}
 use Rattle.lt_batch.proofs.work.restated.Goals as goal
 
 pub restate_marks-requires-clause-fits : goal.restate_marks-requires-clause-fits

@@ -5,7 +5,7 @@ use Rattle.lt_model.specs.Fits.{Fits}
 use Rattle.lt_model.specs.Marks.{laid}
 use Rattle.lt_base.specs.Tables.{state_of}
 use Rattle.lt_program.specs.Tally.{HasIndexes}
-use Rattle.lt_batch.proofs.Unlike.{agree_laid, marked_or_agree}
+use Rattle.lt_batch.proofs.Runs.{agree_laid, marked_or_agree}
 use Rattle.lt_run_trials.proofs.restatement.again.Goals as goal
 
 pub restate_marks-requires-clause-fits : goal.restate_marks-requires-clause-fits

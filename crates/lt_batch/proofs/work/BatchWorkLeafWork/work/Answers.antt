@@ -1,14 +1,16 @@
-use Rattle.std.proofs.Common.{◌≡◌, ◌∙◌, ◌<◌, List, length, arith, sym, ap, subst}
+use Rattle.std.proofs.Common.{◌≡◌, ◌∙◌, ◌<◌, Bor, List, length, arith, sym, ap, subst}
 use Rattle.std.proofs.lemmas.List.{length-map}
+use Rattle.std.specs.Option.{option_map}
 use Rattle.std.specs.Arc.{arc_value}
 use Rattle.lt_model.specs.Fits.{Fits}
 use Rattle.lt_model.specs.declared.normal.Stmt.{Stmt}
 use Rattle.lt_model.specs.Marks.{laid}
 use Rattle.lt_model.specs.Run.{run}
 use Rattle.lt_base.specs.Tables.{state_of}
+use Rattle.lt_batch.specs.declared.leaf.LeafTally.{LeafTally}
 use Rattle.lt_batch.specs.Batch.{program_at}
 use Rattle.lt_batch.specs.Work.{BatchView, base_on}
-use Rattle.lt_batch.proofs.Unlike.{item_at, prior_for, stands_is, bound_kept}
+use Rattle.lt_batch.proofs.Runs.{item_at, prior_for, stands_is, bound_kept}
 use Rattle.lt_program.specs.Tally.{HasIndexes}
 use Rattle.lt_batch.proofs.Indexed.{each_item, stays}
 use Rattle.lt_batch.proofs.work.BatchWorkLeafWork.work.Goals as goal
@@ -64,4 +66,4 @@ returns-clause-moves g c =
     let base_is : state_of c.in_ok-base.base ≡ base_on (arc_value c.index-prog.result.now) (state_of c.args.self.now.snapshot) c.args.correction.now =
     c.in_ok-base.ensures.base ∙ ap (λ (p : List Stmt). base_on p (state_of c.self.inside.snapshot) c.args.correction.now) c.deref.ensures
     ∙ ap (λ (w : BatchView). base_on (arc_value c.index-prog.result.now) (state_of w.snapshot) c.args.correction.now) c.self.view_is in
-    bound_kept c.args.prior c.args.self.now c.args.leaf (arc_value c.index-prog.result.now) (state_of c.in_ok-base.base) c.args.correction.now c.args.moves.now c.run_on.new.moves prog_is base_is c.run_on.ensures.moves
+    bound_kept (option_map (λ (old : Bor LeafTally). old.now) c.args.prior) c.args.self.now c.args.leaf (arc_value c.index-prog.result.now) (state_of c.in_ok-base.base) c.args.correction.now c.args.moves.now c.run_on.new.moves prog_is base_is c.run_on.ensures.moves

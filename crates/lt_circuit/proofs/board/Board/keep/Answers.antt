@@ -6,4 +6,4 @@ pub returns-clause-state : goal.returns-clause-state
 returns-clause-state c =
     let b = c.self.inside in
     let there : c.args.leaf < length b.done.items = omega (arith, rw (← c.self.view_is) at c.requires, c.self.invariant.done_there) in
-    rw (← c.self.view_is) (keep_is b.nodes.items b.states.items b.done.items b.claims.items c.args.leaf c.args.correction there)
+    rw (← c.self.view_is, c.replace.ensures.after) (keep_is b.nodes b.jobs b.done.items b.holders c.args.leaf c.args.correction there)

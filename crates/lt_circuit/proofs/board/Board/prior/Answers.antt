@@ -1,7 +1,6 @@
-use Rattle.std.proofs.Common.{◌≡◌, ◌<◌, ◌∙◌, ap, sym, length, get_or, None, arith}
+use Rattle.std.proofs.Common.{◌<◌, ◌∙◌, ap, sym, length, None, arith}
 use Rattle.std.proofs.lemmas.List.{get_or_default}
-use Rattle.lt_model.specs.declared.mark.Mark.{Mark}
-use Rattle.lt_net.specs.declared.job.JobName.TheVariants.{Leaf, Merge, Correct}
+use Rattle.lt_net.specs.declared.job.JobName.TheVariants.{Leaf}
 use Rattle.lt_net.specs.Tree.{code_of, job_of, inputs_of, tree_of}
 use Rattle.lt_net.proofs.Inside.{leaf_inside}
 use Rattle.lt_net.proofs.Jobs.{job_of-code}

@@ -3,7 +3,7 @@ use Rattle.lt_net.specs.Net.{State}
 use Rattle.lt_circuit.specs.Board.{state_of}
 use Rattle.lt_net.specs.Tree.{code_of}
 use Rattle.lt_circuit.specs.Job.{task_name}
-use Rattle.lt_circuit.proofs.Steps.{other_claim, claim_of_task, abandon_circuit, task_busy, is_inside, is_small, leaf_there, end_fits}
+use Rattle.lt_circuit.proofs.Steps.{other_claim, claim_of_task, abandon_circuit, task_busy, is_inside, leaf_there, end_fits}
 use Rattle.lt_circuit.proofs.circuit.Circuit.abandon.Goals as goal
 
 pub abandon-requires-clause-job : goal.abandon-requires-clause-job

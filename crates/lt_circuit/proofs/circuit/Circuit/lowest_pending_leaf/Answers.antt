@@ -2,9 +2,6 @@ use Rattle.std.proofs.Common.{rules, sym, ◌∙◌}
 use Rattle.lt_circuit.proofs.OnWay.{lowest_next, lowest_here}
 use Rattle.lt_circuit.proofs.OneJob.{pending_is}
 use Rattle.lt_circuit.specs.Circuit.{state}
-use Rattle.lt_circuit.specs.Entry.{event_of}
-use Rattle.lt_circuit.specs.Shape.{shape}
-use Rattle.std.specs.Prelude.{map}
 use Rattle.lt_circuit.proofs.circuit.Circuit.lowest_pending_leaf.Goals as goal
 
 pub loop-leaf-preserved : goal.loop-leaf-preserved

@@ -1,9 +1,6 @@
 use Rattle.std.proofs.Common.{◌≡◌, ◌-◌}
 use Rattle.lt_net.specs.Alone.{lowest_pending}
 use Rattle.lt_circuit.specs.Circuit.{state}
-use Rattle.lt_circuit.specs.Entry.{event_of}
-use Rattle.lt_circuit.specs.Shape.{shape}
-use Rattle.std.specs.Prelude.{map}
 use Rattle.lt_circuit.proofs.circuit.Circuit.lowest_pending_leaf.Given as goal
 
 abbrev pub invariant-loop-leaf : goal.invariant-loop-leaf

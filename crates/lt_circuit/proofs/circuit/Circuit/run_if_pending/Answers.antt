@@ -1,11 +1,9 @@
-use Rattle.std.proofs.Common.{refl, sym, ap, ◌∙◌}
-use Rattle.lt_net.specs.Net.{State}
+use Rattle.std.proofs.Common.{refl, ◌∙◌}
 use Rattle.lt_net.specs.Tree.{code_of}
-use Rattle.lt_net.specs.declared.job.JobState.TheVariants.{Pending}
 use Rattle.lt_circuit.specs.declared.entry.Event.TheVariants.{Claim, Finish, Abandon}
 use Rattle.lt_circuit.specs.Circuit.{state}
 use Rattle.lt_circuit.specs.Job.{claim_of_job, claim_of_output, name_of_job, name_of_output}
-use Rattle.lt_circuit.proofs.OneJob.{ran_is, ran_free, given_up, later_two, few_two}
+use Rattle.lt_circuit.proofs.OneJob.{ran_is, ran_free, given_up, later_two}
 use Rattle.lt_circuit.proofs.circuit.Circuit.run_if_pending.Goals as goal
 
 pub returns-in-Ok-clause-ran : goal.returns-in-Ok-clause-ran

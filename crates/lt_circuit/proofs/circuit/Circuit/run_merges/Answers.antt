@@ -1,9 +1,7 @@
 use Rattle.std.proofs.Common.{◌≡◌, ◌+◌, ◌-◌, ◌*◌, length, arith}
 use Rattle.lt_net.specs.Alone.{merges_down}
 use Rattle.lt_circuit.proofs.OnWay.{way_next, way_few, merges_first, later_then}
-use Rattle.lt_circuit.specs.Circuit.{state}
 use Rattle.lt_circuit.specs.Entry.{event_of}
-use Rattle.lt_circuit.specs.Shape.{shape}
 use Rattle.std.specs.Prelude.{map}
 use Rattle.lt_circuit.proofs.circuit.Circuit.run_merges.Goals as goal
 

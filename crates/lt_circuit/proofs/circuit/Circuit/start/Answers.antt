@@ -8,9 +8,9 @@ use Rattle.lt_circuit.proofs.circuit.Circuit.start.Goals as goal
 pub invariant_of-result : goal.invariant_of-result
 invariant_of-result g c =
     let w = arc_value c.args.work in
-    rw c.new-journal.ensures.items
-    (start_circuit (g.W.LeafWork.does w) (g.W.LeafWork.stands_for w) (g.W.LeafWork.fits w) (g.W.LeafWork.has w) c.in_ok-board.board c.in_ok-tallies.tallies.items c.args.leaves (vec_len c.new-journal.result) (vec_capacity c.new-journal.result)
-    c.in_ok-board.ensures.leaves c.requires.few c.requires.has (c.in_ok-board.ensures.state (g.W.LeafWork.does w)) c.in_ok-tallies.ensures c.in_ok-board.ensures.free c.new-journal.ensures.len)
+    rw c.in_ok-journal.ensures.items
+    (start_circuit (g.W.LeafWork.does w) (g.W.LeafWork.stands_for w) (g.W.LeafWork.fits w) (g.W.LeafWork.has w) c.in_ok-board.board c.in_ok-tallies.tallies.items c.args.leaves (vec_len c.in_ok-journal.journal) (vec_capacity c.in_ok-journal.journal)
+    c.in_ok-board.ensures.leaves c.requires.few c.requires.has (c.in_ok-board.ensures.state (g.W.LeafWork.does w)) c.in_ok-tallies.ensures c.in_ok-board.ensures.free c.in_ok-journal.ensures.len)
 
 pub returns-clause-state : goal.returns-clause-state
 returns-clause-state g c = c.in_ok-board.ensures.state (g.W.LeafWork.does (arc_value c.args.work))

@@ -1,14 +1,14 @@
-use Rattle.std.proofs.Common.{◌≡◌, ◌+◌, ◌*◌, ◌≤◌, ◌++◌, ◌∷◌, [], None, length, ap, sym, ◌∙◌, subst, arith}
+use Rattle.std.proofs.Common.{◌≡◌, ◌+◌, ◌≤◌, ◌++◌, ◌∷◌, [], None, length, ap, sym, ◌∙◌, subst, arith}
 use Rattle.std.specs.Arc.{arc_value}
 use Rattle.std.specs.Vec.{vec_len, vec_capacity}
 use Rattle.std.specs.List.{AllByRecursion}
 use Rattle.lt_net.specs.declared.job.JobState.TheVariants.{Pending}
 use Rattle.lt_circuit.specs.declared.entry.Event.TheVariants.{Claim}
-use Rattle.lt_net.specs.Net.{read, claimed}
-use Rattle.lt_net.specs.Tree.{circuit_net, code_of, inputs_of, tree_of}
+use Rattle.lt_net.specs.Net.{read}
+use Rattle.lt_net.specs.Tree.{code_of, inputs_of, tree_of}
 use Rattle.lt_circuit.specs.Board.{inputs_list, standing, state_of}
 use Rattle.lt_net.proofs.Fitting.{all_read}
-use Rattle.lt_circuit.proofs.Steps.{all_fit, claim_circuit, is_inside, is_small, is_there, leaf_there, pending_busy, roomier}
+use Rattle.lt_circuit.proofs.Steps.{all_fit, claim_circuit, is_inside, is_there, leaf_there, pending_busy, roomier}
 use Rattle.lt_circuit.proofs.Tasks.{from_fits, inputs_long, is_claimed}
 use Rattle.lt_circuit.proofs.circuit.Circuit.take.Goals as goal
 

@@ -5,8 +5,6 @@ use Rattle.lt_base.specs.Tables.{state_of}
 use Rattle.lt_program.specs.declared.part.Part.{Part}
 use Rattle.lt_program.specs.Effect.{view}
 use Rattle.lt_program.specs.Kept.{first_rows, second_rows, effect_by}
-use Rattle.lt_program.specs.Tally.{IsLaid}
-use Rattle.lt_program.proofs.CourseSteps.{grows_settled, laid_after}
 use Rattle.lt_program.proofs.Recalls.{first_ascends, second_ascends, grows_kept}
 use Rattle.lt_program.proofs.course.Course.keep.Goals as goal
 
@@ -20,12 +18,9 @@ effect_by-requires-clause-second c =
 
 pub returns-clause-ok : goal.returns-clause-ok
 returns-clause-ok c =
-    grows_settled c.args.number c.args.stmt.now (state_of c.args._base.now) c.args.self.now c.accept.new.self c.settle.new.self _ c.settle.ensures
-    (grows_kept (state_of c.args._base.now) c.args.number c.args.stmt.now c.args.part.now (view c.in_ok-effect.effect) c.args.self.now c.accept.new.self
+    grows_kept (state_of c.args._base.now) c.args.number c.args.stmt.now c.args.part.now (view c.in_ok-effect.effect) c.args.self.now c.accept.new.self
     c.requires.part (c.in_ok-effect.ensures ∙ ap (λ (p : Part). effect_by c.args.stmt.now p.outcome) c.part.ensures)
-    (c.in_ok-accept.ensures.parts ∙ ap (λ (p : Part). c.args.self.now.parts ++ p ∷ []) c.in_ok-part.ensures) c.in_ok-accept.ensures.reply c.in_ok-accept.ensures.marks)
+    (c.in_ok-accept.ensures.parts ∙ ap (λ (p : Part). c.args.self.now.parts ++ p ∷ []) c.in_ok-part.ensures) c.in_ok-accept.ensures.reply c.in_ok-accept.ensures.marks
 
 pub returns-clause-laid : goal.returns-clause-laid
-returns-clause-laid c =
-    laid_after c.args._base.now c.args.number (view c.in_ok-effect.effect) c.accept.new.self c.settle.new.self c.args.self.now.reply c.args.self.now.marks c.accept.new.self.laid c.is_quiet-quiet.result
-    c.requires.going c.is_quiet-quiet.ensures c.in_ok-accept.ensures.marks (subst (IsLaid c.args._base.now c.args.self.now.marks) (sym c.in_ok-accept.ensures.laid) c.requires.laid) c.settle.ensures
+returns-clause-laid c = c.in_ok-accept.ensures.laid c.args._base.now c.requires.laid

@@ -1,0 +1,8 @@
+-- What the workers hold, and how many claims stand.
+use Rattle.std.specs.Prelude.{◌≡◌, ℕ, List, Option, length}
+use Rattle.lt_circuit.specs.declared.cells.Held.{Held}
+use Rattle.lt_circuit.specs.Board.{standing}
+
+pub record AreHolders (claims : List (Option Held)) (count : ℕ) : Type 0 where
+  pub workers : length claims ≡ 16
+  pub counted : count ≡ standing claims

@@ -1,0 +1,6 @@
+mod Examples
+pub mod Grouping
+pub mod Within
+pub mod Parts
+pub mod Adding
+pub mod Answering

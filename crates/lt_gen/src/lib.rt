@@ -1,0 +1,17 @@
+//! The generated script of the bench, and the summary of its run.
+#![tactic(auto)]
+
+mod buying;
+mod draws;
+mod groups;
+mod loading;
+mod script;
+mod statements;
+mod summary;
+mod sums;
+mod text;
+
+pub use script::{ItemList, bench_script};
+pub use summary::Summary;
+pub use sums::column_sum;
+pub use text::bench_summary;

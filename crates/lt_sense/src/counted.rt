@@ -1,0 +1,203 @@
+//! A row looked up among gaps and hits in order, by binary searches. A step compares the row with one of them.
+ghost use Rattle.std.specs.Prelude.{◌≡◌, ◌<◌, ◌≤◌, ◌+◌, ◌*◌, ◌^◌, ◌==◌, if◌then◌else◌, ℕ, true, false, length, IfSome, IfNone};
+ghost use Rattle.std.specs.List.{list_any};
+ghost use Rattle.lt_face.specs.State.{permuted};
+ghost use Rattle.lt_sense.specs.Sense.{gap_covers, hit_covers};
+ghost use Rattle.lt_sense.specs.Stored.{stored_gap, IsSound};
+ghost use Rattle.lt_sense.specs.Ordered.{IsGapBefore, IsHitBefore, AreInOrder, AreNarrow, gaps_in, hits_in, orders_of, sought, IsPlacePast, IsFamilyEnd, IsCoverIn, IsFamilyUncovered, IsWidthUncovered};
+
+use crate::covering::cells_in;
+use crate::store::{Passed, Store};
+use lt_face::moves::Moves;
+use lt_face::row::Row;
+use std::alloc::Global;
+use std::cmp::Ordering;
+
+impl Store {
+    /// The first place of a gap above where the row would lie among the gaps of a family under its own first cells.
+    fn place_past<L>(&self, head: Passed, cells: &Row, width: usize, steps: &mut Moves<L>) -> usize
+        requires sound { IsSound self.now }
+        requires head { head.run < length self.now.runs.items }
+        requires within { width < length cells.now }
+        requires ordered { AreInOrder IsGapBefore (gaps_in self.now self.now.gaps.items) }
+        ensures within { result ≤ length self.now.gaps.items }
+        ensures place { IsPlacePast (gaps_in self.now self.now.gaps.items) (sought (stored_gap self.now head) cells.now width) result }
+        ensures steps { (d : ℕ) → length self.now.gaps.items < 2 ^ d → steps.new ≤ steps.old + d }
+    {
+        let mut low = 0;
+        let mut high = self.gaps.len();
+        'halves: while low < high {
+            let half = (high - low) / 2;
+            let middle = low + half;
+            steps.tick();
+            let gap = self.gaps[middle];
+            if self.compare_to(gap, head, cells, width).is_gt() {
+                high = middle;
+            } else {
+                low = middle + 1;
+            }
+        }
+        low
+    }
+
+    /// The gap of a family that covers the row, under a prefix of this width. Only the last that isn't above the row can.
+    fn gap_at_width<L>(
+        &self,
+        head: Passed,
+        cells: &Row,
+        width: usize,
+        relation: u32,
+        row: &Row,
+        steps: &mut Moves<L>,
+    ) -> Option<Passed>
+        requires sound { IsSound self.now }
+        requires head { head.run < length self.now.runs.items }
+        requires within { width < length cells.now }
+        requires cells { cells.now ≡ permuted (stored_gap self.now head).columns row.now }
+        requires ordered { AreInOrder IsGapBefore (gaps_in self.now self.now.gaps.items) }
+        ensures none { IfNone result (IsWidthUncovered (gaps_in self.now self.now.gaps.items) (stored_gap self.now head) width relation row.now) }
+        ensures some { IfSome result (IsCoverIn self.now relation row.now) }
+        ensures steps { (d : ℕ) → length self.now.gaps.items < 2 ^ d → steps.new ≤ steps.old + d }
+    {
+        let place = self.place_past(head, cells, width, steps);
+        if place == 0 {
+            return None;
+        }
+        let gap = self.gaps[place - 1];
+        if self.gap_covers_row(gap, relation, row) {
+            return Some(gap);
+        }
+        None
+    }
+
+    /// A gap of a family that covers the row.
+    fn gap_in_family<L>(
+        &self,
+        head: Passed,
+        relation: u32,
+        row: &Row,
+        steps: &mut Moves<L>,
+    ) -> Option<Passed>
+        requires sound { IsSound self.now }
+        requires head { head.run < length self.now.runs.items }
+        requires ordered { AreInOrder IsGapBefore (gaps_in self.now self.now.gaps.items) }
+        ensures none { IfNone result (IsFamilyUncovered (gaps_in self.now self.now.gaps.items) (stored_gap self.now head) relation row.now) }
+        ensures some { IfSome result (IsCoverIn self.now relation row.now) }
+        ensures steps { length (stored_gap self.now head).columns ≤ 8 → (d : ℕ) → length self.now.gaps.items < 2 ^ d → steps.new ≤ steps.old + 8 * d }
+    {
+        let columns = self.columns_of(head);
+        if columns.len() > 8 {
+            return self.gap_with(relation, row);
+        }
+        let cells = cells_in(*self.cells.allocator(), columns, row);
+        for width in 0..columns.len() {
+            match self.gap_at_width(head, &cells, width, relation, row, steps) {
+                Some(gap) => {
+                    return Some(gap);
+                }
+                None => {}
+            }
+        }
+        None
+    }
+
+    /// The same of a family of any relation.
+    fn gap_of_head<L>(
+        &self,
+        head: Passed,
+        relation: u32,
+        row: &Row,
+        steps: &mut Moves<L>,
+    ) -> Option<Passed>
+        requires sound { IsSound self.now }
+        requires head { head.run < length self.now.runs.items }
+        requires ordered { AreInOrder IsGapBefore (gaps_in self.now self.now.gaps.items) }
+        ensures none { IfNone result (IsFamilyUncovered (gaps_in self.now self.now.gaps.items) (stored_gap self.now head) relation row.now) }
+        ensures some { IfSome result (IsCoverIn self.now relation row.now) }
+        ensures steps { length (stored_gap self.now head).columns ≤ 8 → (d : ℕ) → length self.now.gaps.items < 2 ^ d → steps.new ≤ steps.old + (if (stored_gap self.now head).relation == relation then 8 * d else 0) }
+    {
+        if self.relation_of(head) != relation {
+            return None;
+        }
+        self.gap_in_family(head, relation, row, steps)
+    }
+
+    /// Where the family of the gap at a place ends.
+    fn family_end(&self, at: usize) -> usize
+        requires sound { IsSound self.now }
+        requires there { at < length self.now.gaps.items }
+        requires ordered { AreInOrder IsGapBefore (gaps_in self.now self.now.gaps.items) }
+        ensures { IsFamilyEnd (gaps_in self.now self.now.gaps.items) at result }
+    {
+        let head = self.gaps[at];
+        let mut low = at + 1;
+        let mut high = self.gaps.len();
+        'halves: while low < high {
+            let middle = low + (high - low) / 2;
+            let gap = self.gaps[middle];
+            if self.compare_families(head, gap).is_eq() {
+                low = middle + 1;
+            } else {
+                high = middle;
+            }
+        }
+        low
+    }
+
+    /// A gap that covers the row.
+    pub(crate) fn sealed_gap_with<L>(
+        &self,
+        relation: u32,
+        row: &Row,
+        steps: &mut Moves<L>,
+    ) -> Option<Passed>
+        requires sound { IsSound self.now }
+        requires ordered { AreInOrder IsGapBefore (gaps_in self.now self.now.gaps.items) }
+        ensures none { IfNone result (list_any (λ gap. gap_covers gap relation row.now) (gaps_in self.now self.now.gaps.items) ≡ false) }
+        ensures some { IfSome result (IsCoverIn self.now relation row.now) }
+        ensures steps { AreNarrow (gaps_in self.now self.now.gaps.items) → (d : ℕ) → length self.now.gaps.items < 2 ^ d → steps.new ≤ steps.old + 8 * d * orders_of relation (gaps_in self.now self.now.gaps.items) }
+    {
+        let mut at = 0;
+        'families: while at < self.gaps.len() {
+            let head = self.gaps[at];
+            match self.gap_of_head(head, relation, row, steps) {
+                Some(gap) => {
+                    return Some(gap);
+                }
+                None => {
+                    at = self.family_end(at);
+                }
+            }
+        }
+        None
+    }
+
+    /// Whether the row is a hit.
+    pub(crate) fn has_sealed_hit<L>(&self, relation: u32, row: &Row, steps: &mut Moves<L>) -> bool
+        requires sound { IsSound self.now }
+        requires ordered { AreInOrder IsHitBefore (hits_in self.now self.now.hits.items) }
+        ensures value { result ≡ list_any (λ hit. hit_covers hit relation row.now) (hits_in self.now self.now.hits.items) }
+        ensures steps { (d : ℕ) → length self.now.hits.items < 2 ^ d → steps.new ≤ steps.old + d }
+    {
+        let mut low = 0;
+        let mut high = self.hits.len();
+        'halves: while low < high {
+            let middle = low + (high - low) / 2;
+            steps.tick();
+            let hit = self.hits[middle];
+            let order = self.compare_hit_to(hit, relation, row);
+            match order {
+                Ordering::Less => {
+                    low = middle + 1;
+                }
+                Ordering::Equal => {
+                    return true;
+                }
+                Ordering::Greater => {
+                    high = middle;
+                }
+            }
+        }
+        false
+    }
+}

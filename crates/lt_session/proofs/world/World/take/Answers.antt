@@ -1,0 +1,30 @@
+use Rattle.std.proofs.Common.{List, refl, subst}
+use Rattle.std.specs.Prelude.{OnOk}
+use Rattle.std.proofs.lemmas.Result.{err_from_is_err_and}
+use Rattle.lt_model.specs.declared.syntax.Item.TheVariants.{Batch}
+use Rattle.lt_model.specs.declared.syntax.Program.{Program}
+use Rattle.lt_model.specs.Schema.{number_of}
+use Rattle.lt_session.specs.World.{Takes}
+use Rattle.lt_session.proofs.Said.{shown_stays}
+use Rattle.lt_session.proofs.Writing.{all_written, write_failed}
+use Rattle.lt_session.proofs.world.World.take.Goals as goal
+
+pub returns-in-Relation-clause-world : goal.returns-in-Relation-clause-world
+returns-in-Relation-clause-world g c = rw c.in-Relation.is c.relation.ensures.world
+
+pub returns-in-Relation-clause-text : goal.returns-in-Relation-clause-text
+returns-in-Relation-clause-text g c = λ m s. rw c.in-Relation.is (c.relation.ensures.text c.args.options.marks m s)
+
+pub returns-in-Batch-clause-world : goal.returns-in-Batch-clause-world
+returns-in-Batch-clause-world g c = rw c.in-Batch.is (subst (λ (programs : List Program). OnOk c.batch.result (Takes c.args.self.now (Batch programs) c.batch.new.self)) c.as_slice.ensures c.batch.ensures.world)
+
+pub returns-in_err-show-in-Show-clause-text : goal.returns-in_err-show-in-Show-clause-text
+returns-in_err-show-in-Show-clause-text g c = λ m s.
+    let p = err_from_is_err_and c.from_residual.result c.from_residual.ensures.1 in
+    rw c.in-Show.is (write_failed c.from_residual.result p.0 _ _ _ _ _ _ _ p.1 (c.in_err-show-in-Show.ensures c.args.options.marks m s) refl)
+
+pub returns-in_ok-show-in-Show-clause-world : goal.returns-in_ok-show-in-Show-clause-world
+returns-in_ok-show-in-Show-clause-world g c = λ marks m s. rw c.in-Show.is (shown_stays c.args.self.now m c.in-Show.name c.in-Show.at (number_of m.schema c.in-Show.name) s)
+
+pub returns-in_ok-show-in-Show-clause-text : goal.returns-in_ok-show-in-Show-clause-text
+returns-in_ok-show-in-Show-clause-text g c = λ m s. rw c.in-Show.is (all_written tt _ _ _ _ _ _ _ (c.in_ok-show-in-Show.ensures c.args.options.marks m s) refl)

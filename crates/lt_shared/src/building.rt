@@ -1,0 +1,118 @@
+//! Levels of many parts at once.
+ghost use Rattle.std.specs.Prelude.{◌≡◌, ◌<◌, ◌≤◌, ◌+◌, ◌*◌, ◌/◌, ◌++◌, length, IfOk};
+ghost use Rattle.lt_shared.specs.Parts.{joined, level_rows};
+ghost use Rattle.lt_shared.specs.Shared.{root_rows};
+
+use crate::level::{LIMIT, Level, Node};
+use crate::part::Part;
+use lt_face::{NoMemory, Row};
+use std::alloc::Global;
+
+/// One part more: in the list that is being gathered, or as the first of the next, where that one has its share.
+fn add_part<T: Part>(
+    alloc: Global,
+    levels: &mut Vec<Level<T>>,
+    group: Vec<T>,
+    part: T,
+    share: usize,
+) -> Result<Vec<T>, NoMemory>
+    requires some { 0 < share }
+    requires limit { share ≤ 64 }
+    requires bound { length group.items ≤ share }
+    ensures rows { IfOk result (λ next. level_rows T.rows levels.new.items next.items ≡ level_rows T.rows levels.old.items group.items ++ T.rows part) }
+    ensures count { share ≡ 64 → IfOk result (λ next. 64 * length levels.new.items + length next.items ≡ 64 * length levels.old.items + length group.items + 1) }
+    ensures some { IfOk result (λ next. 0 < length next.items) }
+    ensures bound { IfOk result (λ next. length next.items ≤ share) }
+{
+    if group.len() == share {
+        let level = Level::of(alloc, group)?;
+        levels.push(level)?;
+        let mut next = Vec::with_capacity(alloc, share)?;
+        next.push(part)?;
+        return Ok(next);
+    }
+    let mut next = group;
+    next.push(part)?;
+    Ok(next)
+}
+
+/// The levels, and one more of what was gathered last, if there is any.
+fn finished<T: Part>(
+    alloc: Global,
+    levels: Vec<Level<T>>,
+    group: Vec<T>,
+) -> Result<Vec<Level<T>>, NoMemory>
+    requires bound { length group.items ≤ 64 }
+    requires some { 0 < length levels.items → 0 < length group.items }
+    ensures rows { IfOk result (λ out. joined (λ level. joined T.rows level) out.items ≡ level_rows T.rows levels.items group.items) }
+    ensures count { IfOk result (λ out. length out.items ≡ (64 * length levels.items + length group.items + 63) / 64) }
+{
+    if group.is_empty() {
+        return Ok(levels);
+    }
+    let mut out = levels;
+    let level = Level::of(alloc, group)?;
+    out.push(level)?;
+    Ok(out)
+}
+
+/// Levels of so many parts each, and the last of what is left.
+pub fn levels<T: Part>(
+    alloc: Global,
+    parts: Vec<T>,
+    share: usize,
+) -> Result<Vec<Level<T>>, NoMemory>
+    requires some { 0 < share }
+    requires limit { share ≤ 64 }
+    ensures rows { IfOk result (λ out. joined (λ level. joined T.rows level) out.items ≡ joined T.rows parts.items) }
+    ensures count { share ≡ 64 → IfOk result (λ out. length out.items ≡ (length parts.items + 63) / 64) }
+{
+    let mut out = Vec::new(alloc);
+    let mut group = Vec::with_capacity(alloc, share.min(parts.len()))?;
+    for part in parts {
+        group = add_part(alloc, &mut out, group, part, share)?;
+    }
+    let all = finished(alloc, out, group)?;
+    Ok(all)
+}
+
+/// Full nodes of full pages of these rows, but for the last.
+pub fn nodes_of(alloc: Global, rows: Vec<Row>) -> Result<Vec<Node>, NoMemory>
+    ensures rows { IfOk result (λ nodes. root_rows nodes.items ≡ rows.items) }
+    ensures count { IfOk result (λ nodes. length nodes.items ≡ (length rows.items + 4095) / 4096) }
+{
+    let pages = levels(alloc, rows, LIMIT)?;
+    let nodes = levels(alloc, pages, LIMIT)?;
+    Ok(nodes)
+}
+
+/// How many parts each list gets where so many are cut up: about three quarters of the most that one holds.
+fn fair_share(parts: usize) -> usize
+    ensures some { 0 < result }
+    ensures limit { result ≤ 64 }
+{
+    let lists = parts / 48 + 1;
+    (parts / lists).saturating_add(1).min(LIMIT)
+}
+
+/// Puts the levels of these parts behind others: one, where they fit into it.
+pub fn push_levels<T: Part>(
+    alloc: Global,
+    parts: Vec<T>,
+    out: &mut Vec<Level<T>>,
+) -> Result<(), NoMemory>
+    ensures { IfOk result (λ _. joined (λ level. joined T.rows level) out.new.items ≡ joined (λ level. joined T.rows level) out.old.items ++ joined T.rows parts.items) }
+{
+    if parts.is_empty() {
+        return Ok(());
+    }
+    if parts.len() <= LIMIT {
+        let level = Level::of(alloc, parts)?;
+        out.push(level)?;
+        return Ok(());
+    }
+    let share = fair_share(parts.len());
+    let mut all = levels(alloc, parts, share)?;
+    out.append(&mut all)?;
+    Ok(())
+}

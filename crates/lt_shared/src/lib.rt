@@ -1,0 +1,14 @@
+//! A set of rows as three levels of lists that versions share.
+#![tactic(auto)]
+
+mod below;
+mod building;
+mod bulk;
+mod edit;
+mod level;
+mod part;
+mod root;
+mod search;
+mod shared_rows;
+
+pub use shared_rows::SharedRows;

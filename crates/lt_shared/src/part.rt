@@ -1,0 +1,138 @@
+//! `Part`: what a list of parts asks of each, and a row as the least of them.
+ghost use Rattle.std.specs.Prelude.{◌≡◌, ◌<◌, ◌≤◌, ◌+◌, ℕ, Bool, true, List, [], ◌∷◌, ◌++◌, length, IfOk, OnErr};
+ghost use Rattle.std.specs.List.{AllByRecursion};
+ghost use Rattle.std.specs.Option.{option_copied};
+ghost use Rattle.lt_face.specs.Rows.{IsAscending, has_row, first_from};
+ghost use Rattle.lt_shared.specs.Parts.{IsFirst, IsPut, IsTaken, IfHalves};
+
+use crate::below::is_below;
+use lt_face::{Key, Moves, Near, NoMemory, Row};
+use std::cmp::Ordering;
+
+/// How a row went into a part.
+#[derive(Drop)]
+pub enum Put<T> {
+    /// It was there.
+    Was,
+    /// It is in the part now.
+    Fits,
+    /// The part is as it was. These two together, which have the row, are to stand in its place.
+    Halves(T, T),
+}
+
+/// How a row went out of a part.
+#[derive(Drop)]
+pub enum Taken {
+    /// It was not there.
+    Missing,
+    /// It is out of the part.
+    Out,
+    /// It is the part's last row. The part is as it was, and is to go.
+    Last,
+}
+
+/// A part of an ascending list of rows. It has at least one.
+pub trait Part: Sized + Drop {
+    /// The rows.
+    ghost rows: { Self → List (List ℕ) };
+
+    /// Whether no more entries fit into its list.
+    ghost is_full: { Self → Bool };
+
+    /// The most entries that one edit of it puts into lists.
+    ghost most: { ℕ };
+
+    /// The first row.
+    fn first(&self) -> &Row
+        ensures { IsFirst (rows self.now) result.now };
+
+    /// Whether the part has the row.
+    fn has(&self, row: &Row) -> bool
+        requires { IsAscending (rows self.now) }
+        ensures { result ≡ has_row (rows self.now) row.now };
+
+    /// The least row that is at least `from`.
+    fn row_at_least(&self, from: &Row) -> Option<&Row>
+        requires { IsAscending (rows self.now) }
+        ensures { option_copied result ≡ first_from (rows self.now) from.now };
+
+    /// The least row that is at least the prefix and then the bound.
+    fn row_near(&self, near: &mut Near, prefix: &Row, bound: Key) -> Option<&Row>
+        requires rises { IsAscending (rows self.now) }
+        requires wide { AllByRecursion (λ row. length prefix.now < length row) (rows self.now) }
+        requires room { length prefix.now < 8 }
+        ensures { option_copied result ≡ first_from (rows self.now) (prefix.now ++ bound ∷ []) };
+
+    /// A second owner of the same part.
+    fn share(&self) -> Result<Self, NoMemory>
+        ensures { IfOk result (λ part. part ≡ self.now) };
+
+    /// Puts a row in.
+    fn put<L>(&mut self, row: Row, made: &mut Moves<L>) -> Result<Put<Self>, NoMemory>
+        requires { IsAscending (rows self.old) }
+        ensures ok { IfOk result (λ put. IsPut rows put (rows self.old) (rows self.new) row) }
+        ensures err { OnErr result (rows self.new ≡ rows self.old) }
+        ensures full { IfOk result (λ put. IfHalves put (λ a b. is_full self.old ≡ true)) }
+        ensures made { made.new ≤ made.old + most };
+
+    /// Takes a row out.
+    fn take_out<L>(&mut self, row: &Row, made: &mut Moves<L>) -> Result<Taken, NoMemory>
+        requires { IsAscending (rows self.old) }
+        ensures ok { IfOk result (λ taken. IsTaken taken (rows self.old) (rows self.new) row.now) }
+        ensures err { OnErr result (rows self.new ≡ rows self.old) }
+        ensures made { made.new ≤ made.old + most };
+}
+
+impl Part for Row {
+    ghost rows = { λ r. r ∷ [] };
+
+    ghost is_full = { λ r. true };
+
+    ghost most = { 0 };
+
+    fn first(&self) -> &Row {
+        self
+    }
+
+    fn has(&self, row: &Row) -> bool {
+        self.cmp(row).is_eq()
+    }
+
+    fn row_at_least(&self, from: &Row) -> Option<&Row> {
+        if self.cmp(from).is_lt() {
+            None
+        } else {
+            Some(self)
+        }
+    }
+
+    fn row_near(&self, _near: &mut Near, prefix: &Row, bound: Key) -> Option<&Row> {
+        if is_below(self, prefix.cells(), bound) {
+            None
+        } else {
+            Some(self)
+        }
+    }
+
+    fn share(&self) -> Result<Row, NoMemory> {
+        Ok(self.copy_row())
+    }
+
+    fn put<L>(&mut self, row: Row, _made: &mut Moves<L>) -> Result<Put<Row>, NoMemory> {
+        let here: &Row = self;
+        match here.cmp(&row) {
+            Ordering::Less => Ok(Put::Halves(here.copy_row(), row)),
+            Ordering::Equal => Ok(Put::Was),
+            Ordering::Greater => Ok(Put::Halves(row, here.copy_row())),
+        }
+    }
+
+    fn take_out<L>(&mut self, row: &Row, _made: &mut Moves<L>) -> Result<Taken, NoMemory> {
+        let here: &Row = self;
+        if here.cmp(row).is_eq() {
+            Ok(Taken::Last)
+        } else {
+            Ok(Taken::Missing)
+        }
+    }
+}
