@@ -20,8 +20,8 @@ use Rattle.lt_model.proofs.Composition.{rows_same}
 use Rattle.lt_delta.specs.Laying.{row_laid, rows_laid, same_sign, marked}
 use Rattle.lt_over.specs.Overlaid.{overlaid}
 use Rattle.lt_over.proofs.Overlays.{has-with_row, has-without_row, has-overlaid, ascending-overlaid}
-use Rattle.lt_base.specs.Columns.{IsPermOf}
-use Rattle.lt_base.specs.Indexed.{IsPermuted, permuted_mark}
+use Rattle.lt_delta.specs.Columns.{IsPermOf, IsPermuted}
+use Rattle.lt_base.specs.Indexed.{permuted_mark}
 use Rattle.lt_base.proofs.Apart.{has_from, has_to}
 use Rattle.lt_base.proofs.Kept.{permuted_once}
 use Rattle.lt_base.proofs.OwnOrder.{row_at}

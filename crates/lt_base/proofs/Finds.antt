@@ -8,7 +8,7 @@ use Rattle.lt_face.specs.State.{Row, row_eq, IsIndexOf}
 use Rattle.lt_model.specs.declared.mark.Mark.{Mark}
 use Rattle.lt_model.specs.Marks.{Marks}
 use Rattle.lt_base.specs.declared.index.Index.{Index}
-use Rattle.lt_base.specs.Columns.{IsPermOf}
+use Rattle.lt_delta.specs.Columns.{IsPermOf}
 use Rattle.lt_base.specs.Indexed.{IsIndexed}
 use Rattle.lt_base.proofs.OwnOrder.{row_eq-itself, row_eq-false, row_at}
 

@@ -10,8 +10,8 @@ use Rattle.lt_model.specs.declared.mark.Mark.{Mark}
 use Rattle.lt_model.specs.Marks.{Marks, write}
 use Rattle.lt_delta.specs.Laying.{row_laid, rows_laid}
 use Rattle.lt_base.specs.declared.index.Index.{Index}
-use Rattle.lt_base.specs.Columns.{IsPermOf}
-use Rattle.lt_base.specs.Indexed.{IsPermuted, IsIndexed, permuted_mark, index_laid}
+use Rattle.lt_delta.specs.Columns.{IsPermOf, IsPermuted}
+use Rattle.lt_base.specs.Indexed.{IsIndexed, permuted_mark, index_laid}
 use Rattle.lt_base.proofs.Elements.{with_new, with_old, with_cases, without_cases, without_other}
 use Rattle.std.proofs.lemmas.Bool.{eqb-true}
 use Rattle.lt_base.proofs.OwnOrder.{row_at}

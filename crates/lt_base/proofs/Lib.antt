@@ -11,3 +11,4 @@ pub mod Replaced
 pub mod Tabled
 pub mod Apart
 pub mod Edited
+pub mod Layered

@@ -6,7 +6,7 @@ use Rattle.std.proofs.lemmas.Bool.{and_parts, eqb-true, eq-eqb, ne_eqb, cases_Bo
 use Rattle.lt_face.specs.Rows.{IsRow, IsRowSet}
 use Rattle.lt_face.specs.Lists.{IsIn}
 use Rattle.lt_face.specs.State.{Row, row_eq, permuted, IsIndexOf}
-use Rattle.lt_base.specs.Columns.{numbers}
+use Rattle.lt_delta.specs.Columns.{numbers}
 
 pub row_eq-true : (xs ys : List ℕ) → row_eq xs ys ≡ true → xs ≡ ys
 row_eq-true [] [] h = refl
@@ -23,7 +23,7 @@ row_eq-itself (x ∷ xs) = rw (eq-eqb x x refl, row_eq-itself xs) refl
 pub row_eq-false : (xs ys : List ℕ) → xs ≢ ys → row_eq xs ys ≡ false
 row_eq-false xs ys ne = elim (cases_Bool (row_eq xs ys)) [ inl t ↦ absurd (ne (row_eq-true xs ys t)) | inr f ↦ f ]
 
-long_numbers : (from n : ℕ) → length (numbers from n) ≡ n
+pub long_numbers : (from n : ℕ) → length (numbers from n) ≡ n
 long_numbers from zero = refl
 long_numbers from (suc n) = let e = long_numbers (from + 1) n in omega arith
 
@@ -69,7 +69,7 @@ own_row : (xs : Row) → map (slice_index xs) (numbers 0 (length xs)) ≡ xs
 own_row [] = refl
 own_row (x ∷ xs) = ap (λ t. x ∷ t) (shifted x xs 0 (length xs) ∙ own_row xs)
 
-permuted_own : (columns : List ℕ) (row : Row) (n : ℕ) → columns ≡ numbers 0 n → length row ≡ n → permuted columns row ≡ row
+pub permuted_own : (columns : List ℕ) (row : Row) (n : ℕ) → columns ≡ numbers 0 n → length row ≡ n → permuted columns row ≡ row
 permuted_own columns row n is long = ap (map (slice_index row)) (is ∙ ap (numbers 0) (sym long)) ∙ own_row row
 
 pub row_at : (P : Row → Type 0) (rows : List Row) (row : Row) → AllByRecursion P rows → IsIn row rows → P row

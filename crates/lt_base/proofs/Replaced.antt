@@ -6,7 +6,7 @@ use Rattle.std.proofs.lemmas.Bool.{eqb-true, eq-eqb, ne_eqb, and_parts}
 use Rattle.std.proofs.lemmas.Bool.Decides.{eqb_tells}
 use Rattle.lt_face.specs.State.{Relation, row_eq}
 use Rattle.lt_model.specs.Fits.{IsWide}
-use Rattle.lt_base.specs.Columns.{numbers}
+use Rattle.lt_delta.specs.Columns.{numbers}
 use Rattle.lt_base.specs.Tables.{Table, relation_of, state_of, has_columns, has_index}
 use Rattle.lt_base.proofs.Grown.{map_at}
 use Rattle.lt_base.proofs.OwnOrder.{row_eq-true}

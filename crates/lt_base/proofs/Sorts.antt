@@ -13,8 +13,7 @@ use Rattle.lt_face.specs.Rows.{row_cmp, IsCell, IsRow, IsAscending, IsRowSet}
 use Rattle.lt_face.specs.State.{Row, permuted}
 use Rattle.lt_face.proofs.RowLemmas.{rows_total, rows_exact, each_at, cmp_itself}
 use Rattle.lt_face.proofs.Membership.{IsIn-map, IsIn-map_from}
-use Rattle.lt_base.specs.Columns.{IsPermOf}
-use Rattle.lt_base.specs.Indexed.{IsPermuted}
+use Rattle.lt_delta.specs.Columns.{IsPermOf, IsPermuted}
 use Rattle.lt_base.proofs.Kept.{permuted_once}
 
 -- ---- words on lists

@@ -1,21 +1,14 @@
 -- Indexes of a relation's rows, and marks laid on them.
 use Rattle.std.specs.Prelude.{◌≡◌, ℕ, List, map}
-use Rattle.lt_face.specs.Lists.{IsIn}
 use Rattle.lt_face.specs.Rows.{IsAscending, IsRowSet}
 use Rattle.lt_face.specs.State.{Row, permuted}
 use Rattle.lt_model.specs.declared.mark.Mark.{Mark}
 use Rattle.lt_model.specs.Marks.{Marks}
 use Rattle.lt_delta.specs.declared.edits.Edits.{Edits}
+use Rattle.lt_delta.specs.Columns.{IsPermuted}
 use Rattle.lt_delta.specs.Laying.{rows_laid}
 use Rattle.lt_over.specs.Overlaid.{overlaid}
 use Rattle.lt_base.specs.declared.index.Index.{Index}
-use Rattle.lt_base.specs.Columns.{IsPermOf}
-
--- the same rows, each with its cells in the order of the columns
-pub record IsPermuted (width : ℕ) (columns : List ℕ) (rows index : List Row) : Type 0 where
-  pub perm : IsPermOf width columns
-  pub there : (row : Row) → IsIn row rows → IsIn (permuted columns row) index
-  pub from : (r : Row) → IsIn r index → (row : Row) × IsIn row rows × (permuted columns row ≡ r)
 
 -- an index of a relation of this width and these rows
 pub record IsIndexed (width : ℕ) (rows : List Row) (index : Index) : Type 0 where

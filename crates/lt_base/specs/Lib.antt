@@ -1,4 +1,3 @@
-pub mod Columns
 pub mod Tables
 pub mod Indexed
 pub mod Shown

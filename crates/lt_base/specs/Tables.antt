@@ -3,7 +3,7 @@ use Rattle.std.specs.Prelude.{◌≤◌, ℕ, zero, suc, Bool, false, ◌||◌, 
 use Rattle.std.specs.List.{list_any}
 use Rattle.lt_face.specs.Rows.{IsRowSet}
 use Rattle.lt_face.specs.State.{Row, Relation, State, row_eq}
-use Rattle.lt_base.specs.Columns.{numbers}
+use Rattle.lt_delta.specs.Columns.{numbers}
 
 -- a relation's width and rows, and the columns of its indexes besides the one in their own order
 pub record Table : Type 0 where

@@ -1,9 +1,11 @@
 //! Orders of columns, and rows with their cells in such an order.
-ghost use Rattle.std.specs.Prelude.{◌≡◌, ◌≢◌, ◌<◌, ◌≤◌, true, false, length};
+ghost use Rattle.std.specs.Prelude.{◌≡◌, ◌≢◌, ◌<◌, ◌≤◌, true, false, length, IfOk};
 ghost use Rattle.std.specs.List.{AllByRecursion};
 ghost use Rattle.lt_face.specs.State.{row_eq, permuted};
-ghost use Rattle.lt_base.specs.Columns.{numbers};
+ghost use Rattle.lt_delta.specs.Columns.{numbers};
 
+use lt_face::items::Perm;
+use lt_face::memory::NoMemory;
 use lt_face::row::Row;
 use std::alloc::Global;
 
@@ -20,6 +22,18 @@ pub(crate) fn is_own_order(columns: &[u32], width: usize) -> bool
         }
     }
     true
+}
+
+/// The columns of a relation in their own order.
+pub(crate) fn own_columns(alloc: Global, width: usize) -> Result<Perm, NoMemory>
+    requires { width ≤ 8 }
+    ensures { IfOk result (λ columns. columns ≡ numbers 0 width) }
+{
+    let mut columns = Perm::new(alloc);
+    for i in 0..width {
+        columns.push(i as u32)?;
+    }
+    Ok(columns)
 }
 
 /// Whether two orders are one.

@@ -9,13 +9,14 @@ ghost use Rattle.lt_model.specs.declared.mark.Mark.{Mark as MarkType};
 ghost use Rattle.lt_model.specs.Fits.{FitMarks, IsWide};
 ghost use Rattle.lt_model.specs.Marks.{laid};
 ghost use Rattle.lt_model.specs.State.{IsState};
+ghost use Rattle.lt_delta.specs.IndexEdits.{IsEditsOf};
 ghost use Rattle.lt_delta.specs.Laying.{rows_laid};
-ghost use Rattle.lt_base.specs.Columns.{IsPermOf};
+ghost use Rattle.lt_delta.specs.Columns.{IsPermOf};
 ghost use Rattle.lt_base.specs.Tables.{Table, IsTable, state_of, has_index};
 ghost use Rattle.lt_base.specs.Shown.{table_laid, tables_laid};
 
 use crate::relation::Relation;
-use lt_delta::Marks;
+use lt_delta::{IndexEdits, Marks};
 use lt_face::indexes::Indexes;
 use lt_face::items::Perm;
 use lt_face::memory::NoMemory;
@@ -293,6 +294,16 @@ impl Database {
         Ok(Database { relations })
     }
 
+    /// The same marks, with what they do to each index of their relations, for many states that they are laid on.
+    pub fn prepared(&self, marks: &Marks) -> Result<Marks, NoMemory>
+        requires { FitMarks (state_of self.now) marks.now }
+        ensures { IfOk result (λ same. same ≡ marks.now) }
+    {
+        let edits = all_edits(&self.relations, marks)?;
+        let same = marks.with_edits(edits)?;
+        Ok(same)
+    }
+
     /// The same database, where long lists of rows that are laid over others are folded in: to be called once for many marks.
     pub fn folded(&self) -> Result<Database, NoMemory>
         ensures { IfOk result (λ db. db ≡ self.now) }
@@ -322,6 +333,24 @@ fn all_laid(relations: &Vec<Arc<Relation>>, marks: &Marks) -> Result<Vec<Arc<Rel
         laid.push(relation)?;
     }
     Ok(laid)
+}
+
+/// What the marks do to each index of the relations that they name.
+fn all_edits(
+    relations: &Vec<Arc<Relation>>,
+    marks: &Marks,
+) -> Result<Vec<Arc<IndexEdits>>, NoMemory>
+    requires { FitMarks (state_of (map arc_value relations.now.items)) marks.now }
+    ensures { IfOk result (λ edits. AllByRecursion (IsEditsOf marks.now) (map arc_value edits.items)) }
+{
+    let alloc = *relations.allocator();
+    let mut edits = Vec::new(alloc);
+    for (number, relation) in relations.iter().enumerate() {
+        if is_named(marks, number) {
+            relation.add_edits(number as u32, marks, &mut edits)?;
+        }
+    }
+    Ok(edits)
 }
 
 impl Indexes for Database {

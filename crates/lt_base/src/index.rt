@@ -1,20 +1,23 @@
 //! One index: the rows of a relation, with their cells in another order of the columns.
-ghost use Rattle.std.specs.Prelude.{◌≡◌, ◌≤◌, ℕ, map, IfOk};
+ghost use Rattle.std.specs.Prelude.{◌≡◌, ◌≤◌, ℕ, List, map, IfOk};
 ghost use Rattle.std.specs.List.{AllByRecursion};
 ghost use Rattle.std.specs.List.Sorted.{IsPermutation, IsSorted};
-ghost use Rattle.lt_face.specs.Rows.{IsRow, row_cmp};
-ghost use Rattle.lt_face.specs.State.{permuted};
+ghost use Rattle.lt_face.specs.Rows.{IsRow, IsRowSet, row_cmp};
+ghost use Rattle.lt_face.specs.State.{Row as RowView, permuted};
 ghost use Rattle.lt_model.specs.declared.mark.Mark.{Mark as MarkType};
-ghost use Rattle.lt_base.specs.Columns.{IsPermOf};
+ghost use Rattle.lt_delta.specs.Columns.{IsPermOf, IsPermuted};
+ghost use Rattle.lt_delta.specs.IndexEdits.{IsEditsOf};
+ghost use Rattle.lt_delta.specs.Laying.{rows_laid};
 ghost use Rattle.lt_base.specs.Indexed.{IsIndexed, AreEditsIn, index_laid};
 
 use crate::columns::permuted_row;
 use crate::database::Rows;
 use crate::walk::permuted_rows;
-use lt_delta::{Edits, Marks};
+use lt_delta::{Edits, IndexEdits, Marks};
 use lt_face::items::{Items, Perm, RowList};
 use lt_face::memory::NoMemory;
 use lt_face::row_set::{RowReads, RowSet};
+use lt_over::Layer;
 
 /// Rows with their cells in the order of the columns.
 #[derive(Drop)]
@@ -48,6 +51,52 @@ fn edits_in(columns: &Perm, relation: u32, marks: &Marks) -> Result<Edits, NoMem
     Ok(Edits { gone, come })
 }
 
+/// What the marks do to an index of their relation on these columns, as one layer of edits.
+pub(crate) fn index_edits(
+    columns: &Perm,
+    relation: u32,
+    marks: &Marks,
+) -> Result<IndexEdits, NoMemory>
+    requires { (width : ℕ) × IsPermOf width columns.now × (width ≤ 8) × AllByRecursion (λ (m : MarkType). m.relation ≡ relation → IsRow width m.row) marks.now }
+    ensures relation { IfOk result (λ edits. edits.relation ≡ relation) }
+    ensures columns { IfOk result (λ edits. edits.columns ≡ columns.now) }
+    ensures edits { IfOk result (IsEditsOf marks.now) }
+{
+    let edits = edits_in(columns, relation, marks)?;
+    let columns = columns.copy()?;
+    let layer = Layer::new(columns.len(), edits.gone, edits.come)?;
+    let edits = IndexEdits::of_layer(relation, columns, layer)?;
+    Ok(edits)
+}
+
+/// The rows of an index on these columns with the marks of its relation laid on them, as layers: those that are kept with the
+/// marks, where they are.
+pub(crate) fn rows_with(
+    rows: &Rows,
+    columns: &Perm,
+    relation: u32,
+    marks: &Marks,
+) -> Result<Rows, NoMemory>
+    requires perm { IsPermOf rows.now.width columns.now }
+    requires fit { AllByRecursion (λ (m : MarkType). m.relation ≡ relation → IsRow rows.now.width m.row) marks.now }
+    ensures width { IfOk result (λ set. set.width ≡ rows.now.width) }
+    ensures rows { IfOk result (λ set. (table : List RowView) → IsRowSet rows.now.width table → IsPermuted rows.now.width columns.now table rows.now.rows
+        → IsPermuted rows.now.width columns.now (rows_laid relation table marks.now) set.rows) }
+{
+    let _width = rows.width();
+    match marks.edits_of(relation, columns.as_slice()) {
+        Some(edits) => {
+            let set = rows.layered(&edits.layers)?;
+            Ok(set)
+        }
+        None => {
+            let edits = index_edits(columns, relation, marks)?;
+            let set = rows.layered(&edits.layers)?;
+            Ok(set)
+        }
+    }
+}
+
 impl Index {
     /// The index of these rows on these columns.
     pub(crate) fn on(rows: &Rows, perm: &Perm) -> Result<Index, NoMemory>
@@ -65,14 +114,14 @@ impl Index {
 
     /// The index with the marks of its relation laid on it.
     pub(crate) fn laid(&self, relation: u32, marks: &Marks) -> Result<Index, NoMemory>
-        requires perm { IsPermOf self.now.rows.width self.now.columns }
+        requires indexed { (table : List RowView) × IsRowSet self.now.rows.width table × IsPermuted self.now.rows.width self.now.columns table self.now.rows.rows }
         requires fit { AllByRecursion (λ (m : MarkType). m.relation ≡ relation → IsRow self.now.rows.width m.row) marks.now }
         ensures { IfOk result (λ index. index ≡ index_laid relation marks.now self.now) }
     {
         let _width = self.rows.width();
         let columns = self.columns.copy()?;
-        let edits = edits_in(&columns, relation, marks)?;
-        let rows = self.rows.laid(edits.gone, edits.come)?;
+        let rows = rows_with(&self.rows, &self.columns, relation, marks)?;
+        let _width = rows.width();
         Ok(Index { columns, rows })
     }
 

@@ -1,24 +1,27 @@
 //! A relation of a database.
-ghost use Rattle.std.specs.Prelude.{◌≡◌, ◌≤◌, [], ◌∷◌, ◌++◌, map, IfOk, IfSome, is_some};
+ghost use Rattle.std.specs.Prelude.{◌≡◌, ◌≤◌, ℕ, List, [], ◌∷◌, ◌++◌, map, IfOk, OnOk, IfSome, is_some};
+ghost use Rattle.std.specs.Arc.{arc_value};
 ghost use Rattle.std.specs.List.{AllByRecursion, list_any};
-ghost use Rattle.lt_face.specs.Rows.{IsRow};
+ghost use Rattle.lt_face.specs.Rows.{IsRow, IsRowSet};
 ghost use Rattle.lt_face.specs.Lists.{IsIn};
-ghost use Rattle.lt_face.specs.State.{IsIndexOf, row_eq};
+ghost use Rattle.lt_face.specs.State.{Row as RowView, IsIndexOf, row_eq};
 ghost use Rattle.lt_model.specs.declared.mark.Mark.{Mark as MarkType};
 ghost use Rattle.lt_delta.specs.Laying.{rows_laid};
-ghost use Rattle.lt_base.specs.Columns.{IsPermOf};
+ghost use Rattle.lt_delta.specs.Columns.{IsPermOf, IsPermuted};
+ghost use Rattle.lt_delta.specs.IndexEdits.{IsEditsOf};
 ghost use Rattle.lt_base.specs.Tables.{relation_of, has_columns};
 ghost use Rattle.lt_base.specs.Indexed.{IsIndexed, index_laid};
 
-use crate::columns::{is_own_order, is_same_order};
+use crate::columns::{is_own_order, is_same_order, own_columns};
 use crate::database::Rows;
-use crate::index::Index;
-use lt_delta::Marks;
+use crate::index::{Index, index_edits, rows_with};
+use lt_delta::{IndexEdits, Marks};
 use lt_face::items::Perm;
 use lt_face::memory::NoMemory;
 use lt_face::row_set::{RowReads, RowSet};
 use std::alloc::Global;
 use std::marker::Model;
+use std::sync::Arc;
 
 /// The rows with their cells in the order of the columns, and the same rows in other orders.
 #[derive(Drop)]
@@ -55,7 +58,7 @@ fn found<'a>(others: &'a [Index], perm: &Perm) -> Option<&'a Index>
 
 /// The indexes with the marks of their relation laid on them.
 fn all_laid(others: &Vec<Index>, relation: u32, marks: &Marks) -> Result<Vec<Index>, NoMemory>
-    requires perms { AllByRecursion (λ index. IsPermOf index.rows.width index.columns) others.now.items }
+    requires indexed { AllByRecursion (λ index. (table : List RowView) × IsRowSet index.rows.width table × IsPermuted index.rows.width index.columns table index.rows.rows) others.now.items }
     requires fit { AllByRecursion (λ index. AllByRecursion (λ (m : MarkType). m.relation ≡ relation → IsRow index.rows.width m.row) marks.now) others.now.items }
     ensures { IfOk result (λ laid. laid.items ≡ map (index_laid relation marks.now) others.now.items) }
 {
@@ -65,6 +68,40 @@ fn all_laid(others: &Vec<Index>, relation: u32, marks: &Marks) -> Result<Vec<Ind
         laid.push(index)?;
     }
     Ok(laid)
+}
+
+/// Puts what the marks do to an index on these columns to the edits of others.
+fn add_edits(
+    columns: &Perm,
+    relation: u32,
+    marks: &Marks,
+    edits: &mut Vec<Arc<IndexEdits>>,
+) -> Result<(), NoMemory>
+    requires order { (width : ℕ) × IsPermOf width columns.now × (width ≤ 8) × AllByRecursion (λ (m : MarkType). m.relation ≡ relation → IsRow width m.row) marks.now }
+    requires before { AllByRecursion (IsEditsOf marks.now) (map arc_value edits.old.items) }
+    ensures { OnOk result (AllByRecursion (IsEditsOf marks.now) (map arc_value edits.new.items)) }
+{
+    let more = index_edits(columns, relation, marks)?;
+    let more = Arc::new(*edits.allocator(), more)?;
+    edits.push(more)?;
+    Ok(())
+}
+
+/// Puts what the marks do to the indexes of their relation to the edits of others.
+fn add_all_edits(
+    others: &[Index],
+    relation: u32,
+    marks: &Marks,
+    edits: &mut Vec<Arc<IndexEdits>>,
+) -> Result<(), NoMemory>
+    requires orders { AllByRecursion (λ index. (width : ℕ) × IsPermOf width index.columns × (width ≤ 8) × AllByRecursion (λ (m : MarkType). m.relation ≡ relation → IsRow width m.row) marks.now) others.now }
+    requires before { AllByRecursion (IsEditsOf marks.now) (map arc_value edits.old.items) }
+    ensures { OnOk result (AllByRecursion (IsEditsOf marks.now) (map arc_value edits.new.items)) }
+{
+    for index in others {
+        add_edits(&index.columns, relation, marks, edits)?;
+    }
+    Ok(())
 }
 
 /// Lays the marks of their relation on the indexes.
@@ -172,11 +209,28 @@ impl Relation {
         requires { AllByRecursion (λ (m : MarkType). m.relation ≡ number → IsRow self.now.width m.row) marks.now }
         ensures { IfOk result (λ relation. relation ≡ record self.now { rows = rows_laid number self.now.rows marks.now }) }
     {
-        let _width = self.first.width();
-        let edits = marks.edits(*self.others.allocator(), number)?;
-        let first = self.first.laid(edits.gone, edits.come)?;
+        let own = own_columns(*self.others.allocator(), self.first.width())?;
+        let first = rows_with(&self.first, &own, number, marks)?;
+        let _width = first.width();
         let others = all_laid(&self.others, number, marks)?;
         Ok(Relation { first, others })
+    }
+
+    /// Puts what the marks do to each index of the relation of this number to the edits of other indexes.
+    pub(crate) fn add_edits(
+        &self,
+        number: u32,
+        marks: &Marks,
+        edits: &mut Vec<Arc<IndexEdits>>,
+    ) -> Result<(), NoMemory>
+        requires fit { AllByRecursion (λ (m : MarkType). m.relation ≡ number → IsRow self.now.width m.row) marks.now }
+        requires before { AllByRecursion (IsEditsOf marks.now) (map arc_value edits.old.items) }
+        ensures { OnOk result (AllByRecursion (IsEditsOf marks.now) (map arc_value edits.new.items)) }
+    {
+        let own = own_columns(*self.others.allocator(), self.first.width())?;
+        add_edits(&own, number, marks, edits)?;
+        add_all_edits(&self.others, number, marks, edits)?;
+        Ok(())
     }
 
     /// Lays the marks on all indexes of the relation of this number: in place, where they are few and nobody shares its rows.

@@ -1,7 +1,7 @@
 //! The rows of a set, one after another.
 ghost use Rattle.std.specs.Prelude.{◌≡◌, ◌≤◌, map, IfOk};
 ghost use Rattle.lt_face.specs.State.{permuted};
-ghost use Rattle.lt_base.specs.Columns.{IsPermOf};
+ghost use Rattle.lt_delta.specs.Columns.{IsPermOf};
 
 use crate::columns::permuted_row;
 use lt_face::memory::NoMemory;

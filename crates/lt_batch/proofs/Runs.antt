@@ -79,10 +79,11 @@ item_at f [] i x lt is = absurd (omega arith)
 item_at f (y ∷ xs) zero x lt is = ap f (sym is)
 item_at f (y ∷ xs) (suc i) x lt is = item_at f xs i x (omega arith) is
 
-pub stands_is : (work : BatchView) (i : ℕ) (on correction : Marks) (program : List Stmt) (base : List Table) (t : TallyView) → program_at work.programs i ≡ program → state_of base ≡ base_on program (state_of work.snapshot) on → run program (state_of base) ≡ run program (laid (state_of work.snapshot) on) → correction ≡ on
-    → t.program ≡ program → t.base ≡ base → IsRun t → has_ended t ≡ true → t.reply ≡ (run program (state_of base)).0 → t.marks ≡ (run program (state_of base)).1 → StandsFor work (record { run = t; correction = correction }) i on
-stands_is work i on correction program base t is base_is runs same p b ran ended reply marks = record {
+pub stands_is : (work : BatchView) (i : ℕ) (on correction effect : Marks) (program : List Stmt) (base : List Table) (t : TallyView) → program_at work.programs i ≡ program → state_of base ≡ base_on program (state_of work.snapshot) on → run program (state_of base) ≡ run program (laid (state_of work.snapshot) on) → correction ≡ on → effect ≡ t.marks
+    → t.program ≡ program → t.base ≡ base → IsRun t → has_ended t ≡ true → t.reply ≡ (run program (state_of base)).0 → t.marks ≡ (run program (state_of base)).1 → StandsFor work (record { run = t; correction = correction; effect = effect }) i on
+stands_is work i on correction effect program base t is base_is runs same same_effect p b ran ended reply marks = record {
   correction = same;
+  effect = same_effect;
   program = p ∙ sym is;
   base = ap state_of b ∙ base_is ∙ ap (λ (q : List Stmt). base_on q (state_of work.snapshot) on) (sym is);
   is_run = ran;

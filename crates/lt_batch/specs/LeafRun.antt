@@ -11,6 +11,7 @@ use Rattle.lt_batch.specs.Work.{BatchView, base_at}
 -- on the snapshot itself.
 pub record StandsFor (work : BatchView) (tally : LeafTally) (i : ℕ) (on : Marks) : Type 0 where
   pub correction : tally.correction ≡ on
+  pub effect : tally.effect ≡ tally.run.marks
   pub program : tally.run.program ≡ program_at work.programs i
   pub base : state_of tally.run.base ≡ base_at work i on
   pub is_run : IsRun tally.run

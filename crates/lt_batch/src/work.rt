@@ -32,6 +32,7 @@ use std::sync::Arc;
 pub struct BatchWork {
     snapshot: Database,
     programs: Vec<Arc<Prog>>,
+    is_reading: bool,
 }
 
 impl Model for BatchWork {
@@ -56,6 +57,30 @@ fn shared(alloc: Global, progs: &[Arc<Prog>]) -> Result<Vec<Arc<Prog>>, NoMemory
         shared.push(prog)?;
     }
     Ok(shared)
+}
+
+/// Whether one of the programs reads a relation.
+fn reads_any(progs: &[Arc<Prog>]) -> bool {
+    for prog in progs {
+        if reads(prog.as_slice()) {
+            return true;
+        }
+    }
+    false
+}
+
+/// The marks as an effect: with what they do to the snapshot's indexes, where a program may run on them.
+fn effect_of(snapshot: &Database, marks: &Marks, is_reading: bool) -> Result<Marks, NoMemory>
+    requires { FitMarks (state_of snapshot.now) marks.now }
+    ensures { IfOk result (λ effect. effect ≡ marks.now) }
+{
+    if is_reading {
+        let effect = snapshot.prepared(marks)?;
+        Ok(effect)
+    } else {
+        let effect = marks.share()?;
+        Ok(effect)
+    }
 }
 
 /// The programs can run on the database: its relations are sets of rows.
@@ -154,7 +179,12 @@ impl BatchWork {
         look_over(db, progs);
         let snapshot = all_indexed(db, progs)?;
         let programs = shared(alloc, progs)?;
-        Ok(BatchWork { snapshot, programs })
+        let is_reading = reads_any(progs);
+        Ok(BatchWork {
+            snapshot,
+            programs,
+            is_reading,
+        })
     }
 
     /// The snapshot with its indexes.
@@ -212,11 +242,16 @@ impl LeafWork for BatchWork {
         let prog = &self.programs[leaf as usize];
         let base = corrected(&self.snapshot, prog, correction)?;
         let run = run_on(prog, &base, prior, correction, moves)?;
+        let effect = effect_of(&self.snapshot, run.marks(), self.is_reading)?;
         let correction = correction.share()?;
-        Ok(LeafTally { run, correction })
+        Ok(LeafTally {
+            run,
+            correction,
+            effect,
+        })
     }
 
     fn effect<'a>(&self, tally: &'a LeafTally) -> &'a Marks {
-        tally.run.marks()
+        &tally.effect
     }
 }

@@ -1,6 +1,7 @@
 -- Steps of the search for bound variables.
 use Rattle.std.proofs.Common.{◌≡◌, ◌≢◌, ℕ, ◌+◌, ◌<◌, Bool, true, false, ◌&&◌, ◌||◌, List, [], ◌∷◌, ◌++◌, map, length, take, drop, get_or, refl, sym, ap, ◌∙◌}
 use Rattle.std.specs.Prelude.{filter_map}
+use Rattle.std.specs.Borrow.{Bor}
 use Rattle.std.specs.List.{list_any, list_all}
 use Rattle.std.proofs.lemmas.List.{take_more, drop_more, append-nil}
 use Rattle.std.proofs.lemmas.List.Folds.{list_any_more, list_any-append}
@@ -20,6 +21,7 @@ use Rattle.lt_model.specs.Bound.{is_var, stands, is_known, know, know_all}
 use Rattle.lt_model.specs.Check.{term}
 use Rattle.lt_model.specs.Variables.{variable_of, place_of}
 use Rattle.lt_check.specs.Binding.{Alike}
+use Rattle.lt_check.specs.Seen.{seen}
 
 same_tests : (f g : ℕ → Bool) → Alike f g → f ≡ g
 same_tests f g h = λ i. λ v. h v i
@@ -88,3 +90,11 @@ known_places f names (given.Cell kind cell ∷ terms) = known_places f names ter
 -- a body binds what is found
 pub all_alike : (f g : ℕ → Bool) (names places : List (List ℕ)) → Alike f g → list_all (λ name. f (place_of names name)) places ≡ list_all (λ name. g (place_of names name)) places
 all_alike f g names places h = ap (λ known. list_all (λ name. known (place_of names name)) places) (same_tests f g h)
+
+-- one name and the others behind it
+pub bound_more : (f : ℕ → Bool) (names : List (List ℕ)) (each : List (Bor (List ℕ))) (i : ℕ) (d : Bor (List ℕ)) (place : ℕ) (b : Bool) → i < length each → place ≡ place_of names (get_or each i d).now → b ≡ f place → list_all (λ name. f (place_of names name)) (seen (drop i each)) ≡ (b && list_all (λ name. f (place_of names name)) (seen (drop (i + 1) each)))
+bound_more f names each i d place b lt e g =
+    let others = list_all (λ name. f (place_of names name)) (seen (drop (i + 1) each)) in
+    ap (λ (xs : List (Bor (List ℕ))). list_all (λ name. f (place_of names name)) (seen xs)) (drop_more each i d lt)
+    ∙ ap (λ v. f v && others) (sym e)
+    ∙ ap (λ c. c && others) (sym g)

@@ -4,3 +4,4 @@ pub mod Binding
 pub mod Statements
 pub mod Fitting
 pub mod Limits
+pub mod Columned

@@ -1,9 +1,13 @@
 -- From one statement to a program, and from its parts to a statement.
-use Rattle.std.proofs.Common.{◌≡◌, ℕ, zero, suc, ◌+◌, ◌<◌, Bool, true, false, not, ◌&&◌, List, [], ◌∷◌, ◌++◌, map, length, drop, get_or, Option, Some, None, cond, refl, sym, ap, subst, ◌∙◌, arith}
+use Rattle.std.proofs.Common.{◌≡◌, ℕ, zero, suc, ◌+◌, ◌<◌, Bool, true, false, not, ◌&&◌, ◌||◌, List, [], ◌∷◌, ◌++◌, map, length, drop, get_or, Option, Some, None, cond, refl, sym, ap, subst, ◌∙◌, arith}
 use mathlib.Core.Bool.{true≢false}
-use Rattle.std.specs.Prelude.{find, flat_map, filter_map, is_none, unwrap_or, if◌then◌else◌}
+use Rattle.std.specs.Prelude.{find, flat_map, filter_map, fold, is_none, unwrap_or, if◌then◌else◌}
+use Rattle.std.specs.Str.{bytes_eq}
 use Rattle.std.specs.List.{AllByRecursion, list_all, list_any}
+use Rattle.std.proofs.Math.Bool.{and-true, and_assoc}
 use Rattle.std.proofs.lemmas.List.{drop_more, map-append}
+use Rattle.std.proofs.lemmas.List.Folds.{list_all-append}
+use Rattle.std.proofs.lemmas.Slice.Eq.{bytes_eq-Decides}
 use Rattle.lt_model.specs.declared.kind.Kind.TheVariants.{Int, Sym}
 use Rattle.lt_model.specs.declared.syntax.Head.{Head}
 use Rattle.lt_model.specs.declared.syntax.Literal.{Literal}
@@ -14,7 +18,7 @@ use Rattle.lt_model.specs.declared.normal.Stmt.TheVariants as stmts
 use Rattle.lt_model.specs.declared.syntax.Statement.{Statement}
 use Rattle.lt_model.specs.declared.normal.Stmt.{Stmt}
 use Rattle.lt_model.specs.Schema.{Schema}
-use Rattle.lt_model.specs.Variables.{atoms_of, body_of, terms_of, variables, variable_of, place_of, literal_terms}
+use Rattle.lt_model.specs.Variables.{atoms_of, body_of, terms_of, variables, variable_of, place_of, with_name, literal_terms}
 use Rattle.lt_model.specs.Bound.{is_known, is_bound}
 use Rattle.lt_model.specs.Check.{Checked, Good, Bad, after_good, or_bad, code_of, normal, checked_from, Choice, choices, choice_fits, choice_for, is_unknown, is_misfit, all_bound, kind_of, term, normal_body, normal_with}
 use Rattle.lt_model.proofs.Laws.{found_choice, some_choice}
@@ -157,13 +161,40 @@ code_23 schema s known f h b = let found = choice_some schema s known h in code_
 pub no_code : (schema : Schema) (s : Statement) (known : Known) → IsFormed schema s → Settles (choice_fits schema s) (length (variables s)) (Some known) → all_bound schema s ≡ true → code_of schema s ≡ None
 no_code schema s known f h b = let found = choice_some schema s known h in code_chosen schema s false false false false f.known f.fit (none_is (choice_for schema s) found.0 found.1) (ap not b)
 
--- the variables' places are bound exactly where all terms are
-pub bound_by_places : (schema : Schema) (s : Statement) (names places : List (List ℕ)) (body : Body) → names ≡ variables s → places ≡ filter_map variable_of (terms_of s) → body ≡ normal_body schema names (body_of s) → list_all (λ name. is_bound body (place_of names name)) places ≡ all_bound schema s
-bound_by_places schema s names places body e f g =
-    ap (λ (b : Body). list_all (λ name. is_bound b (place_of names name)) places) g
-    ∙ ap (λ ps. list_all (λ name. is_bound (normal_body schema names (body_of s)) (place_of names name)) ps) f
-    ∙ sym (known_places (is_bound (normal_body schema names (body_of s))) names (terms_of s))
-    ∙ ap (λ ns. list_all (is_known (is_bound (normal_body schema ns (body_of s)))) (map (term ns) (terms_of s))) e
+first_again : (a b : Bool) → (a && b) ≡ ((a && b) && a)
+first_again true b = sym (and-true b)
+first_again false b = refl
+
+-- a name that is there is one of them
+one_of : (p : List ℕ → Bool) (names : List (List ℕ)) (name : List ℕ) → list_any (bytes_eq name) names ≡ true → list_all p names ≡ (list_all p names && p name)
+one_of p [] name h = absurd cc
+one_of p (x ∷ names) name h = by_first (bytes_eq name x) refl h (one_of p names name)
+  where
+    by_first : (b : Bool) → bytes_eq name x ≡ b → (b || list_any (bytes_eq name) names) ≡ true → (list_any (bytes_eq name) names ≡ true → list_all p names ≡ (list_all p names && p name)) → (p x && list_all p names) ≡ ((p x && list_all p names) && p name)
+    by_first true e h more = subst (λ y. (p x && list_all p names) ≡ ((p x && list_all p names) && p y)) (sym ((bytes_eq-Decides name x).0 e)) (first_again (p x) (list_all p names))
+    by_first false e h more = ap (λ b. p x && b) (more h) ∙ sym (and_assoc (p x) (list_all p names) (p name))
+
+-- a test of all names, and of those without repeats
+all_with : (p : List ℕ → Bool) (names : List (List ℕ)) (name : List ℕ) → list_all p (with_name names name) ≡ (list_all p names && p name)
+all_with p names name = by_case (list_any (bytes_eq name) names) refl
+  where
+    by_case : (b : Bool) → list_any (bytes_eq name) names ≡ b → list_all p (if b then names else names ++ name ∷ []) ≡ (list_all p names && p name)
+    by_case true e = one_of p names name e
+    by_case false e = list_all-append p names (name ∷ []) ∙ ap (λ b. list_all p names && b) (and-true (p name))
+
+all_different : (p : List ℕ → Bool) (names more : List (List ℕ)) → list_all p (fold with_name names more) ≡ (list_all p names && list_all p more)
+all_different p names [] = sym (and-true (list_all p names))
+all_different p names (name ∷ more) =
+    all_different p (with_name names name) more ∙ ap (λ b. b && list_all p more) (all_with p names name) ∙ and_assoc (list_all p names) (p name) (list_all p more)
+
+-- the variables are bound exactly where all terms are
+pub bound_by_names : (schema : Schema) (s : Statement) (names : List (List ℕ)) (body : Body) → names ≡ variables s → body ≡ normal_body schema names (body_of s) → list_all (λ name. is_bound body (place_of names name)) names ≡ all_bound schema s
+bound_by_names schema s names body e g =
+    let test : List (List ℕ) → List ℕ → Bool = λ ns name. is_bound (normal_body schema ns (body_of s)) (place_of ns name) in
+    ap (λ (b : Body). list_all (λ name. is_bound b (place_of names name)) names) g
+    ∙ ap (λ ns. list_all (test ns) ns) e
+    ∙ all_different (test (variables s)) [] (filter_map variable_of (terms_of s))
+    ∙ sym (known_places (is_bound (normal_body schema (variables s) (body_of s))) (variables s) (terms_of s))
 
 -- ---- the kinds of printed terms
 

@@ -1,44 +1,37 @@
--- One more element at a step of a loop.
-use Rattle.std.proofs.Common.{◌≡◌, ℕ, ◌+◌, ◌<◌, List, [], ◌∷◌, ◌++◌, length, map, take, get_or, Option, ap, sym, ◌∙◌}
-use Rattle.std.specs.Prelude.{filter_map, flat_map}
-use Rattle.std.proofs.lemmas.List.{take_more, append-nil, map-append}
-use Rattle.std.proofs.Common.{append_assoc}
-use Rattle.std.proofs.lemmas.List.Elements.{filter_map-append}
+-- One more element at a step of a loop, and the names of terms.
+use Rattle.std.proofs.Common.{◌≡◌, ℕ, ◌+◌, ◌<◌, List, [], ◌∷◌, ◌++◌, length, drop, get_or, refl, ap, sym, ◌∙◌}
+use Rattle.std.specs.Prelude.{flat_map}
+use Rattle.std.proofs.lemmas.List.{drop_more, append-nil}
 use Rattle.std.proofs.lemmas.List.Concat.{flat_map-cons}
-use Rattle.std.proofs.lemmas.Grind.{flat_map-append}
 use Rattle.lt_model.specs.declared.syntax.Head.{Head}
 use Rattle.lt_model.specs.declared.syntax.Literal.{Literal}
 use Rattle.lt_model.specs.declared.syntax.Statement.TheVariants.{Replace}
-use Rattle.lt_model.specs.Variables.{variable_of, front_terms}
+use Rattle.lt_model.specs.declared.syntax.Term.{Term}
+use Rattle.lt_model.specs.declared.syntax.Term.TheVariants.{Name, Cell}
+use Rattle.lt_model.specs.Variables.{with_name, literal_terms, front_terms}
+use Rattle.lt_check.specs.Seen.{with_variables}
 
-pub filter_map_more : {X Y : Type 0} (h : X → Option Y) (xs : List X) (i : ℕ) (d : X) → i < length xs → filter_map h (take (i + 1) xs) ≡ filter_map h (take i xs) ++ filter_map h (get_or xs i d ∷ [])
-filter_map_more h xs i d l = ap (filter_map h) (take_more xs i d l) ∙ filter_map-append h (take i xs) (get_or xs i d ∷ [])
+-- the terms before the body of a statement with two heads
+pub terms_of_two : (gone come : Head) (body : List Literal) → front_terms (Replace gone come body) ≡ gone.terms ++ come.terms
+terms_of_two gone come body =
+    flat_map-cons (λ (h : Head). h.terms) gone (come ∷ []) ∙ ap (λ ts. gone.terms ++ ts) (flat_map-cons (λ (h : Head). h.terms) come [] ∙ append-nil come.terms)
 
-pub filter_map_both : {X Y : Type 0} (h : X → Option Y) (xs ys : List X) → filter_map h (xs ++ ys) ≡ filter_map h xs ++ filter_map h ys
-filter_map_both h xs ys = filter_map-append h xs ys
+-- the names of terms are added one after the other
+pub with_variables_both : (names : List (List ℕ)) (xs ys : List Term) → with_variables names (xs ++ ys) ≡ with_variables (with_variables names xs) ys
+with_variables_both names [] ys = refl
+with_variables_both names (Name name ∷ xs) ys = with_variables_both (with_name names name) xs ys
+with_variables_both names (Cell kind cell ∷ xs) ys = with_variables_both names xs ys
 
-pub map_both : {X Y : Type 0} (f : X → Y) (xs ys : List X) → map f (xs ++ ys) ≡ map f xs ++ map f ys
-map_both f xs ys = map-append f xs ys
+-- one more term, and the terms of one more literal
+pub with_variables_more : (names : List (List ℕ)) (terms : List Term) (i : ℕ) (t : Term) → i < length terms → t ≡ get_or terms i t → with_variables (with_variables names (t ∷ [])) (drop (i + 1) terms) ≡ with_variables names (drop i terms)
+with_variables_more names terms i t h e =
+    sym (with_variables_both names (t ∷ []) (drop (i + 1) terms))
+    ∙ ap (λ x. with_variables names (x ∷ drop (i + 1) terms)) e
+    ∙ ap (with_variables names) (sym (drop_more terms i t h))
 
--- the same of what each element gives a list of
-pub filter_flat_more : {X A Y : Type 0} (h : A → Option Y) (f : X → List A) (xs : List X) (i : ℕ) (d : X) → i < length xs → filter_map h (flat_map f (take (i + 1) xs)) ≡ filter_map h (flat_map f (take i xs)) ++ filter_map h (f (get_or xs i d))
-filter_flat_more h f xs i d l =
-    let x = get_or xs i d in
-    ap (λ ys. filter_map h (flat_map f ys)) (take_more xs i d l)
-    ∙ ap (filter_map h) (flat_map-append f (take i xs) (x ∷ []) ∙ ap (λ ys. flat_map f (take i xs) ++ ys) (flat_map-cons f x [] ∙ append-nil (f x)))
-    ∙ filter_map-append h (flat_map f (take i xs)) (f x)
-
--- the variables before the body of a statement with two heads
-pub variables_of_two : (gone come : Head) (body : List Literal) → filter_map variable_of (front_terms (Replace gone come body)) ≡ filter_map variable_of gone.terms ++ filter_map variable_of come.terms
-variables_of_two gone come body =
-    ap (filter_map variable_of) (flat_map-cons (λ (h : Head). h.terms) gone (come ∷ []) ∙ ap (λ ts. gone.terms ++ ts) (flat_map-cons (λ (h : Head). h.terms) come [] ∙ append-nil come.terms))
-    ∙ filter_map-append variable_of gone.terms come.terms
-
--- what a loop has pushed, after one more element x
-pub grown : {X Y : Type 0} (F : List X → List Y) (G : X → List Y) (now base next : List Y) (xs : List X) (i : ℕ) (x : X) → F (take (i + 1) xs) ≡ F (take i xs) ++ G (get_or xs i x) → x ≡ get_or xs i x → now ≡ base ++ F (take i xs) → next ≡ now ++ G x → next ≡ base ++ F (take (i + 1) xs)
-grown F G now base next xs i x more is before step =
-    step
-    ∙ ap (λ ys. ys ++ G x) before
-    ∙ append_assoc base (F (take i xs)) (G x)
-    ∙ ap (λ y. base ++ (F (take i xs) ++ G y)) is
-    ∙ ap (λ ys. base ++ ys) (sym more)
+pub with_literals_more : (names : List (List ℕ)) (literals : List Literal) (i : ℕ) (l : Literal) → i < length literals → l ≡ get_or literals i l → with_variables (with_variables names (literal_terms l)) (flat_map literal_terms (drop (i + 1) literals)) ≡ with_variables names (flat_map literal_terms (drop i literals))
+with_literals_more names literals i l h e =
+    sym (with_variables_both names (literal_terms l) (flat_map literal_terms (drop (i + 1) literals)))
+    ∙ ap (with_variables names) (sym (flat_map-cons literal_terms l (drop (i + 1) literals)))
+    ∙ ap (λ x. with_variables names (flat_map literal_terms (x ∷ drop (i + 1) literals))) e
+    ∙ ap (λ ls. with_variables names (flat_map literal_terms ls)) (sym (drop_more literals i l h))

@@ -9,16 +9,16 @@ ghost use Rattle.lt_check.specs.Seen.{seen};
 
 use crate::names::Names;
 use lt_face::memory::NoMemory;
-use lt_model::name::Name;
 use lt_model::normal::{Atom, Body, Term, Test};
 use lt_model::syntax::Op;
+use smallvec::SmallVec;
 use std::alloc::Global;
 use std::marker::Model;
 
-/// The variables that are bound, each once.
+/// The variables that are bound, each once. A statement has at most sixteen, which lie in the value itself.
 #[derive(Drop)]
 pub struct Bound {
-    places: Vec<u32>,
+    places: SmallVec<u32, 16>,
 }
 
 impl Model for Bound {
@@ -35,7 +35,7 @@ impl Bound {
         ensures { IfOk result (λ bound. Alike (has bound) (is_bound body.now)) }
     {
         let mut bound = Bound {
-            places: Vec::new(alloc),
+            places: SmallVec::new(alloc),
         };
         bound.add_atoms(body.atoms.as_slice())?;
         bound.add_tests(body.tests.as_slice())?;
@@ -45,7 +45,7 @@ impl Bound {
     fn has(&self, place: u32) -> bool
         ensures { result ≡ has self.now place }
     {
-        for known in &self.places {
+        for known in self.places.as_slice() {
             if *known == place {
                 return true;
             }
@@ -134,15 +134,21 @@ impl Bound {
         Ok(())
     }
 
-    /// Whether each of these variables is bound.
-    pub fn has_all(&self, names: &Names, places: &[&Name]) -> bool
-        ensures { result ≡ list_all (λ name. has self.now (place_of names.now name)) (seen places.now) }
+    fn has_each(&self, names: &Names, each: &[&[u8]]) -> bool
+        ensures { result ≡ list_all (λ name. has self.now (place_of names.now name)) (seen each.now) }
     {
-        for name in places {
-            if !self.has(names.place(*name)) {
+        for name in each {
+            if !self.has(names.number_of(*name)) {
                 return false;
             }
         }
         true
+    }
+
+    /// Whether each of these variables is bound.
+    pub fn has_all(&self, names: &Names) -> bool
+        ensures { result ≡ list_all (λ name. has self.now (place_of names.now name)) names.now }
+    {
+        self.has_each(names, names.as_slice())
     }
 }

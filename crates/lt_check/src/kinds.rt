@@ -3,7 +3,7 @@ ghost use Rattle.std.specs.Prelude.{◌≡◌, ◌≤◌, ◌&&◌, IfOk, map, l
 ghost use Rattle.std.specs.List.{list_all};
 ghost use Rattle.lt_model.specs.Check.{kind_of, same_kind, same_kinds, atom_fits, literal_fits};
 ghost use Rattle.lt_check.specs.Narrowing.{known_at, known_of, agreement, completed, joined, Narrows, Settles, all_fit};
-ghost use Rattle.lt_check.specs.Seen.{seen};
+ghost use Rattle.lt_check.specs.Seen.{seen, HasColumns};
 
 use crate::names::Names;
 use crate::schema::Schema;
@@ -155,13 +155,19 @@ impl Known {
         }
     }
 
-    fn learn_atoms(&mut self, schema: &Schema, names: &Names, atoms: &[&Head]) -> Told
+    fn learn_atoms(
+        &mut self,
+        schema: &Schema,
+        names: &Names,
+        atoms: &[&Head],
+        columns: &[&[Kind]],
+    ) -> Told
+        requires { HasColumns schema.now (seen atoms.now) (seen columns.now) }
         ensures { Narrows (λ choice. list_all (atom_fits schema.now (kind_of names.now choice)) (seen atoms.now)) self.old result self.new }
     {
         let mut told = Told::Nothing;
-        for atom in atoms {
-            let columns = schema.columns(&atom.relation);
-            told = told.and(self.learn_row(names, atom.terms.as_slice(), columns));
+        for i in 0..atoms.len() {
+            told = told.and(self.learn_row(names, atoms[i].terms.as_slice(), columns[i]));
         }
         told
     }
@@ -181,11 +187,13 @@ impl Known {
         schema: &Schema,
         names: &Names,
         atoms: &[&Head],
+        columns: &[&[Kind]],
         body: &[Literal],
     ) -> Told
+        requires { HasColumns schema.now (seen atoms.now) (seen columns.now) }
         ensures { Narrows (all_fit schema.now names.now (seen atoms.now) body.now) self.old result self.new }
     {
-        let from_atoms = self.learn_atoms(schema, names, atoms);
+        let from_atoms = self.learn_atoms(schema, names, atoms, columns);
         let from_literals = self.learn_literals(names, body);
         from_atoms.and(from_literals)
     }
@@ -219,13 +227,15 @@ pub fn settled(
     schema: &Schema,
     names: &Names,
     atoms: &[&Head],
+    columns: &[&[Kind]],
     body: &[Literal],
 ) -> Result<Option<Known>, NoMemory>
+    requires { HasColumns schema.now (seen atoms.now) (seen columns.now) }
     ensures { IfOk result (λ found. Settles (all_fit schema.now names.now (seen atoms.now) body.now) (length names.now) found) }
 {
     let mut known = Known::new(alloc, names.count())?;
     loop {
-        match known.learn_all(schema, names, atoms, body) {
+        match known.learn_all(schema, names, atoms, columns, body) {
             Told::Nothing => return Ok(Some(known)),
             Told::Conflict => return Ok(None),
             Told::More => {}

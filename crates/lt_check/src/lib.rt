@@ -3,6 +3,7 @@
 
 mod bound;
 pub mod check;
+mod columns;
 mod kinds;
 mod names;
 mod normal_form;

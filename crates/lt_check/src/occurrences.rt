@@ -1,10 +1,11 @@
-//! The atoms of a statement and the places of its variables, in text order.
+//! The atoms of a statement and its variables, in text order.
 ghost use Rattle.std.specs.Prelude.{◌≡◌, ◌++◌, ◌∷◌, [], IfOk, flat_map, filter_map};
 ghost use Rattle.lt_model.specs.Variables as model;
-ghost use Rattle.lt_check.specs.Seen.{seen};
+ghost use Rattle.lt_model.specs.Variables.{with_name};
+ghost use Rattle.lt_check.specs.Seen.{seen, with_variables};
 
+use crate::names::has_name;
 use lt_face::memory::NoMemory;
-use lt_model::name::Name;
 use lt_model::syntax::{Head, Literal, Statement, Term};
 use std::alloc::Global;
 
@@ -51,75 +52,86 @@ pub fn atoms_of(alloc: Global, statement: &Statement) -> Result<Vec<&Head>, NoMe
     Ok(atoms)
 }
 
-fn push_variable<'a>(places: &mut Vec<&'a Name>, term: &'a Term) -> Result<(), NoMemory>
-    ensures { IfOk result (λ _. seen places.new.items ≡ seen places.old.items ++ filter_map model.variable_of (term.now ∷ [])) }
+// Adds a name, if it is new.
+fn add_name<'a>(names: &mut Vec<&'a [u8]>, name: &'a [u8]) -> Result<(), NoMemory>
+    ensures { IfOk result (λ _. seen names.new.items ≡ with_name (seen names.old.items) name.now) }
+{
+    if !has_name(names, name) {
+        names.push(name)?;
+    }
+    Ok(())
+}
+
+fn add_variable<'a>(names: &mut Vec<&'a [u8]>, term: &'a Term) -> Result<(), NoMemory>
+    ensures { IfOk result (λ _. seen names.new.items ≡ with_variables (seen names.old.items) (term.now ∷ [])) }
 {
     if let Term::Name(name) = term {
-        places.push(name)?;
+        add_name(names, name.as_bytes())?;
     }
     Ok(())
 }
 
-fn push_variables<'a>(places: &mut Vec<&'a Name>, terms: &'a [Term]) -> Result<(), NoMemory>
-    ensures { IfOk result (λ _. seen places.new.items ≡ seen places.old.items ++ filter_map model.variable_of terms.now) }
+fn add_variables<'a>(names: &mut Vec<&'a [u8]>, terms: &'a [Term]) -> Result<(), NoMemory>
+    ensures { IfOk result (λ _. seen names.new.items ≡ with_variables (seen names.old.items) terms.now) }
 {
     for term in terms {
-        push_variable(places, term)?;
+        add_variable(names, term)?;
     }
     Ok(())
 }
 
-fn push_literal<'a>(places: &mut Vec<&'a Name>, literal: &'a Literal) -> Result<(), NoMemory>
-    ensures { IfOk result (λ _. seen places.new.items ≡ seen places.old.items ++ filter_map model.variable_of (model.literal_terms literal.now)) }
+#[tactic(auto, using(crate::proofs::Steps::with_variables_both))]
+fn add_literal<'a>(names: &mut Vec<&'a [u8]>, literal: &'a Literal) -> Result<(), NoMemory>
+    ensures { IfOk result (λ _. seen names.new.items ≡ with_variables (seen names.old.items) (model.literal_terms literal.now)) }
 {
     match literal {
-        Literal::Atom(head) => push_variables(places, head.terms.as_slice())?,
+        Literal::Atom(head) => add_variables(names, head.terms.as_slice())?,
         Literal::Cmp { left, right, .. } => {
-            push_variable(places, left)?;
-            push_variable(places, right)?;
+            add_variable(names, left)?;
+            add_variable(names, right)?;
         }
         Literal::Sum { var, a, b, .. } => {
-            places.push(var)?;
-            push_variable(places, a)?;
-            push_variable(places, b)?;
+            add_name(names, var.as_bytes())?;
+            add_variable(names, a)?;
+            add_variable(names, b)?;
         }
     }
     Ok(())
 }
 
-fn push_literals<'a>(places: &mut Vec<&'a Name>, literals: &'a [Literal]) -> Result<(), NoMemory>
-    ensures { IfOk result (λ _. seen places.new.items ≡ seen places.old.items ++ filter_map model.variable_of (flat_map model.literal_terms literals.now)) }
+fn add_literals<'a>(names: &mut Vec<&'a [u8]>, literals: &'a [Literal]) -> Result<(), NoMemory>
+    ensures { IfOk result (λ _. seen names.new.items ≡ with_variables (seen names.old.items) (flat_map model.literal_terms literals.now)) }
 {
     for literal in literals {
-        push_literal(places, literal)?;
+        add_literal(names, literal)?;
     }
     Ok(())
 }
 
-#[tactic(auto, using(crate::proofs::Steps::filter_map_both))]
-fn push_front<'a>(places: &mut Vec<&'a Name>, statement: &'a Statement) -> Result<(), NoMemory>
-    ensures { IfOk result (λ _. seen places.new.items ≡ seen places.old.items ++ filter_map model.variable_of (model.front_terms statement.now)) }
+#[tactic(auto, using(crate::proofs::Steps::with_variables_both, crate::proofs::Steps::terms_of_two))]
+fn add_front<'a>(names: &mut Vec<&'a [u8]>, statement: &'a Statement) -> Result<(), NoMemory>
+    ensures { IfOk result (λ _. seen names.new.items ≡ with_variables (seen names.old.items) (model.front_terms statement.now)) }
 {
     match statement {
-        Statement::Insert { head, .. } => push_variables(places, head.terms.as_slice())?,
-        Statement::Delete { head, .. } => push_variables(places, head.terms.as_slice())?,
+        Statement::Insert { head, .. } => add_variables(names, head.terms.as_slice())?,
+        Statement::Delete { head, .. } => add_variables(names, head.terms.as_slice())?,
         Statement::Replace { gone, come, .. } => {
-            push_variables(places, gone.terms.as_slice())?;
-            push_variables(places, come.terms.as_slice())?;
+            add_variables(names, gone.terms.as_slice())?;
+            add_variables(names, come.terms.as_slice())?;
         }
         Statement::Need { .. } => {}
-        Statement::Print { terms, .. } => push_variables(places, terms.as_slice())?,
+        Statement::Print { terms, .. } => add_variables(names, terms.as_slice())?,
     }
     Ok(())
 }
 
-/// The places of variables, each with its name.
-#[tactic(auto, using(crate::proofs::Steps::filter_map_both))]
-pub fn places_of(alloc: Global, statement: &Statement) -> Result<Vec<&Name>, NoMemory>
-    ensures { IfOk result (λ places. seen places.items ≡ filter_map model.variable_of (model.terms_of statement.now)) }
+/// The different variables of a statement, in text order.
+#[tactic(auto, using(crate::proofs::Steps::with_variables_both))]
+pub fn variables_of(alloc: Global, statement: &Statement) -> Result<Vec<&[u8]>, NoMemory>
+    ensures { IfOk result (λ names. seen names.items ≡ model.variables statement.now) }
 {
-    let mut places = Vec::new(alloc);
-    push_front(&mut places, statement)?;
-    push_literals(&mut places, body_of(statement))?;
-    Ok(places)
+    let mut names = Vec::new(alloc);
+    add_front(&mut names, statement)?;
+    add_literals(&mut names, body_of(statement))?;
+    Ok(names)
 }

@@ -1,10 +1,11 @@
 //! The relations that are there.
-ghost use Rattle.std.specs.Prelude.{◌≡◌, ◌≤◌, ◌<◌, ◌↔◌, ◌++◌, ◌∷◌, [], length, None, IfOk, OnOk, OnErr, IsErrOf, IsSome};
+ghost use Rattle.std.specs.Prelude.{◌≡◌, ◌≤◌, ◌<◌, ◌↔◌, ◌++◌, ◌∷◌, [], length, None, IfOk, IfSome, OnOk, OnErr, IsErrOf, IsSome, is_none};
 ghost use Rattle.lt_model.specs.Schema.{number_of, columns_of};
 
 use lt_face::memory::NoMemory;
 use lt_model::kind::{Kind, KindList};
 use lt_model::name::{Headings, Name};
+use lt_reading::texts::are_same;
 use std::alloc::Global;
 use std::marker::Model;
 
@@ -63,8 +64,9 @@ impl Schema {
     pub fn find(&self, name: &Name) -> Option<u32>
         ensures { result ≡ number_of self.now name.now }
     {
+        let name = name.as_bytes();
         for (number, heading) in self.headings.as_slice().iter().enumerate() {
-            if heading.0.as_bytes() == name.as_bytes() {
+            if are_same(heading.0.as_bytes(), name) {
                 return Some(number as u32);
             }
         }
@@ -79,12 +81,21 @@ impl Schema {
         &self.headings
     }
 
+    /// The kinds of a relation's columns, None where it isn't there.
+    pub(crate) fn known_columns(&self, name: &Name) -> Option<&[Kind]>
+        ensures there { is_none result ≡ is_none (number_of self.now name.now) }
+        ensures columns { IfSome result (λ columns. columns.now ≡ columns_of self.now name.now) }
+    {
+        let number = self.find(name)?;
+        Some(self.headings.as_slice()[number as usize].1.as_slice())
+    }
+
     /// The kinds of a relation's columns, none where it isn't there.
     pub fn columns(&self, name: &Name) -> &[Kind]
         ensures { result.now ≡ columns_of self.now name.now }
     {
-        match self.find(name) {
-            Some(number) => self.headings.as_slice()[number as usize].1.as_slice(),
+        match self.known_columns(name) {
+            Some(columns) => columns,
             None => &[],
         }
     }

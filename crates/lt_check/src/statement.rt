@@ -1,25 +1,25 @@
 //! The check of one statement.
 ghost use Rattle.std.specs.Prelude.{◌≡◌, ◌≤◌, IfOk, IfErr, None, length, map};
-ghost use Rattle.std.specs.List.{list_all, list_any};
+ghost use Rattle.std.specs.List.{list_all};
 ghost use Rattle.lt_model.specs.Bound.{is_bound};
-ghost use Rattle.lt_model.specs.Check.{is_unknown, is_misfit, choice_fits, code_of, normal, normal_with, kind_of, atom as normal_atom, term as normal_term};
+ghost use Rattle.lt_model.specs.Check.{choice_fits, code_of, normal, normal_with, kind_of, atom as normal_atom, term as normal_term};
 ghost use Rattle.lt_model.specs.Variables as model;
 ghost use Rattle.lt_model.specs.Variables.{variables, place_of};
 ghost use Rattle.lt_model.specs.Limits.{ArePrintedWithin, IsStatementWithin};
 ghost use Rattle.lt_check.specs.Narrowing.{completed, Settles};
 ghost use Rattle.lt_check.specs.Outcome.{IsCode};
-ghost use Rattle.lt_check.specs.Seen.{seen};
+ghost use Rattle.lt_check.specs.Seen.{seen, HasColumns};
 
 use crate::bound::Bound;
 use crate::check::CheckFault;
+use crate::columns::{columns_of, has_misfit};
 use crate::kinds::{Known, settled};
 use crate::names::Names;
 use crate::normal_form::{atom, body as normal_body, numbered};
-use crate::occurrences::{atoms_of, body_of, places_of};
+use crate::occurrences::{atoms_of, body_of, variables_of};
 use crate::schema::Schema;
 use lt_face::memory::NoMemory;
-use lt_model::kind::KindList;
-use lt_model::name::Name;
+use lt_model::kind::{Kind, KindList};
 use lt_model::normal::{Atom, Body, Stmt, TermList};
 use lt_model::syntax::{Head, Statement, Term};
 use std::alloc::Global;
@@ -28,30 +28,6 @@ fn bad(code: u32, statement: u32) -> Result<Stmt, CheckFault>
     ensures { result ≡ Err (CheckFault.Bad code statement) }
 {
     Err(CheckFault::Bad { code, statement })
-}
-
-// Whether a relation isn't there.
-fn has_unknown(schema: &Schema, atoms: &[&Head]) -> bool
-    ensures { result ≡ list_any (is_unknown schema.now) (seen atoms.now) }
-{
-    for atom in atoms {
-        if schema.find(&atom.relation).is_none() {
-            return true;
-        }
-    }
-    false
-}
-
-// Whether an atom has another number of arguments than its relation has columns.
-fn has_misfit(schema: &Schema, atoms: &[&Head]) -> bool
-    ensures { result ≡ list_any (is_misfit schema.now) (seen atoms.now) }
-{
-    for atom in atoms {
-        if atom.terms.len() != schema.columns(&atom.relation).len() {
-            return true;
-        }
-    }
-    false
 }
 
 // The atom whose rows go, and the one whose rows come.
@@ -122,22 +98,24 @@ fn kinds_of(
     schema: &Schema,
     names: &Names,
     atoms: &[&Head],
+    columns: &[&[Kind]],
     statement: &Statement,
 ) -> Result<Option<Known>, NoMemory>
+    requires columns { HasColumns schema.now (seen atoms.now) (seen columns.now) }
     requires names { names.now ≡ variables statement.now }
     requires atoms { seen atoms.now ≡ model.atoms_of statement.now }
     ensures { IfOk result (λ found. Settles (choice_fits schema.now statement.now) (length names.now) found) }
 {
-    settled(alloc, schema, names, atoms, body_of(statement))
+    settled(alloc, schema, names, atoms, columns, body_of(statement))
 }
 
 // Whether the body binds each of these variables.
 #[tactic(auto, using(crate::proofs::Binding::all_alike))]
-fn binds(alloc: Global, body: &Body, names: &Names, places: &[&Name]) -> Result<bool, NoMemory>
-    ensures { IfOk result (λ all. all ≡ list_all (λ name. is_bound body.now (place_of names.now name)) (seen places.now)) }
+fn binds(alloc: Global, body: &Body, names: &Names) -> Result<bool, NoMemory>
+    ensures { IfOk result (λ all. all ≡ list_all (λ name. is_bound body.now (place_of names.now name)) names.now) }
 {
     let bound = Bound::by(alloc, body)?;
-    Ok(bound.has_all(names, places))
+    Ok(bound.has_all(names))
 }
 
 /// The normal form of the statement of this number, or its first code.
@@ -152,19 +130,18 @@ pub fn check_statement(
     ensures bad { IfErr result (λ fault. IsCode (code_of schema.now statement.now) number fault) }
 {
     let atoms = atoms_of(alloc, statement)?;
-    if has_unknown(schema, &atoms) {
+    let Some(columns) = columns_of(alloc, schema, &atoms)? else {
         return bad(20, number);
-    }
-    if has_misfit(schema, &atoms) {
+    };
+    if has_misfit(schema, &atoms, &columns) {
         return bad(21, number);
     }
-    let places = places_of(alloc, statement)?;
-    let names = Names::of(alloc, &places)?;
-    let Some(known) = kinds_of(alloc, schema, &names, &atoms, statement)? else {
+    let names = Names::over(variables_of(alloc, statement)?);
+    let Some(known) = kinds_of(alloc, schema, &names, &atoms, &columns, statement)? else {
         return bad(22, number);
     };
     let body = normal_body(alloc, schema, &names, body_of(statement))?;
-    if !binds(alloc, &body, &names, &places)? {
+    if !binds(alloc, &body, &names)? {
         return bad(23, number);
     }
     let stmt = with_body(alloc, schema, &names, &known, statement, body)?;

@@ -1,14 +1,16 @@
 -- A job's finish, by the job's name.
-use Rattle.std.proofs.Common.{◌≡◌, ℕ, zero, suc, ◌+◌, ◌*◌, ◌<◌, ◌≢◌, true, false, List, [], ◌∷◌, Option, Some, None, refl, sym, ap, ◌∙◌, arith}
+use Rattle.std.proofs.Common.{◌≡◌, ℕ, zero, suc, ◌+◌, ◌<◌, ◌≢◌, true, false, List, [], ◌∷◌, Option, Some, None, refl, sym, ap, ◌∙◌, arith}
 use Rattle.std.specs.Prelude.{if◌then◌else◌, nat_lt}
 use Rattle.lt_model.specs.declared.mark.Mark.{Mark}
 use Rattle.lt_model.specs.Marks.{and_then}
 use Rattle.lt_net.specs.declared.job.JobName.{JobName}
 use Rattle.lt_net.specs.declared.job.JobName.TheVariants.{Leaf, Merge, Correct}
 use Rattle.lt_net.specs.Net.{Cell, Correction, Effect, State, Claim, first_of, second_of, same_cell, finished}
-use Rattle.lt_net.specs.Tree.{tree_of, right_in, node_in, leaves_in, halved_tree, code_of, job_of, if_inner, outputs_of, gives_of, is_leaf_job, circuit_net}
+use Rattle.lt_net.specs.Tree.{tree_of, right_in, node_in, leaves_in, halved_tree, if_inner, outputs_of, gives_of, is_leaf_job, circuit_net}
+use Rattle.lt_net.specs.Codes.{code_of, job_of}
 use Rattle.lt_circuit.specs.Store.{closed, stored, kept_leaf}
-use Rattle.lt_net.proofs.Jobs.{job_of-code, same_itself}
+use Rattle.lt_net.proofs.Codes.{job_of-code}
+use Rattle.lt_net.proofs.Jobs.{same_itself}
 use Rattle.lt_net.proofs.Shape.{lt_true, eq_false, right_is, tree_leaves}
 use Rattle.lt_circuit.proofs.Stores.{finish_one, finish_leaf, finish_two}
 
@@ -41,12 +43,12 @@ module _ (does : ℕ → List Mark → List Mark) (n : ℕ) (s : State) (w : ℕ
       by_case (suc k) g = lt_true i _ (omega (arith, g, tree_leaves (suc k)))
 
   pub leaf_is_finished : (i : ℕ) (m kept : List Mark) → i < n → c.job ≡ code_of (Leaf i) → c.inputs ≡ kept ∷ [] → m ≡ does i kept
-      → kept_leaf (stored (circuit_net does (tree_of n)) (closed s w c) (Effect (node_in (tree_of n) i)) m) (3 * i) kept ≡ finished (circuit_net does (tree_of n)) s w c
+      → kept_leaf (stored (circuit_net does (tree_of n)) (closed s w c) (Effect (node_in (tree_of n) i)) m) (code_of (Leaf i)) kept ≡ finished (circuit_net does (tree_of n)) s w c
   leaf_is_finished i m kept inside job ins is =
       let there = leaf_in i inside in
       let out = outputs_are (Leaf i) job ∙ ap (λ b. if b then Effect (node_in (tree_of n) i) ∷ [] else []) there in
       let gave = gives_is (Leaf i) (Effect (node_in (tree_of n) i)) job ∙ ap (λ l. does i (first_of l)) ins ∙ sym is in
-      let last : kept_leaf (stored (circuit_net does (tree_of n)) (closed s w c) (Effect (node_in (tree_of n) i)) m) (3 * i) kept
+      let last : kept_leaf (stored (circuit_net does (tree_of n)) (closed s w c) (Effect (node_in (tree_of n) i)) m) (code_of (Leaf i)) kept
       ≡ kept_leaf (stored (circuit_net does (tree_of n)) (closed s w c) (Effect (node_in (tree_of n) i)) m) c.job (first_of c.inputs) =
       λ k. kept_leaf (stored (circuit_net does (tree_of n)) (closed s w c) (Effect (node_in (tree_of n) i)) m) (sym job k) (first_of (sym ins k)) in
       last ∙ sym (finish_leaf (circuit_net does (tree_of n)) s w c (Effect (node_in (tree_of n) i)) m out gave (leaf_is_job (Leaf i) job ∙ there))

@@ -3,6 +3,7 @@ pub mod Standing
 pub mod Placing
 pub mod Handed
 pub mod Walk
+pub mod Entries
 pub mod Tables
 pub mod Stores
 pub mod Readers

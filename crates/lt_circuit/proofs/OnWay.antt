@@ -1,9 +1,9 @@
 -- One job of a loop: what is left to be run after it.
-use Rattle.std.proofs.Common.{◌≡◌, ℕ, suc, ◌+◌, ◌-◌, ◌*◌, ◌<◌, ◌≤◌, Bool, true, false, List, [], ◌∷◌, ◌++◌, length, length-append, Some, None, refl, sym, ap, ◌∙◌, subst, arith, append_assoc}
+use Rattle.std.proofs.Common.{◌≡◌, ℕ, suc, ◌+◌, ◌-◌, ◌<◌, ◌≤◌, Bool, true, false, List, [], ◌∷◌, ◌++◌, length, length-append, Some, None, refl, sym, ap, ◌∙◌, subst, arith, append_assoc}
 use Rattle.std.specs.List.{AllByRecursion}
-use Rattle.lt_net.specs.declared.job.JobName.TheVariants.{Leaf}
+use Rattle.lt_net.specs.declared.job.JobName.TheVariants.{Leaf, Merge, Correct}
 use Rattle.lt_net.specs.Net.{Net, State, Event, is_pending}
-use Rattle.lt_net.specs.Tree.{code_of}
+use Rattle.lt_net.specs.Codes.{code_of}
 use Rattle.lt_net.specs.Alone.{IsUnclaimed, run_if_pending, run_events, run_all, all_events, merges_down, corrects_up, lowest_pending}
 use Rattle.lt_circuit.specs.Shape.{Shape, shape_net, worker_of, IsLaterBy}
 
@@ -42,14 +42,14 @@ first_fewer net s j jobs all e = omega (arith, first_events net s (run_if_pendin
 pub first_ran : (net : Net) (s t : State) (j : ℕ) (jobs all : List ℕ) → all ≡ j ∷ jobs → t ≡ run_if_pending net s j → run_all net t jobs ≡ run_all net s all
 first_ran net s t j jobs all e f = ap (λ (u : State). run_all net u jobs) f ∙ sym (ap (run_all net s) e)
 
-pub merges_first : (k v : ℕ) → k ≡ v + 1 → merges_down k ≡ (3 * v + 1) ∷ merges_down v
+pub merges_first : (k v : ℕ) → k ≡ v + 1 → merges_down k ≡ code_of (Merge v) ∷ merges_down v
 merges_first k v e = let n : k ≡ suc v = omega (arith, e) in ap merges_down n
 
-pub corrects_first : (n v : ℕ) → v < n → corrects_up v (n - v) ≡ (3 * v + 2) ∷ corrects_up (v + 1) (n - (v + 1))
+pub corrects_first : (n v : ℕ) → v < n → corrects_up v (n - v) ≡ code_of (Correct v) ∷ corrects_up (v + 1) (n - (v + 1))
 corrects_first n v h =
     let next : n - v ≡ suc (n - (v + 1)) = omega (arith, h) in
     let up : suc v ≡ v + 1 = omega arith in
-    ap (corrects_up v) next ∙ ap (λ w. (3 * v + 2) ∷ corrects_up w (n - (v + 1))) up
+    ap (corrects_up v) next ∙ ap (λ w. code_of (Correct v) ∷ corrects_up w (n - (v + 1))) up
 
 -- ---- on the way through a list of jobs
 

@@ -6,7 +6,8 @@ use Rattle.lt_net.specs.declared.job.JobState.{JobState}
 use Rattle.lt_net.specs.declared.job.JobState.TheVariants.{Clean, Pending, Running, Dirty}
 use Rattle.lt_model.specs.declared.mark.Mark.{Mark}
 use Rattle.lt_net.specs.Net.{Net, State, Claim as NetClaim, Claims, Finishes, is_pending, claimed, finished, abandoned}
-use Rattle.lt_net.specs.Tree.{circuit_net, code_of, tree_of}
+use Rattle.lt_net.specs.Tree.{circuit_net, tree_of}
+use Rattle.lt_net.specs.Codes.{code_of}
 use Rattle.lt_net.specs.Alone.{IsUnclaimed, run_if_pending, run_events}
 use Rattle.lt_net.proofs.Ends.{finished_is, finished_free, abandoned_free}
 use Rattle.lt_circuit.specs.Shape.{worker_of, IsLaterBy}

@@ -1,5 +1,5 @@
 -- The tables at the opening stand for the opening.
-use Rattle.std.proofs.Common.{◌≡◌, ℕ, zero, suc, ◌+◌, ◌-◌, ◌*◌, ◌<◌, ◌≤◌, inl, inr, false, List, [], ◌∷◌, ◌++◌, Option, None, length, get_or, refl, sym, ap, ◌∙◌, arith, add-one}
+use Rattle.std.proofs.Common.{◌≡◌, ℕ, zero, suc, ◌+◌, ◌<◌, ◌≤◌, inl, inr, false, List, [], ◌∷◌, ◌++◌, Option, None, length, get_or, refl, sym, ap, ◌∙◌, arith, add-one}
 use Rattle.std.specs.Prelude.{if◌then◌else◌, nat_lt}
 use Rattle.std.specs.Option.{option_map}
 use Rattle.std.proofs.Math.ListN.{get_or-eq_default, get_or-append}
@@ -10,8 +10,9 @@ use Rattle.lt_net.specs.declared.job.JobState.TheVariants.{Clean, Pending}
 use Rattle.lt_circuit.specs.declared.cells.Node.{Node}
 use Rattle.lt_circuit.specs.declared.cells.Held.{Held}
 use Rattle.lt_net.specs.Net.{Cell, Correction, Effect, opening}
-use Rattle.lt_net.proofs.Jobs.{code_of-job}
-use Rattle.lt_net.specs.Tree.{tree_of, code_of, job_of, is_leaf_job, circuit_net}
+use Rattle.lt_net.proofs.Codes.{code_of-job}
+use Rattle.lt_net.specs.Tree.{tree_of, is_leaf_job, circuit_net}
+use Rattle.lt_net.specs.Codes.{code_of, job_of, codes_over}
 use Rattle.lt_net.specs.declared.job.JobName.{JobName}
 use Rattle.lt_net.specs.declared.job.JobName.TheVariants.{Leaf, Merge, Correct}
 use Rattle.lt_circuit.specs.Board.{bare_node, value_in, done_in, done_of, claim_from, board_state, table, first_state, first_state_of}
@@ -49,7 +50,7 @@ leaf_starts n j = by_name (job_of j)
     by_name (Correct v) = refl
 
 -- past the table no job is a leaf's
-late_state : (n j : ℕ) → 3 * (2 * n - 1) ≤ j → first_state n j ≡ Clean
+late_state : (n j : ℕ) → codes_over n ≤ j → first_state n j ≡ Clean
 late_state n j h = by_name (job_of j) (code_of-job j)
   where
     by_name : (name : JobName) → code_of name ≡ j → first_state_of n name ≡ Clean
@@ -57,10 +58,10 @@ late_state n j h = by_name (job_of j) (code_of-job j)
     by_name (Merge v) e = refl
     by_name (Correct v) e = refl
 
-state_at : (n j : ℕ) → get_or (table (first_state n) (3 * (2 * n - 1))) j Clean ≡ first_state n j
-state_at n j = elim (lt_tells j (3 * (2 * n - 1))) [
-  | inl h ↦ get_table (first_state n) (3 * (2 * n - 1)) j Clean h.1
-  | inr h ↦ get_or-eq_default (table (first_state n) (3 * (2 * n - 1))) Clean (omega (arith, h.1, length-table (first_state n) (3 * (2 * n - 1)))) ∙ sym (late_state n j h.1)
+state_at : (n j : ℕ) → get_or (table (first_state n) (codes_over n)) j Clean ≡ first_state n j
+state_at n j = elim (lt_tells j (codes_over n)) [
+  | inl h ↦ get_table (first_state n) (codes_over n) j Clean h.1
+  | inr h ↦ get_or-eq_default (table (first_state n) (codes_over n)) Clean (omega (arith, h.1, length-table (first_state n) (codes_over n))) ∙ sym (late_state n j h.1)
 ]
 
 value_at : (m : ℕ) (x : Cell) → value_in (table (λ k. bare_node) m) x ≡ []
@@ -76,7 +77,7 @@ done_at n j = by_name (job_of j)
     by_name (Correct v) = refl
 
 pub opening_is : (effect : ℕ → List Mark → List Mark) (n m : ℕ) (claims : List (Option Held)) → claims ≡ table (λ k. None) 16
-    → board_state (table (λ k. bare_node) m) (table (first_state n) (3 * (2 * n - 1))) (table (λ k. None) n) claims ≡ opening (circuit_net effect (tree_of n))
+    → board_state (table (λ k. bare_node) m) (table (first_state n) (codes_over n)) (table (λ k. None) n) claims ≡ opening (circuit_net effect (tree_of n))
 opening_is effect n m claims e =
     let claim : (w : ℕ) → option_map claim_from (get_or claims w None) ≡ None = λ w. ap (λ l. option_map claim_from (get_or l w None)) e ∙ ap (option_map claim_from) (get_same None 16 w) in
     λ i. record {

@@ -1,15 +1,16 @@
 -- The readers of a cell are the jobs that have it as an input.
-use Rattle.std.proofs.Common.{◌≡◌, ℕ, ◌+◌, ◌*◌, ◌<◌, ◌≢◌, ◌⊎◌, ◌||◌, inl, inr, Bool, true, false, [], ◌∷◌, Option, Some, None, refl, sym, ap, ◌∙◌, subst, arith}
+use Rattle.std.proofs.Common.{◌≡◌, ℕ, ◌+◌, ◌*◌, ◌<◌, ◌⊎◌, ◌||◌, inl, inr, Bool, true, false, [], ◌∷◌, Option, Some, None, refl, sym, ap, ◌∙◌, subst, arith}
 use Rattle.std.specs.Prelude.{if◌then◌else◌, ◌==◌, nat_lt}
 use Rattle.std.specs.Option.{option_map}
 use Rattle.std.proofs.lemmas.Bool.Decides.{eqb_tells}
 use Rattle.lt_net.specs.declared.job.JobName.{JobName}
 use Rattle.lt_net.specs.declared.job.JobName.TheVariants.{Leaf, Merge, Correct}
 use Rattle.lt_net.specs.Net.{Cell, Correction, Effect, has_cell}
-use Rattle.lt_net.specs.Tree.{Tree, Tip, Fork, leaves, right_of, node_of, parent_of, leaf_at, if_inner, inputs_of, code_of, job_of}
+use Rattle.lt_net.specs.Tree.{Tree, Tip, Fork, leaves, right_of, node_of, parent_of, leaf_at, if_inner, inputs_of}
+use Rattle.lt_net.specs.Codes.{code_of, job_of}
 use Rattle.lt_circuit.specs.Store.{readers_of, has_code}
 use Rattle.lt_net.proofs.Shape.{lt_tells, lt_true, eq_true, eq_false, place, right_is, leaf_is, right_left, right_right, node_left, node_right, parent_left, parent_right, leaf_left, leaf_right}
-use Rattle.lt_net.proofs.Jobs.{job_of-code, code_of-job}
+use Rattle.lt_net.proofs.Codes.{code_of-job, same_job}
 
 -- a node but the root is a child of its parent
 pub record IsChild (t : Tree) (u : ℕ) : Type 0 where
@@ -88,9 +89,6 @@ leaf_back (Fork l r) u a b = elim (place l r u) [
 
 -- ---- both lists name the same jobs
 
-codes_apart : (a b : ℕ) → (3 * a + 1 ≢ 3 * b + 2)
-codes_apart a b e = omega (arith, e)
-
 no_code : (j k : ℕ) → (j == k) ≡ true → j ≡ k
 no_code j k e = elim (eqb_tells j k) [ inl h ↦ h.1 | inr h ↦ absurd (let f : false ≡ true = sym h.0 ∙ e in cc) ]
 
@@ -103,15 +101,15 @@ or_right true b e = refl
 or_right false b e = e
 
 module _ (t : Tree) (u : ℕ) (inside : u + 1 < 2 * leaves t) where
-  parent_reads : 0 < u → has_code (3 * parent_of t u + 1) (readers_of t (Effect u)) ≡ true
-  parent_reads a = rw (eq_false u 0 (omega arith), eq_true (3 * parent_of t u + 1))
+  parent_reads : 0 < u → has_code (code_of (Merge (parent_of t u))) (readers_of t (Effect u)) ≡ true
+  parent_reads a = rw (eq_false u 0 (omega arith), eq_true (code_of (Merge (parent_of t u))))
 
-  left_reads : 0 < u → u ≡ parent_of t u + 1 → has_code (3 * parent_of t u + 2) (readers_of t (Effect u)) ≡ true
+  left_reads : 0 < u → u ≡ parent_of t u + 1 → has_code (code_of (Correct (parent_of t u))) (readers_of t (Effect u)) ≡ true
   left_reads a e =
       let b : (u == parent_of t u + 1) ≡ true = elim (eqb_tells u (parent_of t u + 1)) [ inl h ↦ h.0 | inr h ↦ absurd (h.1 e) ] in
-      rw (eq_false u 0 (omega arith), b) (or_right (3 * parent_of t u + 2 == 3 * parent_of t u + 1) ((3 * parent_of t u + 2 == 3 * parent_of t u + 2) || false) (rw (eq_true (3 * parent_of t u + 2))))
+      rw (eq_false u 0 (omega arith), b) (or_right (code_of (Correct (parent_of t u)) == code_of (Merge (parent_of t u))) ((code_of (Correct (parent_of t u)) == code_of (Correct (parent_of t u))) || false) (rw (eq_true (code_of (Correct (parent_of t u))))))
 
-  merge_reads : (v : ℕ) (o : Option ℕ) → right_of t v ≡ o → has_cell (Effect u) (if_inner o (λ right. Effect (v + 1) ∷ Effect right ∷ [])) ≡ true → has_code (3 * v + 1) (readers_of t (Effect u)) ≡ true
+  merge_reads : (v : ℕ) (o : Option ℕ) → right_of t v ≡ o → has_cell (Effect u) (if_inner o (λ right. Effect (v + 1) ∷ Effect right ∷ [])) ≡ true → has_code (code_of (Merge v)) (readers_of t (Effect u)) ≡ true
   merge_reads v None e h = cc
   merge_reads v (Some y) e h =
       let r = right_is t v y e in
@@ -119,17 +117,17 @@ module _ (t : Tree) (u : ℕ) (inside : u + 1 < 2 * leaves t) where
         | inl k ↦
             let p : u ≡ v + 1 = no_code u (v + 1) k in
             let q : parent_of t u ≡ v = ap (parent_of t) p ∙ r.left_back in
-            subst (λ n. has_code (3 * n + 1) (readers_of t (Effect u)) ≡ true) q (parent_reads (omega arith))
+            subst (λ n. has_code (code_of (Merge n)) (readers_of t (Effect u)) ≡ true) q (parent_reads (omega arith))
         | inr k ↦ elim (either_true (u == y) false k) [
           | inl k' ↦
               let p : u ≡ y = no_code u y k' in
               let q : parent_of t u ≡ v = ap (parent_of t) p ∙ r.right_back in
-              subst (λ n. has_code (3 * n + 1) (readers_of t (Effect u)) ≡ true) q (parent_reads (omega (arith, r.after, p)))
+              subst (λ n. has_code (code_of (Merge n)) (readers_of t (Effect u)) ≡ true) q (parent_reads (omega (arith, r.after, p)))
           | inr k' ↦ absurd (let f : false ≡ true = k' in cc)
         ]
       ]
 
-  correct_reads : (v : ℕ) (o : Option ℕ) → right_of t v ≡ o → has_cell (Effect u) (if_inner o (λ right. Correction v ∷ Effect (v + 1) ∷ [])) ≡ true → has_code (3 * v + 2) (readers_of t (Effect u)) ≡ true
+  correct_reads : (v : ℕ) (o : Option ℕ) → right_of t v ≡ o → has_cell (Effect u) (if_inner o (λ right. Correction v ∷ Effect (v + 1) ∷ [])) ≡ true → has_code (code_of (Correct v)) (readers_of t (Effect u)) ≡ true
   correct_reads v None e h = cc
   correct_reads v (Some y) e h =
       let r = right_is t v y e in
@@ -137,7 +135,7 @@ module _ (t : Tree) (u : ℕ) (inside : u + 1 < 2 * leaves t) where
         | inl k ↦
             let p : u ≡ v + 1 = no_code u (v + 1) k in
             let q : parent_of t u ≡ v = ap (parent_of t) p ∙ r.left_back in
-            subst (λ n. has_code (3 * n + 2) (readers_of t (Effect u)) ≡ true) q (left_reads (omega arith) (omega (arith, p, q)))
+            subst (λ n. has_code (code_of (Correct n)) (readers_of t (Effect u)) ≡ true) q (left_reads (omega arith) (omega (arith, p, q)))
         | inr k ↦ absurd (let f : false ≡ true = k in cc)
       ]
 
@@ -147,16 +145,15 @@ module _ (t : Tree) (u : ℕ) (inside : u + 1 < 2 * leaves t) where
     | inl z ↦ absurd (let f : has_code (code_of name) [] ≡ true = rw z.0 at h in cc)
     | inr z ↦
         let c = child_is t u (omega (arith, z.1)) inside in
-        let p = parent_of t u in
-        let g : ((code_of name == 3 * parent_of t u + 1) || has_code (code_of name) (if u == parent_of t u + 1 then (3 * parent_of t u + 2) ∷ [] else [])) ≡ true = rw z.0 at h in
-        elim (either_true (code_of name == 3 * parent_of t u + 1) (has_code (code_of name) (if u == parent_of t u + 1 then (3 * parent_of t u + 2) ∷ [] else [])) g) [
+        let g : ((code_of name == code_of (Merge (parent_of t u))) || has_code (code_of name) (if u == parent_of t u + 1 then code_of (Correct (parent_of t u)) ∷ [] else [])) ≡ true = rw z.0 at h in
+        elim (either_true (code_of name == code_of (Merge (parent_of t u))) (has_code (code_of name) (if u == parent_of t u + 1 then code_of (Correct (parent_of t u)) ∷ [] else [])) g) [
           | inl k ↦
-              let n : Merge (parent_of t u) ≡ name = sym (job_of-code (Merge (parent_of t u))) ∙ ap job_of (sym (no_code (code_of name) (3 * parent_of t u + 1) k)) ∙ job_of-code name in
+              let n : Merge (parent_of t u) ≡ name = same_job (Merge (parent_of t u)) name (sym (no_code (code_of name) (code_of (Merge (parent_of t u))) k)) in
               subst (λ m. has_cell (Effect u) (inputs_of (Some t) m) ≡ true) n (rw c.inner (merge_has c))
           | inr k ↦ elim (eqb_tells u (parent_of t u + 1)) [
             | inl e ↦
-                let k' : ((code_of name == 3 * parent_of t u + 2) || false) ≡ true = rw e.0 at k in
-                let n : Correct (parent_of t u) ≡ name = sym (job_of-code (Correct (parent_of t u))) ∙ ap job_of (sym (no_code (code_of name) (3 * parent_of t u + 2) (only k'))) ∙ job_of-code name in
+                let k' : ((code_of name == code_of (Correct (parent_of t u))) || false) ≡ true = rw e.0 at k in
+                let n : Correct (parent_of t u) ≡ name = same_job (Correct (parent_of t u)) name (sym (no_code (code_of name) (code_of (Correct (parent_of t u))) (only k'))) in
                 subst (λ m. has_cell (Effect u) (inputs_of (Some t) m) ≡ true) n (rw (c.inner, e.0))
             | inr e ↦ absurd (let f : has_code (code_of name) [] ≡ true = rw e.0 at k in cc)
           ]
@@ -194,7 +191,7 @@ module _ (t : Tree) (u : ℕ) (inside : u + 1 < 2 * leaves t) where
               let n = leaf_is t i g.1 in
               let e : right_of t u ≡ None = ap (right_of t) p ∙ n.childless in
               let l : leaf_at t u ≡ i = ap (leaf_at t) p ∙ n.back in
-              rw (e, l, eq_true (3 * i))
+              rw (e, l, eq_true (code_of (Leaf i)))
           | inr k ↦ absurd (let f : false ≡ true = k in cc)
         ]
     | inr g ↦ absurd (let f : has_cell (Correction u) [] ≡ true = rw g.0 at h in cc)
@@ -206,13 +203,13 @@ module _ (t : Tree) (u : ℕ) (inside : u + 1 < 2 * leaves t) where
       merge_case (Some y) e = cc
   correction_reads (Correct v) h = correct_case (right_of t v) refl h
     where
-      correct_case : (o : Option ℕ) → right_of t v ≡ o → has_cell (Correction u) (if_inner o (λ right. Correction v ∷ Effect (v + 1) ∷ [])) ≡ true → has_code (3 * v + 2) (readers_of t (Correction u)) ≡ true
+      correct_case : (o : Option ℕ) → right_of t v ≡ o → has_cell (Correction u) (if_inner o (λ right. Correction v ∷ Effect (v + 1) ∷ [])) ≡ true → has_code (code_of (Correct v)) (readers_of t (Correction u)) ≡ true
       correct_case None e g = cc
       correct_case (Some y) e g = elim (either_true (u == v) false g) [
         | inl k ↦
             let p : u ≡ v = no_code u v k in
             let q : right_of t u ≡ Some y = ap (right_of t) p ∙ e in
-            rw (q, p, eq_true (3 * v + 2))
+            rw (q, p, eq_true (code_of (Correct v)))
         | inr k ↦ absurd (let f : false ≡ true = k in cc)
       ]
 
@@ -224,14 +221,14 @@ module _ (t : Tree) (u : ℕ) (inside : u + 1 < 2 * leaves t) where
 
       by_case : (o : Option ℕ) → right_of t u ≡ o → has_cell (Correction u) (inputs_of (Some t) name) ≡ true
       by_case None e =
-          let g : has_code (code_of name) (3 * leaf_at t u ∷ []) ≡ true = rw e at h in
-          let n : Leaf (leaf_at t u) ≡ name = sym (job_of-code (Leaf (leaf_at t u))) ∙ ap job_of (sym (one_code (3 * leaf_at t u) g)) ∙ job_of-code name in
+          let g : has_code (code_of name) (code_of (Leaf (leaf_at t u)) ∷ []) ≡ true = rw e at h in
+          let n : Leaf (leaf_at t u) ≡ name = same_job (Leaf (leaf_at t u)) name (sym (one_code (code_of (Leaf (leaf_at t u))) g)) in
           let b = leaf_back t u inside e in
           let same : (u == u) ≡ true = eq_true u in
           subst (λ m. has_cell (Correction u) (inputs_of (Some t) m) ≡ true) n (rw (lt_true (leaf_at t u) (leaves t) b.0, b.1, same))
       by_case (Some y) e =
-          let g : has_code (code_of name) ((3 * u + 2) ∷ []) ≡ true = rw e at h in
-          let n : Correct u ≡ name = sym (job_of-code (Correct u)) ∙ ap job_of (sym (one_code (3 * u + 2) g)) ∙ job_of-code name in
+          let g : has_code (code_of name) (code_of (Correct u) ∷ []) ≡ true = rw e at h in
+          let n : Correct u ≡ name = same_job (Correct u) name (sym (one_code (code_of (Correct u)) g)) in
           subst (λ m. has_cell (Correction u) (inputs_of (Some t) m) ≡ true) n (rw (e, eq_true u))
 
 same_truth : (a b : Bool) → (a ≡ true → b ≡ true) → (b ≡ true → a ≡ true) → a ≡ b

@@ -9,7 +9,8 @@ use Rattle.lt_net.specs.declared.job.JobState.TheVariants.{Clean, Pending, Runni
 use Rattle.lt_net.specs.declared.job.JobName.TheVariants.{Leaf}
 use Rattle.lt_net.specs.Kept.{IsKept}
 use Rattle.lt_net.specs.Net.{Net, IsSettled, is_held}
-use Rattle.lt_net.specs.Tree.{IsSerial, code_of, leaf_value, then_all}
+use Rattle.lt_net.specs.Tree.{IsSerial, leaf_value, then_all}
+use Rattle.lt_net.specs.Codes.{code_of}
 use Rattle.lt_circuit.specs.Board.{BoardView, state_of, claim_from, standing}
 use Rattle.lt_net.proofs.Serial.{serial_of}
 use Rattle.lt_circuit.proofs.Standing.{none_at, some_at}

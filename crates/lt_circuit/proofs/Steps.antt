@@ -1,5 +1,5 @@
 -- What each event keeps of a circuit's fields.
-use Rattle.std.proofs.Common.{◌≡◌, ◌≢◌, ℕ, ◌+◌, ◌-◌, ◌*◌, ◌<◌, ◌≤◌, inl, inr, true, false, List, [], ◌∷◌, ◌++◌, Option, Some, None, map, length, get_or, set, refl, sym, ap, ◌∙◌, subst, arith, length-set}
+use Rattle.std.proofs.Common.{◌≡◌, ◌≢◌, ℕ, ◌+◌, ◌<◌, ◌≤◌, inl, inr, true, false, List, [], ◌∷◌, ◌++◌, Option, Some, None, map, length, get_or, set, refl, sym, ap, ◌∙◌, subst, arith, length-set}
 use Rattle.std.specs.Option.{option_map}
 use Rattle.std.proofs.lemmas.List.{map-append}
 use Rattle.lt_model.specs.declared.mark.Mark.{Mark}
@@ -10,11 +10,12 @@ use Rattle.lt_net.specs.declared.job.JobName.TheVariants.{Leaf, Merge, Correct}
 use Rattle.lt_circuit.specs.declared.cells.Held.{Held}
 use Rattle.lt_net.specs.Kept.{IsKept}
 use Rattle.lt_net.specs.Net.{Net, State, Claim, is_held, update, claim_of, claimed, finished, abandoned, step, replay, opening}
-use Rattle.lt_net.specs.Tree.{tree_of, leaves_in, inputs_of, code_of, circuit_net}
+use Rattle.lt_net.specs.Tree.{tree_of, leaves_in, inputs_of, circuit_net}
+use Rattle.lt_net.specs.Codes.{code_of, codes_over}
 use Rattle.lt_circuit.specs.Board.{BoardView, state_of, claim_from, standing, table}
 use Rattle.lt_net.proofs.Fitting.{AllFit, reached_fit}
 use Rattle.lt_net.proofs.Inside.{replay_more, replay_end, job_inside, leaf_inside, leaves_are}
-use Rattle.lt_net.proofs.Jobs.{job_of-code}
+use Rattle.lt_net.proofs.Codes.{job_of-code}
 use Rattle.lt_net.proofs.Kept.{at_update}
 use Rattle.lt_circuit.proofs.Opening.{get_same, length-table}
 use Rattle.lt_net.proofs.Serial.{reached_kept}
@@ -81,10 +82,10 @@ module _ {T : Type 0} (does : ℕ → List Mark → List Mark) (stands_for : T �
     pub is_there : inputs_of (tree_of board.leaves) name ≢ []
     is_there e = busy (kept.idle (code_of name) (ap (inputs_of (tree_of board.leaves)) (job_of-code name) ∙ e))
 
-    pub is_inside : code_of name < 3 * (2 * board.leaves - 1)
+    pub is_inside : code_of name < codes_over board.leaves
     is_inside = job_inside board.leaves name is_there
 
-    pub is_small : code_of name < 1533
+    pub is_small : code_of name < codes_over 256
     is_small = omega (arith, is_inside, h.few)
 
     pub leaf_there : (leaf : ℕ) → name ≡ Leaf leaf → leaf < length tallies

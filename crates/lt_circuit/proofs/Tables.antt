@@ -1,11 +1,11 @@
 -- A write to a table, as an update of what the table stands for.
-use Rattle.std.proofs.Common.{◌≡◌, ℕ, ◌+◌, ◌*◌, ◌<◌, ◌≢◌, inl, inr, false, List, Option, Some, None, length, get_or, set, sym, ap, ◌∙◌, arith, get_or-set_same, get_or-set_other}
+use Rattle.std.proofs.Common.{◌≡◌, ℕ, ◌<◌, ◌≢◌, inl, inr, false, List, Option, Some, None, length, get_or, set, sym, ap, ◌∙◌, get_or-set_same, get_or-set_other}
 use Rattle.std.specs.Option.{option_map}
 use Rattle.lt_model.specs.declared.mark.Mark.{Mark}
 use Rattle.lt_net.specs.declared.job.JobName.{JobName}
 use Rattle.lt_net.specs.declared.job.JobName.TheVariants.{Leaf, Merge, Correct}
-use Rattle.lt_net.specs.Tree.{code_of, job_of}
-use Rattle.lt_net.proofs.Jobs.{code_of-job}
+use Rattle.lt_net.specs.Codes.{code_of, job_of}
+use Rattle.lt_net.proofs.Codes.{code_of-job, same_leaf, merge_no_leaf, correct_no_leaf}
 use Rattle.lt_net.proofs.Shape.{eq_false}
 use Rattle.lt_net.specs.declared.job.JobState.{JobState}
 use Rattle.lt_net.specs.declared.job.JobState.TheVariants.{Clean, Pending, Running}
@@ -63,12 +63,12 @@ keep_is nodes states done claims leaf m a =
     λ i. record { value = value_in nodes; status = λ x. get_or states x Clean; done = λ j. p j i; claim = λ x. option_map claim_from (get_or claims x None) }
   where
     by_name : (name : JobName) → done_of (set done leaf (Some m)) name ≡ (if code_of name == code_of (Leaf leaf) then Some m else done_of done name)
-    by_name (Leaf i) = elim (eqb_tells (3 * i) (3 * leaf)) [
-      | inl h ↦ let same : i ≡ leaf = omega (arith, h.1) in rw h.0 (ap (λ k. get_or (set done leaf (Some m)) k None) same ∙ get_or-set_same done leaf (Some m) None a)
-      | inr h ↦ let ne : i ≢ leaf = λ e. h.1 (ap (λ k. 3 * k) e) in rw h.0 (get_or-set_other done leaf i (Some m) None ne)
+    by_name (Leaf i) = elim (eqb_tells (code_of (Leaf i)) (code_of (Leaf leaf))) [
+      | inl h ↦ rw h.0 (ap (λ k. get_or (set done leaf (Some m)) k None) (same_leaf i leaf h.1) ∙ get_or-set_same done leaf (Some m) None a)
+      | inr h ↦ let ne : i ≢ leaf = λ e. h.1 (ap (λ k. code_of (Leaf k)) e) in rw h.0 (get_or-set_other done leaf i (Some m) None ne)
     ]
-    by_name (Merge v) = let no : (3 * v + 1 == 3 * leaf) ≡ false = eq_false (3 * v + 1) (3 * leaf) (omega arith) in rw no
-    by_name (Correct v) = let no : (3 * v + 2 == 3 * leaf) ≡ false = eq_false (3 * v + 2) (3 * leaf) (omega arith) in rw no
+    by_name (Merge v) = let no : (code_of (Merge v) == code_of (Leaf leaf)) ≡ false = eq_false (code_of (Merge v)) (code_of (Leaf leaf)) (merge_no_leaf v leaf) in rw no
+    by_name (Correct v) = let no : (code_of (Correct v) == code_of (Leaf leaf)) ≡ false = eq_false (code_of (Correct v)) (code_of (Leaf leaf)) (correct_no_leaf v leaf) in rw no
 
     at_job : (j : ℕ) → done_in (set done leaf (Some m)) j ≡ update (done_in done) (code_of (Leaf leaf)) (Some m) j
     at_job j = by_name (job_of j) ∙ ap (λ k. if k == code_of (Leaf leaf) then Some m else done_in done j) (code_of-job j)

@@ -1,5 +1,5 @@
 -- What the events keep of the tallies.
-use Rattle.std.proofs.Common.{◌≡◌, ◌≢◌, ℕ, ◌*◌, ◌<◌, inl, inr, Bool, true, false, List, Option, Some, None, length, get_or, set, refl, sym, ap, ◌∙◌, subst, arith, get_or-set_same, get_or-set_other}
+use Rattle.std.proofs.Common.{◌≡◌, ◌≢◌, ℕ, ◌<◌, inl, inr, Bool, true, false, List, Option, Some, None, length, get_or, set, refl, sym, ap, ◌∙◌, subst, get_or-set_same, get_or-set_other}
 use Rattle.std.specs.Prelude.{if◌then◌else◌}
 use Rattle.std.proofs.lemmas.Bool.Decides.{eqb_tells}
 use Rattle.lt_model.specs.declared.mark.Mark.{Mark}
@@ -7,7 +7,8 @@ use Rattle.lt_net.specs.declared.job.JobState.TheVariants.{Pending, Running}
 use Rattle.lt_net.specs.declared.job.JobName.{JobName}
 use Rattle.lt_net.specs.declared.job.JobName.TheVariants.{Leaf, Merge, Correct}
 use Rattle.lt_net.specs.Net.{Net, State, Claim, first_of, is_held, ended, same_at, update, value_after, status_ended, claimed, finished, abandoned}
-use Rattle.lt_net.specs.Tree.{code_of}
+use Rattle.lt_net.specs.Codes.{code_of}
+use Rattle.lt_net.proofs.Codes.{same_leaf, merge_no_leaf, correct_no_leaf}
 use Rattle.lt_net.proofs.Kept.{at_update, still_held, update_same}
 use Rattle.lt_circuit.specs.declared.task.Prior.{Prior}
 use Rattle.lt_circuit.specs.declared.task.Task.{Task}
@@ -25,22 +26,22 @@ module _ {T : Type 0} (stands_for : T → ℕ → List Mark → Type 0) (fits : 
   -- what an event leaves of one leaf's tally
   pub record IsOwn (t : State) (tallies : List (Option (Prior T))) (i : ℕ) : Type 0 where
     each : (p : Prior T) → get_or tallies i None ≡ Some p → IsTally stands_for fits t i p
-    there : (c : List Mark) → t.done (3 * i) ≡ Some c → is_held (t.status (3 * i)) ≡ false → (p : Prior T) × (get_or tallies i None ≡ Some p)
+    there : (c : List Mark) → t.done (code_of (Leaf i)) ≡ Some c → is_held (t.status (code_of (Leaf i))) ≡ false → (p : Prior T) × (get_or tallies i None ≡ Some p)
 
   -- an event of the job j changes nothing of the other leaves
   module _ (s t : State) (before after : List (Option (Prior T))) (j : ℕ) (a : AreTallies stands_for fits s before)
       (done_other : (k : ℕ) → k ≢ j → t.done k ≡ s.done k) (held_other : (k : ℕ) → k ≢ j → is_held (t.status k) ≡ is_held (s.status k))
-      (place_other : (i : ℕ) → 3 * i ≢ j → get_or after i None ≡ get_or before i None) (own : (i : ℕ) → 3 * i ≡ j → IsOwn t after i) where
+      (place_other : (i : ℕ) → code_of (Leaf i) ≢ j → get_or after i None ≡ get_or before i None) (own : (i : ℕ) → code_of (Leaf i) ≡ j → IsOwn t after i) where
     tallies_step : AreTallies stands_for fits t after
     tallies_step = record {
-      each = λ i p e. elim (eqb_tells (3 * i) j) [
+      each = λ i p e. elim (eqb_tells (code_of (Leaf i)) j) [
         | inl h ↦ (own i h.1).each p e
-        | inr h ↦ let k = a.each i p (sym (place_other i h.1) ∙ e) in record { last = done_other (3 * i) h.1 ∙ k.last; fit = k.fit; stands = k.stands }
+        | inr h ↦ let k = a.each i p (sym (place_other i h.1) ∙ e) in record { last = done_other (code_of (Leaf i)) h.1 ∙ k.last; fit = k.fit; stands = k.stands }
       ];
-      there = λ i c d e. elim (eqb_tells (3 * i) j) [
+      there = λ i c d e. elim (eqb_tells (code_of (Leaf i)) j) [
         | inl h ↦ (own i h.1).there c d e
         | inr h ↦
-            let k = a.there i c (sym (done_other (3 * i) h.1) ∙ d) (sym (held_other (3 * i) h.1) ∙ e) in
+            let k = a.there i c (sym (done_other (code_of (Leaf i)) h.1) ∙ d) (sym (held_other (code_of (Leaf i)) h.1) ∙ e) in
             (k.0, place_other i h.1 ∙ k.1)
       ];
     }
@@ -48,11 +49,11 @@ module _ {T : Type 0} (stands_for : T → ℕ → List Mark → Type 0) (fits : 
   update_other : {X : Type 0} (f : ℕ → X) (j : ℕ) (v : X) (k : ℕ) → k ≢ j → update f j v k ≡ f k
   update_other f j v k ne = elim (at_update f j v k) [ inl h ↦ absurd (ne h.0) | inr h ↦ h.1 ]
 
-  set_other : (xs : List (Option (Prior T))) (l i : ℕ) (x : Option (Prior T)) → 3 * i ≢ 3 * l → get_or (set xs l x) i None ≡ get_or xs i None
-  set_other xs l i x ne = get_or-set_other xs l i x None (λ e. ne (ap (λ n. 3 * n) e))
+  set_other : (xs : List (Option (Prior T))) (l i : ℕ) (x : Option (Prior T)) → code_of (Leaf i) ≢ code_of (Leaf l) → get_or (set xs l x) i None ≡ get_or xs i None
+  set_other xs l i x ne = get_or-set_other xs l i x None (λ e. ne (ap (λ n. code_of (Leaf n)) e))
 
-  set_own : (xs : List (Option (Prior T))) (l i : ℕ) (x : Option (Prior T)) → l < length xs → 3 * i ≡ 3 * l → get_or (set xs l x) i None ≡ x
-  set_own xs l i x h e = let f : i ≡ l = omega arith in ap (λ n. get_or (set xs l x) n None) f ∙ get_or-set_same xs l x None h
+  set_own : (xs : List (Option (Prior T))) (l i : ℕ) (x : Option (Prior T)) → l < length xs → code_of (Leaf i) ≡ code_of (Leaf l) → get_or (set xs l x) i None ≡ x
+  set_own xs l i x h e = ap (λ n. get_or (set xs l x) n None) (same_leaf i l e) ∙ get_or-set_same xs l x None h
 
   module _ (s : State) (tallies : List (Option (Prior T))) (a : AreTallies stands_for fits s tallies) (w : ℕ) where
     -- ---- a claim
@@ -61,21 +62,21 @@ module _ {T : Type 0} (stands_for : T → ℕ → List Mark → Type 0) (fits : 
         tallies_step s (claimed net s w (code_of name)) tallies (tallies_left name tallies) (code_of name) a
         (λ k ne. refl) (λ k ne. ap is_held (update_other s.status (code_of name) Running k ne)) (others name) (own name inside)
       where
-        others : (name : JobName) (i : ℕ) → 3 * i ≢ code_of name → get_or (tallies_left name tallies) i None ≡ get_or tallies i None
+        others : (name : JobName) (i : ℕ) → code_of (Leaf i) ≢ code_of name → get_or (tallies_left name tallies) i None ≡ get_or tallies i None
         others (Leaf l) i ne = set_other tallies l i None ne
         others (Merge v) i ne = refl
         others (Correct v) i ne = refl
 
-        own : (name : JobName) → ((l : ℕ) → name ≡ Leaf l → l < length tallies) → (i : ℕ) → 3 * i ≡ code_of name → IsOwn (claimed net s w (code_of name)) (tallies_left name tallies) i
+        own : (name : JobName) → ((l : ℕ) → name ≡ Leaf l → l < length tallies) → (i : ℕ) → code_of (Leaf i) ≡ code_of name → IsOwn (claimed net s w (code_of name)) (tallies_left name tallies) i
         own (Leaf l) inside i e =
             let gone : get_or (set tallies l None) i None ≡ None = set_own tallies l i None (inside l refl) e in
-            let runs : update s.status (3 * l) Running (3 * i) ≡ Running = ap (update s.status (3 * l) Running) e ∙ update_same s.status (3 * l) Running in
+            let runs : update s.status (code_of (Leaf l)) Running (code_of (Leaf i)) ≡ Running = ap (update s.status (code_of (Leaf l)) Running) e ∙ update_same s.status (code_of (Leaf l)) Running in
             record {
               each = λ p f. absurd (let g : None ≡ Some p = sym gone ∙ f in cc);
               there = λ c d f. absurd (let g : true ≡ false = sym (ap is_held runs) ∙ f in cc);
             }
-        own (Merge v) inside i e = absurd (omega arith)
-        own (Correct v) inside i e = absurd (omega arith)
+        own (Merge v) inside i e = absurd (merge_no_leaf v i (sym e))
+        own (Correct v) inside i e = absurd (correct_no_leaf v i (sym e))
 
     -- ---- an abandoned claim
     pub abandon_tallies : (task : Task T) (c : Claim) → c.job ≡ code_of (task_name task) → prior_correction (task_prior task) ≡ s.done (code_of (task_name task))
@@ -85,17 +86,17 @@ module _ {T : Type 0} (stands_for : T → ℕ → List Mark → Type 0) (fits : 
         tallies_step s (abandoned s w c) tallies (tallies_back task tallies) c.job a
         (λ k ne. refl) (λ k ne. ap is_held (update_other s.status c.job Pending k ne)) (others task job) (own task job captured inside)
       where
-        others : (task : Task T) → c.job ≡ code_of (task_name task) → (i : ℕ) → 3 * i ≢ c.job → get_or (tallies_back task tallies) i None ≡ get_or tallies i None
+        others : (task : Task T) → c.job ≡ code_of (task_name task) → (i : ℕ) → code_of (Leaf i) ≢ c.job → get_or (tallies_back task tallies) i None ≡ get_or tallies i None
         others (LeafTask l correction prior) job i ne = set_other tallies l i prior (λ e. ne (e ∙ sym job))
         others (MergeTask v left right) job i ne = refl
         others (CorrectTask v correction left) job i ne = refl
 
         own : (task : Task T) → c.job ≡ code_of (task_name task) → prior_correction (task_prior task) ≡ s.done (code_of (task_name task))
             → ((l : ℕ) → task_name task ≡ Leaf l → l < length tallies × IsPrior stands_for fits l (task_prior task))
-            → (i : ℕ) → 3 * i ≡ c.job → IsOwn (abandoned s w c) (tallies_back task tallies) i
+            → (i : ℕ) → code_of (Leaf i) ≡ c.job → IsOwn (abandoned s w c) (tallies_back task tallies) i
         own (LeafTask l correction prior) job captured inside i e =
-            let at : 3 * i ≡ 3 * l = e ∙ job in
-            let same : i ≡ l = omega arith in
+            let at : code_of (Leaf i) ≡ code_of (Leaf l) = e ∙ job in
+            let same = same_leaf i l at in
             let back : get_or (set tallies l prior) i None ≡ prior = set_own tallies l i prior (inside l refl).0 at in
             record {
               each = λ p f.
@@ -110,8 +111,8 @@ module _ {T : Type 0} (stands_for : T → ℕ → List Mark → Type 0) (fits : 
                   let k = prior_is prior m (captured ∙ sym (ap s.done at) ∙ d) in
                   (k.0, back ∙ k.1);
             }
-        own (MergeTask v left right) job captured inside i e = absurd (omega arith)
-        own (CorrectTask v correction left) job captured inside i e = absurd (omega arith)
+        own (MergeTask v left right) job captured inside i e = absurd (merge_no_leaf v i (sym (e ∙ job)))
+        own (CorrectTask v correction left) job captured inside i e = absurd (correct_no_leaf v i (sym (e ∙ job)))
 
     -- ---- a finished claim
     module _ (net : Net) (c : Claim) where
@@ -131,21 +132,21 @@ module _ {T : Type 0} (stands_for : T → ℕ → List Mark → Type 0) (fits : 
           tallies_step s (finished net s w c) tallies (tallies_done did tallies) c.job a
           (done_other (net.is_leaf c.job)) held_other (others did job) (own did job ins ok inside)
         where
-          others : (did : Done T) → c.job ≡ code_of (done_name did) → (i : ℕ) → 3 * i ≢ c.job → get_or (tallies_done did tallies) i None ≡ get_or tallies i None
+          others : (did : Done T) → c.job ≡ code_of (done_name did) → (i : ℕ) → code_of (Leaf i) ≢ c.job → get_or (tallies_done did tallies) i None ≡ get_or tallies i None
           others (LeafDone l tally kept prior effect) job i ne = set_other tallies l i (Some tally) (λ e. ne (e ∙ sym job))
           others (MergeDone v left right effect) job i ne = refl
           others (CorrectDone v correction left to_right) job i ne = refl
 
           own : (did : Done T) → c.job ≡ code_of (done_name did) → c.inputs ≡ done_inputs did → HasTally stands_for fits did
               → ((l : ℕ) → done_name did ≡ Leaf l → l < length tallies × (net.is_leaf c.job ≡ true))
-              → (i : ℕ) → 3 * i ≡ c.job → IsOwn (finished net s w c) (tallies_done did tallies) i
+              → (i : ℕ) → code_of (Leaf i) ≡ c.job → IsOwn (finished net s w c) (tallies_done did tallies) i
           own (LeafDone l tally kept prior effect) job ins ok inside i e =
-              let at : 3 * i ≡ 3 * l = e ∙ job in
-              let same : i ≡ l = omega arith in
+              let at : code_of (Leaf i) ≡ code_of (Leaf l) = e ∙ job in
+              let same = same_leaf i l at in
               let new : get_or (set tallies l (Some tally)) i None ≡ Some tally = set_own tallies l i (Some tally) (inside l refl).0 at in
               let leaf : net.is_leaf c.job ≡ true = (inside l refl).1 in
-              let last : (finished net s w c).done (3 * i) ≡ Some tally.correction =
-              ap (λ b. (if b then update s.done c.job (Some (first_of c.inputs)) else s.done) (3 * i)) leaf
+              let last : (finished net s w c).done (code_of (Leaf i)) ≡ Some tally.correction =
+              ap (λ b. (if b then update s.done c.job (Some (first_of c.inputs)) else s.done) (code_of (Leaf i))) leaf
               ∙ ap (update s.done c.job (Some (first_of c.inputs))) e ∙ update_same s.done c.job (Some (first_of c.inputs)) ∙ ap (λ xs. Some (first_of xs)) ins in
               record {
                 each = λ p f.
@@ -155,5 +156,5 @@ module _ {T : Type 0} (stands_for : T → ℕ → List Mark → Type 0) (fits : 
                     (record { last = last; fit = ok.0; stands = subst (λ n. stands_for tally.tally n tally.correction) (sym same) ok.1 });
                 there = λ m d f. (tally, new);
               }
-          own (MergeDone v left right effect) job ins ok inside i e = absurd (omega arith)
-          own (CorrectDone v correction left to_right) job ins ok inside i e = absurd (omega arith)
+          own (MergeDone v left right effect) job ins ok inside i e = absurd (merge_no_leaf v i (sym (e ∙ job)))
+          own (CorrectDone v correction left to_right) job ins ok inside i e = absurd (correct_no_leaf v i (sym (e ∙ job)))

@@ -9,10 +9,11 @@ use Rattle.lt_net.specs.declared.job.JobName.TheVariants.{Leaf, Merge, Correct}
 use Rattle.lt_circuit.specs.declared.cells.Inputs.{Inputs}
 use Rattle.lt_circuit.specs.declared.cells.Inputs.TheVariants.{One, Two}
 use Rattle.lt_net.specs.Net.{Cell, Correction, Effect, State, Claim, read, is_held, claimed}
-use Rattle.lt_net.specs.Tree.{Tree, tree_of, right_in, leaves_in, node_in, if_inner, inputs_of, code_of, circuit_net}
+use Rattle.lt_net.specs.Tree.{Tree, tree_of, right_in, leaves_in, node_in, if_inner, inputs_of, circuit_net}
+use Rattle.lt_net.specs.Codes.{code_of}
 use Rattle.lt_circuit.specs.Board.{BoardView, state_of, done_of, inputs_list}
 use Rattle.lt_net.proofs.Kept.{update_same}
-use Rattle.lt_net.proofs.Jobs.{job_of-code}
+use Rattle.lt_net.proofs.Codes.{job_of-code}
 use Rattle.lt_circuit.specs.declared.task.Prior.{Prior}
 use Rattle.lt_circuit.specs.declared.task.Task.{Task}
 use Rattle.lt_circuit.specs.Circuit.{AreTallies}

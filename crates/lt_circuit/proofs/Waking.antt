@@ -1,5 +1,5 @@
 -- A cell stored and its readers woken, as tables and as a state.
-use Rattle.std.proofs.Common.{◌≡◌, ℕ, zero, suc, ◌+◌, ◌-◌, ◌*◌, ◌<◌, inl, inr, Bool, true, false, not, ◌&&◌, ◌||◌, List, [], ◌∷◌, length, get_or, set, refl, sym, ap, ◌∙◌, arith, get_or-set_same, get_or-set_other, length-set}
+use Rattle.std.proofs.Common.{◌≡◌, ℕ, zero, suc, ◌+◌, ◌*◌, ◌<◌, inl, inr, Bool, true, false, not, ◌&&◌, ◌||◌, List, [], ◌∷◌, length, get_or, set, refl, sym, ap, ◌∙◌, arith, get_or-set_same, get_or-set_other, length-set}
 use Rattle.std.specs.Prelude.{if◌then◌else◌, ◌==◌, max}
 use Rattle.std.proofs.lemmas.Bool.Decides.{eqb_tells}
 use Rattle.lt_model.specs.declared.mark.Mark.{Mark}
@@ -9,10 +9,12 @@ use Rattle.lt_net.specs.declared.job.JobState.{JobState}
 use Rattle.lt_net.specs.declared.job.JobState.TheVariants.{Clean, Pending, Running, Dirty}
 use Rattle.lt_circuit.specs.declared.cells.Node.{Node}
 use Rattle.lt_net.specs.Net.{Net, State, Cell, Correction, Effect, same_cell, has_cell, same_at, woken}
-use Rattle.lt_net.specs.Tree.{tree_of, halved_tree, circuit_net, inputs_of, job_of}
+use Rattle.lt_net.specs.Tree.{tree_of, halved_tree, circuit_net, inputs_of}
+use Rattle.lt_net.specs.Codes.{job_of, nodes_over, codes_over}
 use Rattle.lt_circuit.specs.Store.{with_value, stored, readers_of, has_code}
 use Rattle.lt_circuit.specs.Board.{BoardView, state_of, board_state, value_in, bare_node, waked, waked_all}
-use Rattle.lt_net.proofs.Jobs.{cell_same, code_of-job}
+use Rattle.lt_net.proofs.Codes.{code_of-job}
+use Rattle.lt_net.proofs.Jobs.{cell_same}
 use Rattle.lt_net.proofs.Inside.{job_inside}
 use Rattle.lt_circuit.proofs.Readers.{readers, node_at}
 use Rattle.lt_net.proofs.Shape.{eq_true, eq_false, tree_leaves}
@@ -170,7 +172,7 @@ correction_written nodes u m n h e (Correction v) = elim (eqb_tells v u) [
   | inr g ↦ rw g.0 (ap (λ (k : Node). k.correction) (get_or-set_other nodes u v n bare_node g.1))
 ]
 
-pub readers_in_table : (n : ℕ) (x : Cell) → 0 < n → node_at x + 1 < 2 * n → (j : ℕ) → has_code j (readers_of (halved_tree n) x) ≡ true → j < 3 * (2 * n - 1)
+pub readers_in_table : (n : ℕ) (x : Cell) → 0 < n → node_at x + 1 < 2 * n → (j : ℕ) → has_code j (readers_of (halved_tree n) x) ≡ true → j < codes_over n
 readers_in_table zero x a k j e = absurd (omega arith)
 readers_in_table (suc n) x a k j e =
     let has : has_cell x (inputs_of (tree_of (suc n)) (job_of j)) ≡ true = readers (halved_tree (suc n)) x (omega (arith, k, tree_leaves (suc n) a)) j ∙ e in
@@ -187,7 +189,7 @@ differs a b h = by_case (same_marks a b) refl
 
 -- the code's two ways through a store of an effect, and of a correction
 module _ (does : ℕ → List Mark → List Mark) (b : BoardView) (u : ℕ) (m : List Mark)
-    (inside : u + 1 < 2 * b.leaves) (nodes_there : length b.nodes ≡ max (2 * b.leaves - 1) 1) (states_there : length b.states ≡ 3 * (2 * b.leaves - 1)) where
+    (inside : u + 1 < 2 * b.leaves) (nodes_there : length b.nodes ≡ max (nodes_over b.leaves) 1) (states_there : length b.states ≡ codes_over b.leaves) where
   some : 0 < b.leaves
   some = omega (arith, inside)
 

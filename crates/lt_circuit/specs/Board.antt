@@ -1,5 +1,5 @@
 -- What the tables of a board say of a circuit's state.
-use Rattle.std.specs.Prelude.{◌≡◌, ℕ, ◌*◌, ◌-◌, ◌≤◌, if◌then◌else◌, List, [], ◌∷◌, Option, Some, None, length, slice_index_or, slice_set, max, zero, suc, ◌+◌, ◌++◌, nat_lt}
+use Rattle.std.specs.Prelude.{◌≡◌, ℕ, ◌≤◌, if◌then◌else◌, List, [], ◌∷◌, Option, Some, None, length, slice_index_or, slice_set, max, zero, suc, ◌+◌, ◌++◌, nat_lt}
 use Rattle.std.specs.Option.{option_map}
 use Rattle.lt_model.specs.declared.mark.Mark.{Mark}
 use Rattle.lt_net.specs.declared.job.JobState.{JobState}
@@ -9,7 +9,7 @@ use Rattle.lt_circuit.specs.declared.cells.Inputs.{Inputs}
 use Rattle.lt_circuit.specs.declared.cells.Inputs.TheVariants.{One, Two}
 use Rattle.lt_circuit.specs.declared.cells.Held.{Held}
 use Rattle.lt_net.specs.Net.{Cell, Correction, Effect, Claim, State, woken}
-use Rattle.lt_net.specs.Tree.{code_of, job_of}
+use Rattle.lt_net.specs.Codes.{code_of, job_of, nodes_over, codes_over}
 use Rattle.lt_net.specs.declared.job.JobName.{JobName}
 use Rattle.lt_net.specs.declared.job.JobName.TheVariants.{Leaf, Merge, Correct}
 
@@ -58,8 +58,8 @@ state_of b = board_state b.nodes b.states b.done b.claims
 
 pub record IsBoard (leaves : ℕ) (nodes : List Node) (states : List JobState) (done : List (Option (List Mark))) (claims : List (Option Held)) : Type 0 where
   pub small : leaves ≤ 256
-  pub nodes_there : length nodes ≡ max (2 * leaves - 1) 1
-  pub states_there : length states ≡ 3 * (2 * leaves - 1)
+  pub nodes_there : length nodes ≡ max (nodes_over leaves) 1
+  pub states_there : length states ≡ codes_over leaves
   pub done_there : length done ≡ leaves
   pub claims_there : length claims ≡ 16
 

@@ -3,7 +3,8 @@ use Rattle.std.specs.Prelude.{◌≡◌, ℕ, ◌+◌, ◌≤◌, ◌<◌, false
 use Rattle.lt_model.specs.declared.mark.Mark.{Mark}
 use Rattle.lt_net.specs.declared.job.JobName.TheVariants.{Leaf}
 use Rattle.lt_net.specs.Net.{State, is_held, replay, opening}
-use Rattle.lt_net.specs.Tree.{circuit_net, tree_of, code_of}
+use Rattle.lt_net.specs.Tree.{circuit_net, tree_of}
+use Rattle.lt_net.specs.Codes.{code_of}
 use Rattle.lt_circuit.specs.Board.{BoardView, state_of, standing}
 use Rattle.lt_circuit.specs.declared.entry.Entry.{Entry}
 use Rattle.lt_circuit.specs.Entry.{event_of}

@@ -1,7 +1,7 @@
 -- The entries of a journal, as events of the machine and by their codes.
-use Rattle.std.specs.Prelude.{ℕ, ◌*◌, ◌+◌, ◌/◌, ◌%◌, ◌==◌, if◌then◌else◌}
+use Rattle.std.specs.Prelude.{ℕ, ◌/◌, ◌%◌, ◌==◌, if◌then◌else◌}
 use Rattle.lt_net.specs.Net.{Event, Claims, Finishes, Abandons}
-use Rattle.lt_net.specs.Tree.{code_of}
+use Rattle.lt_net.specs.Codes.{code_of, with_kind}
 use Rattle.lt_circuit.specs.declared.entry.Entry.{Entry}
 use Rattle.lt_circuit.specs.declared.entry.Event.{Event as Kind}
 use Rattle.lt_circuit.specs.declared.entry.Event.TheVariants.{Claim, Finish, Abandon}
@@ -20,9 +20,9 @@ kind_code Claim = 0
 kind_code Finish = 1
 kind_code Abandon = 2
 
--- three times the job's code, plus 1 for a finish and 2 for an abandon
+-- the job's code, with what is done as its kind
 abbrev pub entry_code : Entry → ℕ
-entry_code e = 3 * code_of e.job + kind_code e.event
+entry_code e = with_kind (code_of e.job) (kind_code e.event)
 
 -- the event of a worker and an entry's code
 abbrev pub coded_event : (worker code : ℕ) → Event

@@ -12,7 +12,7 @@ use Rattle.lt_model.specs.Marks.{and_then}
 use Rattle.lt_circuit.specs.declared.cells.Inputs.{Inputs}
 use Rattle.lt_circuit.specs.Board.{inputs_list}
 use Rattle.lt_net.specs.Net.{Claim, first_of, second_of}
-use Rattle.lt_net.specs.Tree.{code_of}
+use Rattle.lt_net.specs.Codes.{code_of}
 
 abbrev pub task_name : {T : Type 0} → Task T → JobName
 task_name (LeafTask leaf correction prior) = Leaf leaf

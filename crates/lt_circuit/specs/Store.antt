@@ -2,7 +2,8 @@
 use Rattle.std.specs.Prelude.{ℕ, ◌+◌, Bool, false, if◌then◌else◌, List, [], ◌∷◌, Option, Some, None, ◌==◌, ◌||◌}
 use Rattle.lt_model.specs.declared.mark.Mark.{Mark}
 use Rattle.lt_net.specs.Net.{Cell, Correction, Effect, Net, State, Claim, same_cell, same_at, woken, update, status_ended}
-use Rattle.lt_net.specs.Tree.{Tree, right_of, parent_of, leaf_at, code_of}
+use Rattle.lt_net.specs.Tree.{Tree, right_of, parent_of, leaf_at}
+use Rattle.lt_net.specs.Codes.{code_of}
 use Rattle.lt_net.specs.declared.job.JobName.TheVariants.{Leaf, Merge, Correct}
 
 abbrev pub closed : State → ℕ → Claim → State

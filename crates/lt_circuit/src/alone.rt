@@ -1,7 +1,8 @@
 //! A worker alone: sweeps over the inner jobs, and rounds that each run one leaf more.
 ghost use Rattle.std.specs.Prelude.{◌≡◌, ◌+◌, ◌-◌, ◌*◌, ◌^◌, ◌≤◌, ◌<◌, ℕ, map, length, OnOk, IfSome};
 ghost use Rattle.lt_net.specs.Net.{IsSettled};
-ghost use Rattle.lt_net.specs.Tree.{circuit_net, code_of, tree_of};
+ghost use Rattle.lt_net.specs.Tree.{circuit_net, tree_of};
+ghost use Rattle.lt_net.specs.Codes.{code_of, nodes_over};
 ghost use Rattle.lt_net.specs.Alone.{IsUnclaimed, all_events, corrects_up, lowest_pending, merges_down, round, round_events, run_all, run_events, run_if_pending, settled_alone, sweep_jobs};
 ghost use Rattle.lt_circuit.specs.Entry.{event_of};
 ghost use Rattle.lt_circuit.specs.Circuit.{state, IsReplay};
@@ -11,7 +12,7 @@ use crate::circuit::Circuit;
 use crate::claim::This;
 use crate::work::LeafWork;
 use lt_face::{Moves, NoMemory};
-use lt_net::JobName;
+use lt_net::{JobName, nodes_over};
 
 impl<W: LeafWork> Circuit<W> {
     /// How many leaves there are.
@@ -55,7 +56,7 @@ impl<W: LeafWork> Circuit<W> {
     /// Runs the Merges of the nodes below `count`, bottom up.
     fn run_merges(&mut self, count: u32) -> Result<(), NoMemory>
         requires free { IsUnclaimed (state self.old) }
-        requires count { count ≤ 511 }
+        requires count { count ≤ nodes_over 256 }
         ensures ran { OnOk result (state self.new ≡ run_all (shape_net (shape W.does self.old)) (state self.old) (merges_down count)) }
         ensures free { IsUnclaimed (state self.new) }
         ensures shape { shape W.does self.new ≡ shape W.does self.old }
@@ -71,7 +72,7 @@ impl<W: LeafWork> Circuit<W> {
     /// Runs the Corrects of the nodes below `count`, top down.
     fn run_corrects(&mut self, count: u32) -> Result<(), NoMemory>
         requires free { IsUnclaimed (state self.old) }
-        requires count { count ≤ 511 }
+        requires count { count ≤ nodes_over 256 }
         ensures ran { OnOk result (state self.new ≡ run_all (shape_net (shape W.does self.old)) (state self.old) (corrects_up 0 count)) }
         ensures free { IsUnclaimed (state self.new) }
         ensures shape { shape W.does self.new ≡ shape W.does self.old }
@@ -94,7 +95,7 @@ impl<W: LeafWork> Circuit<W> {
         ensures later { IsLaterBy 0 (map event_of self.old.journal) (map event_of self.new.journal) }
         ensures few { length (map event_of self.new.journal) ≤ length (map event_of self.old.journal) + length (all_events (shape_net (shape W.does self.old)) (state self.old) (sweep_jobs leaves)) }
     {
-        let count = (2 * leaves).saturating_sub(1);
+        let count = nodes_over(leaves);
         self.run_merges(count)?;
         self.run_corrects(count)?;
         Ok(())

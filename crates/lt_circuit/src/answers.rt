@@ -3,7 +3,8 @@ ghost use Rattle.std.specs.Prelude.{true, false, ◌≡◌, ◌≢◌, ◌≤◌
 ghost use Rattle.lt_net.specs.declared.job.JobState.TheVariants.{Pending};
 ghost use Rattle.lt_circuit.specs.Board.{standing};
 ghost use Rattle.lt_net.specs.Net.{IsSettled, Effect};
-ghost use Rattle.lt_net.specs.Tree.{code_of, leaf_value, then_all};
+ghost use Rattle.lt_net.specs.Tree.{leaf_value, then_all};
+ghost use Rattle.lt_net.specs.Codes.{code_of};
 ghost use Rattle.lt_circuit.specs.declared.task.Prior.{Prior as PriorType};
 ghost use Rattle.lt_circuit.specs.Circuit.{state, IsReplay};
 

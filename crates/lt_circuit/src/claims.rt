@@ -2,7 +2,7 @@
 ghost use Rattle.std.specs.Prelude.{◌≡◌, ◌<◌, ℕ, None, IfOk, OnErr};
 ghost use Rattle.std.specs.Arc.{arc_value};
 ghost use Rattle.lt_net.specs.declared.job.JobState.TheVariants.{Pending};
-ghost use Rattle.lt_net.specs.Tree.{code_of};
+ghost use Rattle.lt_net.specs.Codes.{code_of};
 ghost use Rattle.lt_circuit.specs.Circuit.{state};
 ghost use Rattle.lt_circuit.specs.Claiming.{IsAnswer, IsClaimed, IsCoded, IsThis};
 ghost use Rattle.lt_circuit.specs.Job.{name_of_job};

@@ -2,7 +2,8 @@
 ghost use Rattle.std.specs.Prelude.{◌≡◌, ◌≢◌, ◌<◌, [], ◌∷◌, ◌++◌, ℕ, List, Some, None, length, slice_set};
 ghost use Rattle.lt_model.specs.declared.mark.Mark.{Mark};
 ghost use Rattle.lt_net.specs.Net.{Claim, abandoned, finished, read};
-ghost use Rattle.lt_net.specs.Tree.{circuit_net, code_of, inputs_of, tree_of};
+ghost use Rattle.lt_net.specs.Tree.{circuit_net, inputs_of, tree_of};
+ghost use Rattle.lt_net.specs.Codes.{code_of};
 ghost use Rattle.lt_circuit.specs.declared.entry.Event.TheVariants.{Finish, Abandon};
 ghost use Rattle.lt_net.specs.declared.job.JobState.TheVariants.{Running};
 ghost use Rattle.lt_circuit.specs.Board.{state_of};

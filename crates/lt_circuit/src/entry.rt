@@ -1,8 +1,8 @@
 //! What a circuit writes down of an event.
 ghost use Rattle.std.specs.Prelude.{◌≡◌, ◌<◌, ◌^◌};
-ghost use Rattle.lt_circuit.specs.Entry.{entry_code};
+ghost use Rattle.lt_circuit.specs.Entry.{entry_code, kind_code};
 
-use lt_net::JobName;
+use lt_net::{JobName, with_kind};
 
 /// What a worker does with a job.
 #[derive(Clone, Copy, PartialEq, Eq)]
@@ -13,6 +13,19 @@ pub enum Event {
     Finish,
     /// It gives the job up.
     Abandon,
+}
+
+impl Event {
+    /// 0 for a claim, 1 for a finish, 2 for an abandon.
+    fn kind(self) -> u32
+        ensures { result ≡ kind_code self }
+    {
+        match self {
+            Event::Claim => 0,
+            Event::Finish => 1,
+            Event::Abandon => 2,
+        }
+    }
 }
 
 /// One event: the worker, the job, and what it does with it.
@@ -29,11 +42,6 @@ impl Entry {
         requires { entry_code self < 2 ^ 32 }
         ensures { result ≡ entry_code self }
     {
-        let job = 3 * self.job.code();
-        match self.event {
-            Event::Claim => job,
-            Event::Finish => job + 1,
-            Event::Abandon => job + 2,
-        }
+        with_kind(self.job.code(), self.event.kind())
     }
 }

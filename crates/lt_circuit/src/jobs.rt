@@ -4,13 +4,13 @@
 ghost use Rattle.std.specs.Prelude.{◌≡◌, ◌≢◌, ℕ, true, false, ◌<◌, ◌≤◌, ◌^◌, ◌↔◌, IsTrue, List, IfOk, IfSome, None, length, slice_index_or, slice_set};
 ghost use Rattle.lt_net.specs.declared.job.JobState.{JobState as JobStateType};
 ghost use Rattle.lt_net.specs.declared.job.JobState.TheVariants.{Clean, Pending};
-ghost use Rattle.lt_net.specs.Tree.{code_of};
+ghost use Rattle.lt_net.specs.Codes.{code_of, codes_over};
 ghost use Rattle.lt_circuit.specs.Board.{first_state, table};
 ghost use Rattle.lt_circuit.specs.Jobs.{AreJobs};
 
 use crate::order::{place_codes, walk};
 use lt_face::NoMemory;
-use lt_net::{JobName, JobState};
+use lt_net::{JobName, JobState, codes_over};
 use std::alloc::Global;
 use std::marker::Model;
 
@@ -99,11 +99,11 @@ fn lowered(low: usize, place: usize, state: JobState) -> usize
 
 impl Jobs {
     /// The leaves' jobs are Pending, the others Clean. The order is the walk over the tree from the left.
-    pub fn start(alloc: Global, leaves: u32, jobs: u32) -> Result<Jobs, NoMemory>
-        requires leaves { leaves ≤ 256 }
-        requires jobs { jobs ≤ 1533 }
-        ensures { IfOk result (λ started. started ≡ table (first_state leaves) jobs) }
+    pub fn start(alloc: Global, leaves: u32) -> Result<Jobs, NoMemory>
+        requires { leaves ≤ 256 }
+        ensures { IfOk result (λ started. started ≡ table (first_state leaves) (codes_over leaves)) }
     {
+        let jobs = codes_over(leaves);
         let states = first_states(alloc, leaves, jobs)?;
         let mut order = Vec::with_capacity(alloc, jobs as usize)?;
         walk(&mut order, 0, 0, leaves)?;

@@ -115,7 +115,7 @@ impl<W: LeafWork> Job<W> {
                 node,
                 correction,
                 left,
-            } => match Marks::and_then(&correction, &left) {
+            } => match Marks::stacked(&correction, &left) {
                 Ok(to_right) => {
                     let did = Done::Correct {
                         node,

@@ -1,12 +1,13 @@
 -- The rows that the marks of a relation put in and take out.
-use Rattle.std.proofs.Common.{◌≡◌, ◌≢◌, ℕ, zero, suc, ◌+◌, Bool, true, false, not, ◌&&◌, List, [], ◌∷◌, ◌++◌, take, Some, refl, sym, ap, ◌∙◌, arith}
+use Rattle.std.proofs.Common.{◌≡◌, ◌≢◌, ℕ, zero, suc, ◌+◌, ◌<◌, Bool, true, false, not, ◌&&◌, List, [], ◌∷◌, ◌++◌, take, Some, refl, sym, ap, ◌∙◌, arith}
 use Rattle.std.specs.Prelude.{◌==◌, if◌then◌else◌}
-use Rattle.std.specs.List.{slice_get}
+use Rattle.std.specs.List.{AllByRecursion, slice_get}
 use Rattle.std.proofs.lemmas.Bool.{eq-eqb, ne_eqb}
 use Rattle.lt_face.specs.State.{Row}
 use Rattle.lt_model.specs.declared.mark.Mark.{Mark}
-use Rattle.lt_model.specs.Marks.{Marks}
+use Rattle.lt_model.specs.Marks.{Marks, AreMarks}
 use Rattle.lt_delta.specs.Laying.{same_sign, marked}
+use Rattle.lt_delta.proofs.Starts.{later_on}
 
 -- the mark's row, where it is of the relation and of this sign
 abbrev pub one_marked : ℕ → Bool → Mark → List Row
@@ -62,10 +63,28 @@ not_signed relation plus marks i m done at before sign =
     off true false = refl
     off false p = refl
 
--- and none of another relation
-pub not_of : (relation : ℕ) (plus : Bool) (marks : Marks) (i : ℕ) (m : Mark) (done : List Row) → slice_get marks i ≡ Some m → done ≡ marked relation plus (take i marks) → m.relation ≢ relation → done ≡ marked relation plus (take (i + 1) marks)
-not_of relation plus marks i m done at before differs =
-    let b : (m.relation == relation && same_sign m.plus plus) ≡ false = ap (λ x. x && same_sign m.plus plus) (ne_eqb m.relation relation differs) in
-    before ∙ sym (alone (marked relation plus (take i marks)))
-    ∙ ap (λ x. marked relation plus (take i marks) ++ (if x then m.row ∷ [] else [])) (sym b)
-    ∙ sym (marked_more relation plus marks i m at)
+-- ---- where the relation's marks begin and end
+
+none_marked : (relation : ℕ) (plus : Bool) (marks : Marks) → AllByRecursion (λ (m : Mark). m.relation ≢ relation) marks → marked relation plus marks ≡ []
+none_marked relation plus [] off = refl
+none_marked relation plus (m ∷ marks) off =
+    ap (λ x. if x && same_sign m.plus plus then m.row ∷ marked relation plus marks else marked relation plus marks) (ne_eqb m.relation relation off.0) ∙ none_marked relation plus marks off.1
+
+-- none before the place is
+pub begins : (relation : ℕ) (plus : Bool) (marks : Marks) (i : ℕ) → ((p : ℕ) (m : Mark) → slice_get marks p ≡ Some m → p < i → m.relation < relation) → [] ≡ marked relation plus (take i marks)
+begins relation plus marks zero before = refl
+begins relation plus [] (suc i) before = refl
+begins relation plus (x ∷ marks) (suc i) before =
+    let lt : x.relation < relation = before 0 x refl (omega arith) in
+    begins relation plus marks i (λ p m at lt. before (suc p) m at (omega arith))
+    ∙ ap (λ b. if b && same_sign x.plus plus then x.row ∷ marked relation plus (take i marks) else marked relation plus (take i marks)) (sym (ne_eqb x.relation relation (λ e. absurd (omega (arith, lt, e)))))
+
+-- none is from a mark of a later relation on
+pub ends : (relation : ℕ) (plus : Bool) (marks : Marks) (i : ℕ) (m : Mark) → AreMarks marks → slice_get marks i ≡ Some m → relation < m.relation → marked relation plus (take i marks) ≡ marked relation plus marks
+ends relation plus [] i m up at lt = absurd cc
+ends relation plus (x ∷ marks) zero m up at lt =
+    let same : x ≡ m = cc in
+    let is : x.relation ≡ m.relation = ap (λ (n : Mark). n.relation) same in
+    sym (none_marked relation plus (x ∷ marks) (λ e. absurd (omega (arith, is, lt, e)), later_on relation x marks (omega (arith, is, lt)) up.0))
+ends relation plus (x ∷ marks) (suc i) m up at lt =
+    first relation plus x (take i marks) ∙ ap (λ (l : List Row). one_marked relation plus x ++ l) (ends relation plus marks i m up.1 at lt) ∙ sym (first relation plus x marks)

@@ -26,7 +26,7 @@ IsState-change zero f (relation ∷ state) w wide keeps all =
     (subst (λ n. IsRowSet n (f relation.rows)) (sym same) (keeps relation.rows (subst (λ n. IsRowSet n relation.rows) same all.0)), all.1)
 IsState-change (suc n) f (relation ∷ state) w wide keeps all = (all.0, IsState-change n f state w wide keeps all.1)
 
-IsRowSet-write : (m : Mark) (w : ℕ) (rows : List Row) → IsRow w m.row → IsRowSet w rows → IsRowSet w (write m rows)
+pub IsRowSet-write : (m : Mark) (w : ℕ) (rows : List Row) → IsRow w m.row → IsRowSet w rows → IsRowSet w (write m rows)
 IsRowSet-write m w rows row set =
     elim m.plus as (λ b. IsRowSet w (cond b (with_row rows m.row) (without_row rows m.row))) [ true ↦ IsRowSet-with_row w rows m.row set row | false ↦ IsRowSet-without_row w rows m.row set ]
 

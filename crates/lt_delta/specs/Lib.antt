@@ -1,3 +1,5 @@
 pub mod LastRow
 pub mod Laying
 pub mod Finding
+pub mod Columns
+pub mod IndexEdits

@@ -8,6 +8,7 @@ ghost use Rattle.lt_delta.specs.Finding.{IsPlaceFor, is_before as is_before_row,
 
 use crate::finding::{is_before, place_for};
 use crate::order::compare;
+use crate::sharing::append;
 use lt_face::memory::NoMemory;
 use lt_model::mark::Mark;
 use std::alloc::Global;
@@ -70,10 +71,7 @@ fn shared(alloc: Global, marks: &[Arc<Mark>]) -> Result<Vec<Arc<Mark>>, NoMemory
     ensures { IfOk result (λ shared. map arc_value shared.items ≡ map arc_value marks.now) }
 {
     let mut shared = Vec::with_capacity(alloc, marks.len())?;
-    for mark in marks {
-        let mark = mark.clone()?;
-        shared.push(mark)?;
-    }
+    append(&mut shared, marks)?;
     Ok(shared)
 }
 

@@ -24,15 +24,16 @@ impl Marks {
     {
         let mut gone = Items::new(alloc);
         let mut come = Items::new(alloc);
-        for i in 0..self.len() {
+        for i in self.start_of(relation)..self.len() {
             let mark = self.mark(i);
-            if mark.relation == relation {
-                let row = mark.row.copy_row();
-                if mark.plus {
-                    come.push(row)?;
-                } else {
-                    gone.push(row)?;
-                }
+            if mark.relation != relation {
+                return Ok(Edits { gone, come });
+            }
+            let row = mark.row.copy_row();
+            if mark.plus {
+                come.push(row)?;
+            } else {
+                gone.push(row)?;
             }
         }
         Ok(Edits { gone, come })

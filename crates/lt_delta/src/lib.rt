@@ -4,13 +4,19 @@
 mod adding;
 mod edits;
 mod finding;
+mod index_edits;
+mod joining;
+mod known;
 pub mod laws;
 mod laying;
 mod marks;
 mod merging;
 mod order;
+mod relation_marks;
+mod sharing;
 mod sorting;
 
 pub use edits::Edits;
+pub use index_edits::IndexEdits;
 pub use lt_model::mark::{Mark, MarkList};
 pub use marks::Marks;

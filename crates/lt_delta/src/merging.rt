@@ -1,25 +1,15 @@
 //! One list of marks after another.
-ghost use Rattle.std.specs.Prelude.{◌≡◌, ◌++◌, map, IfOk, OnOk};
+ghost use Rattle.std.specs.Prelude.{◌≡◌, map, IfOk};
 ghost use Rattle.std.specs.Arc.{arc_value};
 ghost use Rattle.lt_model.specs.Marks.{AreMarks, and_then};
 
 use crate::order::compare;
+use crate::sharing::append;
 use lt_face::memory::NoMemory;
 use lt_model::mark::Mark;
 use std::alloc::Global;
 use std::cmp::Ordering;
 use std::sync::Arc;
-
-/// Second owners of `more` at the end.
-fn append(marks: &mut Vec<Arc<Mark>>, more: &[Arc<Mark>]) -> Result<(), NoMemory>
-    ensures { OnOk result (map arc_value marks.new.items ≡ map arc_value marks.old.items ++ map arc_value more.now) }
-{
-    for mark in more {
-        let mark = mark.clone()?;
-        marks.push(mark)?;
-    }
-    Ok(())
-}
 
 /// The marks of both, the second's where both have one.
 pub(crate) fn merged(

@@ -105,6 +105,9 @@ impl RowReads for FlatRows {
     }
 
     fn row_near(&self, near: &mut Near, prefix: &Row, bound: Key) -> Option<&Row> {
+        if self.rows.is_empty() {
+            return None;
+        }
         let place = place_near(&self.rows, near.at, prefix.cells(), bound);
         near.at = place;
         self.rows.get(place)

@@ -32,13 +32,14 @@ fn is_below(row: &Row, prefix: &[Key], bound: Key) -> bool
     requires { length prefix.now < length row.now }
     ensures { result ≡ is_lt (row_cmp row.now (prefix.now ++ bound ∷ [])) }
 {
+    let cells = row.cells();
     for i in 0..prefix.len() {
-        let cell = row.cell(i);
+        let cell = cells[i];
         if cell != prefix[i] {
             return cell < prefix[i];
         }
     }
-    row.cell(prefix.len()) < bound
+    cells[prefix.len()] < bound
 }
 
 /// The place of the first row that is at least the prefix and then the bound, where it is known to lie from `low` to `high`.

@@ -166,6 +166,11 @@ module _ {R : Type 0} (plan : Plan) (state : State) (keys : List ℕ) (level : L
       TrieOf-deeper state (length keys) (at keys) guide walk.trie key up h goes (ap seat_here (sym e) ∙ here)
       (subst (IsIn key) (ap seat_keys e ∙ keys_opened state (length keys) (at keys) guide walk sits.1) inside) sits.1
 
+  -- its iterator is opened
+  pub seat_opened : (i : ℕ) (guide : Guide) (s : Seat R) (walk : Walk R) → i < length plan.guides → guide ≡ get_or plan.guides i guide → has_key (levels_of guide) (length keys) ≡ true → slice_get leap.iters (length (atoms_at (take i plan.guides) (length keys))) ≡ Some s → s ≡ Walks walk
+      → IsOpenedOf state (length keys) (at keys) guide walk.trie
+  seat_opened i guide s walk lt is h there e = (subst (IsSeatOf plan state (length keys) (at keys) (OfAtom guide)) e (seat_of i guide s lt is h there)).1
+
   -- the seat is there
   pub seat_within : (i : ℕ) (guide : Guide) → i < length plan.guides → guide ≡ get_or plan.guides i guide → has_key (levels_of guide) (length keys) ≡ true → length (atoms_at (take i plan.guides) (length keys)) < length leap.iters
   seat_within i guide lt is h =

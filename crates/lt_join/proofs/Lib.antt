@@ -11,8 +11,10 @@ pub mod Walks
 pub mod Under
 pub mod Opening
 pub mod Noting
+pub mod Gathers
 pub mod Levels
 pub mod Deeper
+pub mod Entering
 pub mod Hitting
 pub mod Roots
 pub mod ValueLemmas

@@ -73,7 +73,7 @@ walk_within plan state l keys hs ss i s walk z e is =
     let a = atom_of plan state l keys f.0 walk (subst (IsSeatOf plan state l keys f.0) is f.2) in
     get_below plan.guides walk.guide a.0 a.2
 
-keys_at-map : {R : Type 0} (ss : List (Seat R)) (i : ℕ) (s : Seat R) → slice_get ss i ≡ Some s → keys_at (map seat_keys ss) i ≡ seat_keys s
+pub keys_at-map : {R : Type 0} (ss : List (Seat R)) (i : ℕ) (s : Seat R) → slice_get ss i ≡ Some s → keys_at (map seat_keys ss) i ≡ seat_keys s
 keys_at-map [] i s e = cc
 keys_at-map (x ∷ ss) zero s e = ap seat_keys (some_is x s e)
 keys_at-map (x ∷ ss) (suc i) s e = keys_at-map ss i s e

@@ -12,6 +12,7 @@ ghost use Rattle.lt_join.specs.Cost.{bound};
 
 use crate::Found;
 use crate::ascending::ascending;
+use crate::noted::NotedGaps;
 use crate::walk::{descend, roots_of};
 use lt_face::indexes::Indexes;
 use lt_face::items::{Items, RowList};
@@ -48,13 +49,15 @@ pub fn answers<I: Indexes, L>(
     ensures moves { moves.old ≤ moves.new }
 {
     let mut keys = Items::new(alloc);
-    let roots = roots_of(alloc, indexes, plan)?;
+    let mut noted = NotedGaps::new(alloc);
+    let mut iters = roots_of(alloc, indexes, plan)?;
     let mut found = Found {
         sense: Sense::new(alloc),
         rows: Items::new(alloc),
     };
     descend(
-        alloc, indexes, &roots, body, plan, terms, &mut keys, &mut found, moves, false,
+        alloc, indexes, &mut iters, body, plan, terms, &mut keys, &mut noted, &mut found, moves,
+        false,
     )?;
     let rows = ascending(found.rows.into_vec())?;
     Ok((rows, found.sense))
@@ -82,14 +85,16 @@ pub fn some<I: Indexes, L>(
     ensures moves { moves.old ≤ moves.new }
 {
     let mut keys = Items::new(alloc);
-    let roots = roots_of(alloc, indexes, plan)?;
+    let mut noted = NotedGaps::new(alloc);
+    let mut iters = roots_of(alloc, indexes, plan)?;
     let terms = Items::new(alloc);
     let mut found = Found {
         sense: Sense::new(alloc),
         rows: Items::new(alloc),
     };
     let truth = descend(
-        alloc, indexes, &roots, body, plan, &terms, &mut keys, &mut found, moves, true,
+        alloc, indexes, &mut iters, body, plan, &terms, &mut keys, &mut noted, &mut found, moves,
+        true,
     )?;
     Ok((truth, found.sense))
 }

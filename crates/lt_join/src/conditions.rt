@@ -67,15 +67,23 @@ fn give(values: &mut Values, test: Test)
     }
 }
 
+/// Gives the values that the literals with `=` give, in their order.
+pub(crate) fn give_each(values: &mut Values, tests: &[Test])
+    requires { AllByRecursion IsTest tests.now }
+    ensures { values_in values.new.cells ≡ all_given (values_in values.old.cells) tests.now }
+{
+    for test in tests {
+        give(values, *test);
+    }
+}
+
 /// The values with those that the literals with `=` give, in their order.
 pub fn give_all(values: &Values, tests: &[Test]) -> Values
     requires { AllByRecursion IsTest tests.now }
     ensures { values_in result.cells ≡ all_given (values_in values.now.cells) tests.now }
 {
     let mut all = *values;
-    for test in tests {
-        give(&mut all, *test);
-    }
+    give_each(&mut all, tests);
     all
 }
 

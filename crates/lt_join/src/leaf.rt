@@ -6,7 +6,7 @@ ghost use Rattle.lt_model.specs.Fits.{IsTermOf};
 ghost use Rattle.lt_join.specs.Values.{values_in, assigned, IsTest};
 ghost use Rattle.lt_join.specs.Walked.{at, value_from, leaf_assignment};
 
-use crate::conditions::{all_pass, give_all, give_value};
+use crate::conditions::{all_pass, give_each, give_value};
 use crate::values::Values;
 use lt_face::items::Items;
 use lt_face::key::Key;
@@ -14,21 +14,20 @@ use lt_face::row::Row;
 use lt_query::{Body, Level, Plan, Term};
 use std::alloc::Global;
 
-/// The key at the first level of each variable.
-fn level_values(levels: &[Level], keys: &[Key]) -> Values
+/// Gives each variable the key at its first level.
+fn give_levels(values: &mut Values, levels: &[Level], keys: &[Key])
+    requires none { values_in values.old.cells ≡ (λ _. None) }
     requires as_long { length levels.now ≤ length keys.now }
     requires variables { AllByRecursion (λ level. IsTermOf 16 level.term) levels.now }
-    ensures { values_in result.cells ≡ value_from levels.now 0 (at keys.now) }
+    ensures { values_in values.new.cells ≡ value_from levels.now 0 (at keys.now) }
 {
-    let mut values = Values::none();
     for i in 0..levels.len() {
         let level = &levels[i];
         match level.term {
-            Term::Var(v) => give_value(&mut values, v, keys[i]),
+            Term::Var(v) => give_value(values, v, keys[i]),
             Term::Cell(_) => {}
         }
     }
-    values
 }
 
 /// The answer that the keys of all levels give, where the tests hold.
@@ -46,8 +45,9 @@ pub(crate) fn leaf_answer(
     ensures { let a = leaf_assignment body.now plan.now.levels (at keys.now) in result ≡ (if list_all (passes a) body.now.tests then Some (cells_of a terms.now) else None) }
 {
     let tests = body.tests.as_slice();
-    let first = level_values(plan.levels.as_slice(), keys.as_slice());
-    let values = give_all(&first, tests);
+    let mut values = Values::none();
+    give_levels(&mut values, plan.levels.as_slice(), keys.as_slice());
+    give_each(&mut values, tests);
     if all_pass(&values, tests) {
         Some(values.row(alloc, terms.as_slice()))
     } else {

@@ -7,10 +7,9 @@ ghost use Rattle.lt_leap.specs.Common.{has_key};
 ghost use Rattle.lt_leap.specs.Potential.{join_cost};
 ghost use Rattle.lt_join.specs.Cost.{iterators_at, LevelGains};
 ghost use Rattle.lt_join.specs.Walked.{at};
-ghost use Rattle.lt_join.specs.Holders.{IsUsable, IsOpen, IsJoined, left_of, IsWalkable, IsTrieOf, AreOpened, IsSeatOf, AreKept, atoms_at, holders_at, alone};
-ghost use Rattle.lt_join.specs.Seat.{seat_keys};
-ghost use Rattle.lt_leap.specs.Search.{IsGapOf};
+ghost use Rattle.lt_join.specs.Holders.{IsUsable, IsOpen, IsJoined, left_of, IsWalkable, IsTrieOf, AreOpened, atoms_at, alone};
 
+use crate::keeping::keep_gaps;
 use crate::noted::NotedGaps;
 use crate::seat::{LoneKey, Seat, Walk};
 use lt_face::indexes::Indexes;
@@ -92,41 +91,6 @@ pub(crate) fn add_keys<'a, R: RowReads>(
     Ok(())
 }
 
-/// Keeps the gaps that the atoms' iterators of a level noted.
-pub(crate) fn keep_gaps<'a, I: Indexes>(
-    _tables: &'a I,
-    leap: &Leap<Seat<'a, I::Rows>>,
-    noted: &NotedGaps,
-    plan: &Plan,
-    _level: &Level,
-    _keys: &Items<Key>,
-    sense: &mut Sense,
-) -> Result<(), NoMemory>
-    requires seats { AllZip (IsSeatOf plan.now (I.state _tables.now) (length _keys.now) (at _keys.now)) (holders_at plan.now.guides _level.now (length _keys.now) (at _keys.now)) leap.now.iters }
-    requires gaps { AllByRecursion (IsGapOf (map seat_keys leap.now.iters)) noted.now.gaps.items }
-    requires tight { IsTight sense.old (I.state _tables.now) }
-    ensures { OnOk result (AreKept plan.now (I.state _tables.now) _keys.now _level.now sense.old sense.new noted.now.gaps.items) }
-{
-    let guides = plan.guides.as_slice();
-    for item in &noted.gaps {
-        let (place, passed) = *item;
-        match leap.iter(place as usize) {
-            Seat::Walks(walk) => {
-                let guide = &guides[walk.guide];
-                sense.add_gap(
-                    guide.relation,
-                    &guide.columns,
-                    walk.trie.prefix(),
-                    passed.lo,
-                    passed.hi,
-                )?;
-            }
-            Seat::Single(_) => {}
-        }
-    }
-    Ok(())
-}
-
 /// A level that was opened, and the key where it stands: one that all its seats have, or `END`.
 #[derive(Drop)]
 pub(crate) struct Joined<'a, R: RowReads> {
@@ -142,6 +106,7 @@ pub(crate) fn open_level<'a, I: Indexes, L>(
     plan: &Plan,
     level: &Level,
     keys: &Items<Key>,
+    noted: &mut NotedGaps,
     sense: &mut Sense,
     moves: &mut Moves<L>,
 ) -> Result<Joined<'a, I::Rows>, NoMemory>
@@ -158,21 +123,21 @@ pub(crate) fn open_level<'a, I: Indexes, L>(
 {
     let mut seats = open_walks(alloc, tables, iters, plan, keys, sense, moves)?;
     add_keys(&mut seats, level, keys)?;
-    let mut noted = NotedGaps::new(alloc);
-    let leap = Leap::init(alloc, seats, &mut noted, moves)?;
-    keep_gaps(tables, &leap, &noted, plan, level, keys, sense)?;
+    noted.clear();
+    let leap = Leap::init(alloc, seats, noted, moves)?;
+    keep_gaps(tables, &leap, noted, plan, level, keys, sense)?;
     let key = leap.key();
     Ok(Joined { leap, key })
 }
 
 /// Goes to the level's next key. Where a pin or a tie sits, none can follow.
 pub(crate) fn next_key<'a, I: Indexes, L>(
-    alloc: Global,
     tables: &'a I,
     joined: &mut Joined<'a, I::Rows>,
     plan: &Plan,
     level: &Level,
     keys: &Items<Key>,
+    noted: &mut NotedGaps,
     sense: &mut Sense,
     moves: &mut Moves<L>,
 ) -> Result<(), NoMemory>
@@ -192,9 +157,9 @@ pub(crate) fn next_key<'a, I: Indexes, L>(
         joined.key = END;
         return Ok(());
     }
-    let mut noted = NotedGaps::new(alloc);
-    joined.leap.next(&mut noted, moves)?;
-    keep_gaps(tables, &joined.leap, &noted, plan, level, keys, sense)?;
+    noted.clear();
+    joined.leap.next(noted, moves)?;
+    keep_gaps(tables, &joined.leap, noted, plan, level, keys, sense)?;
     joined.key = joined.leap.key();
     Ok(())
 }

@@ -5,6 +5,7 @@ mod answer;
 pub mod ascending;
 pub mod conditions;
 mod covering;
+mod keeping;
 mod leaf;
 mod level;
 mod noted;

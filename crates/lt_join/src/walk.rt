@@ -11,6 +11,7 @@ ghost use Rattle.lt_join.specs.Holders.{IsPrepared, IsWalkable, IsTrieOf, IsOpen
 use crate::Found;
 use crate::leaf::leaf_answer;
 use crate::level::{Joined, holds, next_key, open_level};
+use crate::noted::NotedGaps;
 use crate::seat::Seat;
 use lt_face::indexes::Indexes;
 use lt_face::items::Items;
@@ -23,38 +24,54 @@ use lt_sense::Sense;
 use lt_trie::TrieIter;
 use std::alloc::Global;
 
-/// The atoms' iterators below the level's key: copies of those that sit at the level, and the others as they are.
-fn deeper<'a, I: Indexes>(
-    alloc: Global,
+/// Brings the iterators of the atoms that sit at the level to its key. The others stay.
+fn enter<'a, I: Indexes>(
     _tables: &'a I,
-    iters: &[TrieIter<'a, I::Rows>],
+    iters: &mut Vec<TrieIter<'a, I::Rows>>,
     joined: &Joined<'a, I::Rows>,
     plan: &Plan,
     _level: &Level,
     keys: &Items<Key>,
-) -> Result<Vec<TrieIter<'a, I::Rows>>, NoMemory>
+)
     requires walkable { AllByRecursion IsWalkable plan.now.guides }
-    requires iters { AllZip (IsTrieOf (I.state _tables.now) (length keys.now) (at keys.now)) plan.now.guides iters.now }
+    requires iters { AllZip (IsTrieOf (I.state _tables.now) (length keys.now) (at keys.now)) plan.now.guides iters.old.items }
     requires is_open { IsOpen plan.now (I.state _tables.now) keys.now _level.now joined.now.leap joined.now.key }
     requires at_key { joined.now.key < 2 ^ 128 - 1 }
-    ensures { IfOk result (λ next. AllZip (IsTrieOf (I.state _tables.now) (length keys.now + 1) (with_key (at keys.now) (length keys.now) joined.now.key)) plan.now.guides next.items) }
+    ensures { AllZip (IsTrieOf (I.state _tables.now) (length keys.now + 1) (with_key (at keys.now) (length keys.now) joined.now.key)) plan.now.guides iters.new.items }
 {
     let depth = keys.len();
     let guides = plan.guides.as_slice();
-    let mut next = Vec::new(alloc);
     let mut seat = 0;
-    for i in 0..iters.len() {
+    for i in 0..guides.len() {
         if holds(&guides[i], depth) {
             match joined.leap.iter(seat) {
-                Seat::Walks(walk) => next.push(walk.trie.copy())?,
+                Seat::Walks(walk) => iters[i].enter(&walk.trie),
                 Seat::Single(_) => {}
             }
             seat += 1;
-        } else {
-            next.push(iters[i].copy())?;
         }
     }
-    Ok(next)
+}
+
+/// Brings the iterators of the atoms that sit at the level back up from its key. The others stay.
+fn leave<'a, I: Indexes>(
+    _tables: &'a I,
+    iters: &mut Vec<TrieIter<'a, I::Rows>>,
+    plan: &Plan,
+    keys: &Items<Key>,
+    _key: Key,
+)
+    requires walkable { AllByRecursion IsWalkable plan.now.guides }
+    requires iters { AllZip (IsTrieOf (I.state _tables.now) (length keys.now + 1) (with_key (at keys.now) (length keys.now) _key)) plan.now.guides iters.old.items }
+    ensures { AllZip (IsTrieOf (I.state _tables.now) (length keys.now) (at keys.now)) plan.now.guides iters.new.items }
+{
+    let depth = keys.len();
+    let guides = plan.guides.as_slice();
+    for i in 0..guides.len() {
+        if holds(&guides[i], depth) {
+            iters[i].up();
+        }
+    }
 }
 
 /// The row of an atom under the keys.
@@ -155,18 +172,19 @@ fn at_leaf<I: Indexes>(
 pub(crate) fn descend<'a, I: Indexes, L>(
     alloc: Global,
     tables: &'a I,
-    iters: &[TrieIter<'a, I::Rows>],
+    iters: &mut Vec<TrieIter<'a, I::Rows>>,
     body: &Body,
     plan: &Plan,
     terms: &Items<Term>,
     keys: &mut Items<Key>,
+    noted: &mut NotedGaps,
     found: &mut Found,
     moves: &mut Moves<L>,
     first: bool,
 ) -> Result<bool, NoMemory>
     requires of_body { IsPlanOf body.now plan.now }
     requires prepared { IsPrepared body.now plan.now terms.now }
-    requires iters { AllZip (IsTrieOf (I.state tables.now) (length keys.old) (at keys.old)) plan.now.guides iters.now }
+    requires iters { AllZip (IsTrieOf (I.state tables.now) (length keys.old) (at keys.old)) plan.now.guides iters.old.items }
     requires reached { IsReached plan.now found.old.sense keys.old }
     requires right { IsRight body.now terms.now (I.state tables.now) found.old }
     // also where memory is refused
@@ -174,6 +192,7 @@ pub(crate) fn descend<'a, I: Indexes, L>(
     ensures moves { moves.old ≤ moves.new }
     ensures gains { IfOk result (λ _. GainsFewer found.old.sense found.new.sense moves.old moves.new) }
     ensures back { IfOk result (λ _. keys.new ≡ keys.old) }
+    ensures iters { IfOk result (λ _. AllZip (IsTrieOf (I.state tables.now) (length keys.old) (at keys.old)) plan.now.guides iters.new.items) }
     ensures grows { IfOk result (λ _. FoundGrows found.old found.new) }
     ensures right { IfOk result (λ _. IsRight body.now terms.now (I.state tables.now) found.new) }
     // it stops only at an answer, and only where the first suffices
@@ -194,27 +213,29 @@ pub(crate) fn descend<'a, I: Indexes, L>(
         plan,
         level,
         keys,
+        noted,
         &mut found.sense,
         moves,
     )?;
     while joined.key < END {
-        let next = deeper(alloc, tables, iters, &joined, plan, level, keys)?;
+        enter(tables, iters, &joined, plan, level, keys);
         keys.push(joined.key)?;
-        add_hits(alloc, tables, &next, plan, keys, &mut found.sense)?;
+        add_hits(alloc, tables, iters, plan, keys, &mut found.sense)?;
         let stopped = descend(
-            alloc, tables, &next, body, plan, terms, keys, found, moves, first,
+            alloc, tables, iters, body, plan, terms, keys, noted, found, moves, first,
         )?;
         keys.pop();
+        leave(tables, iters, plan, keys, joined.key);
         if stopped {
             return Ok(true);
         }
         next_key(
-            alloc,
             tables,
             &mut joined,
             plan,
             level,
             keys,
+            noted,
             &mut found.sense,
             moves,
         )?;

@@ -10,3 +10,4 @@ pub mod Advanced
 pub mod Made
 pub mod Paid
 pub mod Standing
+pub mod Shifted

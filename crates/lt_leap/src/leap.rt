@@ -140,6 +140,13 @@ impl<I: KeyIter> Leap<I> {
         Ok(())
     }
 
+    /// How many iterators there are.
+    pub fn len(&self) -> usize
+        ensures { result ≡ length self.now.iters }
+    {
+        self.iters.len()
+    }
+
     /// Iterator `i`, in the order in which they were handed in.
     pub fn iter(&self, i: usize) -> &I
         requires { i < length self.now.iters }

@@ -14,6 +14,19 @@ use lt_face::memory::NoMemory;
 use lt_face::moves::Moves;
 use lt_face::notes::Notes;
 
+/// The first of the ring goes to its end.
+fn put_last(ring: &mut Vec<u32>)
+    requires { 0 < vec_len ring.old }
+    ensures { ring.new.items ≡ drop 1 ring.old.items ++ take 1 ring.old.items }
+{
+    let first = ring[0];
+    let last = ring.len() - 1;
+    for i in 0..last {
+        ring[i] = ring[i + 1];
+    }
+    ring[last] = first;
+}
+
 /// The first of the ring seeks the bound, and goes to the ring's end.
 pub(crate) fn turn<I: KeyIter, L>(
     iters: &mut Vec<I>,
@@ -38,7 +51,7 @@ pub(crate) fn turn<I: KeyIter, L>(
     let place = ring[0] as usize;
     let iter = &mut iters[place];
     let gap = iter.seek(to, moves);
-    ring.rotate_left(1);
+    put_last(ring);
     gap
 }
 

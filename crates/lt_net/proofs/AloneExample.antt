@@ -4,7 +4,7 @@ use Rattle.lt_model.specs.declared.mark.Mark.{Mark}
 use Rattle.lt_net.specs.Same.{same_marks}
 use Rattle.lt_net.specs.declared.job.JobName.TheVariants.{Leaf, Merge, Correct}
 use Rattle.lt_net.specs.Net.{Correction, Effect, Net, Claims, Finishes, opening}
-use Rattle.lt_net.specs.Tree.{code_of}
+use Rattle.lt_net.specs.Codes.{code_of}
 use Rattle.lt_net.specs.Alone.{net_over, settled_alone, alone_events}
 
 abbrev gone : Mark

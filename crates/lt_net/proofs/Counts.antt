@@ -7,8 +7,9 @@ use Rattle.lt_model.specs.declared.mark.Mark.{Mark}
 use Rattle.lt_net.specs.declared.job.JobName.TheVariants.{Leaf, Merge, Correct}
 use Rattle.lt_net.specs.declared.job.JobState.TheVariants.{Clean}
 use Rattle.lt_net.specs.Net.{Net, State, Claims, Finishes, is_pending}
-use Rattle.lt_net.specs.Tree.{Tree, Tip, Fork, leaves, right_of, right_in, code_of, tree_of, halved_tree}
-use Rattle.lt_net.specs.Alone.{IsAlone, net_over, run_if_pending, run_events, run_all, all_events, merges_down, corrects_up, nodes, sweep_jobs, sweep, leaf_jobs, lowest_pending, chosen, round, round_events, rounds, rounds_events, alone_events, one_if, inner_below}
+use Rattle.lt_net.specs.Tree.{Tree, Tip, Fork, leaves, right_of, right_in, tree_of, halved_tree}
+use Rattle.lt_net.specs.Codes.{code_of, nodes_over}
+use Rattle.lt_net.specs.Alone.{IsAlone, net_over, run_if_pending, run_events, run_all, all_events, merges_down, corrects_up, sweep_jobs, sweep, leaf_jobs, lowest_pending, chosen, round, round_events, rounds, rounds_events, alone_events, one_if, inner_below}
 use Rattle.lt_net.proofs.Shape.{some_leaf, right_left, right_right, tree_leaves}
 use Rattle.lt_net.proofs.Runs.{run_alone, all_alone}
 use Rattle.lt_net.proofs.Sweeps.{is_net, merge_idle, correct_idle}
@@ -51,7 +52,7 @@ inner_whole (Fork l r) k e =
     let last : k - 2 * leaves l + 1 ≡ 2 * leaves r = omega (arith, e, some_leaf r) in
     omega (arith, inner_right l r (inner_whole l) (k - 2 * leaves l) k at, inner_whole r (k - 2 * leaves l) last)
 
-pub inner_nodes : (n : ℕ) → inner_below (tree_of n) (nodes n) ≡ n - 1
+pub inner_nodes : (n : ℕ) → inner_below (tree_of n) (nodes_over n) ≡ n - 1
 inner_nodes zero = refl
 inner_nodes (suc n) =
     let l : leaves (halved_tree (suc n)) ≡ suc n = tree_leaves (suc n) (omega arith) in
@@ -114,10 +115,10 @@ module _ (effect : ℕ → List Mark → List Mark) (n : ℕ) where
   -- a sweep runs each inner job at most once
   pub sweep_length : (s : State) → IsAlone (net_over effect n) s → length (all_events (net_over effect n) s (sweep_jobs n)) ≤ 4 * (n - 1)
   sweep_length s a =
-      let merged = run_all (net_over effect n) s (merges_down (nodes n)) in
-      let first = merges_length (nodes n) s a in
-      let second = corrects_length (nodes n) 0 (nodes n) merged (omega arith) (all_alone (net_over effect n) (is_net effect n) (merges_down (nodes n)) s a) in
-      omega (arith, first, second, events_append (net_over effect n) (merges_down (nodes n)) (corrects_up 0 (nodes n)) s, inner_nodes n)
+      let merged = run_all (net_over effect n) s (merges_down (nodes_over n)) in
+      let first = merges_length (nodes_over n) s a in
+      let second = corrects_length (nodes_over n) 0 (nodes_over n) merged (omega arith) (all_alone (net_over effect n) (is_net effect n) (merges_down (nodes_over n)) s a) in
+      omega (arith, first, second, events_append (net_over effect n) (merges_down (nodes_over n)) (corrects_up 0 (nodes_over n)) s, inner_nodes n)
 
   leaf_length : (s : State) (o : Option ℕ) → length (all_events (net_over effect n) s (leaf_jobs o)) ≤ 2
   leaf_length s None = omega arith

@@ -7,7 +7,8 @@ use Rattle.lt_net.specs.declared.job.JobState.{JobState}
 use Rattle.lt_net.specs.declared.job.JobState.TheVariants.{Clean, Pending, Running, Dirty}
 use Rattle.lt_net.specs.declared.job.JobName.TheVariants.{Leaf, Merge, Correct}
 use Rattle.lt_net.specs.Net.{Correction, Effect, Net, State, Event, Claims, Finishes, replay, opening}
-use Rattle.lt_net.specs.Tree.{circuit_net, tree_of, code_of}
+use Rattle.lt_net.specs.Tree.{circuit_net, tree_of}
+use Rattle.lt_net.specs.Codes.{code_of}
 
 abbrev gone : Mark
 gone = record { relation = 0; row = 1 ∷ []; plus = false }

@@ -11,7 +11,8 @@ use Rattle.lt_net.specs.declared.job.JobState.TheVariants.{Clean, Pending, Runni
 use Rattle.lt_net.specs.declared.job.JobName.{JobName}
 use Rattle.lt_net.specs.declared.job.JobName.TheVariants.{Leaf, Merge, Correct}
 use Rattle.lt_net.specs.Net.{Cell, Correction, Net, State, Claim, Event, Claims, Finishes, Abandons, same_cell, has_cell, update, read, first_of, second_of, is_pending, claimed, finished, abandoned, claim_of, claim_step, finish_step, abandon_step, step, replay, opening}
-use Rattle.lt_net.specs.Tree.{leaves_in, job_of, outputs_of, gives_of, circuit_net, tree_of, GiveMarks}
+use Rattle.lt_net.specs.Tree.{leaves_in, outputs_of, gives_of, circuit_net, tree_of, GiveMarks}
+use Rattle.lt_net.specs.Codes.{job_of}
 use Rattle.lt_net.proofs.Kept.{given}
 use Rattle.lt_net.proofs.Shape.{lt_tells, tree_leaves}
 

@@ -1,10 +1,12 @@
 -- Replays with one more event, and jobs that have inputs as jobs of the tree.
-use Rattle.std.proofs.Common.{◌≡◌, ℕ, zero, suc, ◌+◌, ◌-◌, ◌*◌, ◌<◌, inl, inr, List, [], ◌∷◌, ◌++◌, Option, Some, None, refl, ap, arith, ◌∙◌, ◌≢◌, true}
+use Rattle.std.proofs.Common.{◌≡◌, ℕ, zero, suc, ◌+◌, ◌*◌, ◌<◌, inl, inr, List, [], ◌∷◌, ◌++◌, Option, Some, None, refl, ap, arith, ◌∙◌, ◌≢◌, true}
 use Rattle.lt_net.specs.declared.job.JobName.{JobName}
 use Rattle.lt_net.specs.declared.job.JobName.TheVariants.{Leaf, Merge, Correct}
 use Rattle.lt_net.specs.Net.{Cell, Correction, Effect, Net, State, Event, step, replay}
 use Rattle.std.specs.Prelude.{nat_lt}
-use Rattle.lt_net.specs.Tree.{leaves_in, tree_of, halved_tree, leaves, right_in, right_of, node_in, node_of, inputs_of, if_inner, code_of}
+use Rattle.lt_net.specs.Tree.{leaves_in, tree_of, halved_tree, leaves, right_in, right_of, node_in, node_of, inputs_of, if_inner}
+use Rattle.lt_net.specs.Codes.{code_of, codes_over}
+use Rattle.lt_net.proofs.Codes.{code_within}
 use Rattle.lt_net.proofs.Shape.{lt_tells, lt_true, lt_false, right_is, tree_leaves}
 
 -- ---- replays
@@ -43,10 +45,10 @@ leaf_inside (suc n) i some = elim (lt_tells i (leaves (halved_tree (suc n)))) [
   | inr h ↦ absurd (some (rw h.0))
 ]
 
-pub job_inside : (n : ℕ) (name : JobName) → (inputs_of (tree_of n) name ≡ [] → ⊥) → code_of name < 3 * (2 * n - 1)
-job_inside n (Leaf i) some = omega (arith, leaf_inside n i some)
-job_inside n (Merge v) some = omega (arith, inner_inside n v (right_in (tree_of n) v) (λ r. Effect (v + 1) ∷ Effect r ∷ []) refl some)
-job_inside n (Correct v) some = omega (arith, inner_inside n v (right_in (tree_of n) v) (λ r. Correction v ∷ Effect (v + 1) ∷ []) refl some)
+pub job_inside : (n : ℕ) (name : JobName) → (inputs_of (tree_of n) name ≡ [] → ⊥) → code_of name < codes_over n
+job_inside n (Leaf i) some = code_within n (Leaf i) (omega (arith, leaf_inside n i some))
+job_inside n (Merge v) some = code_within n (Merge v) (omega (arith, inner_inside n v (right_in (tree_of n) v) (λ r. Effect (v + 1) ∷ Effect r ∷ []) refl some))
+job_inside n (Correct v) some = code_within n (Correct v) (omega (arith, inner_inside n v (right_in (tree_of n) v) (λ r. Correction v ∷ Effect (v + 1) ∷ []) refl some))
 
 -- ---- the tree over some leaves
 

@@ -1,51 +1,17 @@
 -- The jobs of a tree are a net, and where each is done the tree is done.
-use Rattle.std.proofs.Common.{◌≡◌, ℕ, ◌+◌, ◌*◌, ◌/◌, ◌%◌, ◌⊎◌, ◌||◌, inl, inr, Bool, true, false, List, [], ◌∷◌, Option, Some, None, refl, sym, ap, ◌∙◌, arith}
-use Rattle.std.specs.Prelude.{if◌then◌else◌, ◌==◌, nat_lt}
-use Rattle.std.proofs.lemmas.Bool.Decides.{eqb_tells, nat_tests}
+use Rattle.std.proofs.Common.{◌≡◌, ℕ, ◌+◌, ◌⊎◌, ◌||◌, inl, inr, Bool, true, false, List, [], ◌∷◌, Option, Some, None, refl, sym, ap, ◌∙◌, arith}
+use Rattle.std.specs.Prelude.{if◌then◌else◌, nat_lt}
+use Rattle.std.proofs.lemmas.Bool.Decides.{eqb_tells}
 use Rattle.lt_model.specs.declared.mark.Mark.{Mark}
 use Rattle.lt_model.specs.Marks.{and_then}
 use Rattle.lt_net.specs.declared.job.JobName.{JobName}
 use Rattle.lt_net.specs.declared.job.JobName.TheVariants.{Leaf, Merge, Correct}
 use Rattle.lt_net.specs.Net.{Cell, Correction, Effect, same_cell, has_cell, read, first_of, second_of}
-use Rattle.lt_net.specs.Tree.{Tree, leaves, right_of, node_of, parent_of, leaf_at, right_in, node_in, leaves_in, code_of, job_of, if_inner, inputs_of, outputs_of, gives_of, is_leaf_job, circuit_net}
+use Rattle.lt_net.specs.Tree.{Tree, leaves, right_of, node_of, parent_of, leaf_at, right_in, node_in, leaves_in, if_inner, inputs_of, outputs_of, gives_of, is_leaf_job, circuit_net}
+use Rattle.lt_net.specs.Codes.{job_of}
+use Rattle.lt_net.proofs.Codes.{same_code}
 use Rattle.lt_net.proofs.Kept.{IsNet}
-use Rattle.lt_net.proofs.Shape.{lt_tells, lt_false, eq_true, eq_false, right_is, leaf_is}
-
--- ---- codes
-
-pub job_of-leaf : (i : ℕ) → job_of (3 * i) ≡ Leaf i
-job_of-leaf i =
-    let a : (3 * i % 3 == 0) ≡ true = grind (arith, nat_tests) in
-    let b : 3 * i / 3 ≡ i = omega arith in
-    rw (a, b)
-
-pub job_of-merge : (v : ℕ) → job_of (3 * v + 1) ≡ Merge v
-job_of-merge v =
-    let a : ((3 * v + 1) % 3 == 0) ≡ false = eq_false ((3 * v + 1) % 3) 0 (omega arith) in
-    let b : ((3 * v + 1) % 3 == 1) ≡ true = grind (arith, nat_tests) in
-    let c : (3 * v + 1) / 3 ≡ v = omega arith in
-    rw (a, b, c)
-
-pub job_of-correct : (v : ℕ) → job_of (3 * v + 2) ≡ Correct v
-job_of-correct v =
-    let a : ((3 * v + 2) % 3 == 0) ≡ false = eq_false ((3 * v + 2) % 3) 0 (omega arith) in
-    let b : ((3 * v + 2) % 3 == 1) ≡ false = eq_false ((3 * v + 2) % 3) 1 (omega arith) in
-    let c : (3 * v + 2) / 3 ≡ v = omega arith in
-    rw (a, b, c)
-
-pub job_of-code : (name : JobName) → job_of (code_of name) ≡ name
-job_of-code (Leaf i) = job_of-leaf i
-job_of-code (Merge v) = job_of-merge v
-job_of-code (Correct v) = job_of-correct v
-
-pub code_of-job : (code : ℕ) → code_of (job_of code) ≡ code
-code_of-job code = elim (eqb_tells (code % 3) 0) [
-  | inl h ↦ rw h.0 (omega arith)
-  | inr h ↦ elim (eqb_tells (code % 3) 1) [
-    | inl g ↦ rw (h.0, g.0) (omega arith)
-    | inr g ↦ rw (h.0, g.0) (omega arith)
-  ]
-]
+use Rattle.lt_net.proofs.Shape.{lt_tells, lt_false, eq_true, right_is, leaf_is}
 
 -- ---- each cell has one writer: the job that its place names
 
@@ -107,12 +73,9 @@ writes_none (Leaf i) x e = let f : has_cell x [] ≡ true = rw (lt_false i 0 (om
 writes_none (Merge v) x e = cc
 writes_none (Correct v) x e = cc
 
-job_from_name : (j k : ℕ) → job_of j ≡ job_of k → j ≡ k
-job_from_name j k e = sym (code_of-job j) ∙ ap code_of e ∙ code_of-job k
-
 one_writer : (t : Option Tree) (x : Cell) (j k : ℕ) → has_cell x (outputs_of t (job_of j)) ≡ true → has_cell x (outputs_of t (job_of k)) ≡ true → j ≡ k
 one_writer None x j k p q = absurd (writes_none (job_of j) x p)
-one_writer (Some t) x j k p q = job_from_name j k (writes t (job_of j) x p ∙ sym (writes t (job_of k) x q))
+one_writer (Some t) x j k p q = same_code j k (writes t (job_of j) x p ∙ sym (writes t (job_of k) x q))
 
 module _ (effect : ℕ → List Mark → List Mark) where
   -- an inner job gives empty marks of empty marks

@@ -2,6 +2,7 @@ pub mod Equal
 pub mod Kept
 pub mod Fitting
 pub mod Shape
+pub mod Codes
 pub mod Inside
 pub mod Solve
 pub mod Jobs

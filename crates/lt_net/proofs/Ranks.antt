@@ -7,11 +7,13 @@ use Rattle.lt_net.specs.declared.job.JobName.{JobName}
 use Rattle.lt_net.specs.declared.job.JobName.TheVariants.{Leaf, Merge, Correct}
 use Rattle.lt_net.specs.declared.job.JobState.TheVariants.{Clean, Pending}
 use Rattle.lt_net.specs.Net.{Cell, Correction, Effect, Net, State, same_cell, has_cell, read}
-use Rattle.lt_net.specs.Tree.{Tree, leaves, right_of, node_of, leaf_at, node_in, leaves_in, code_of, job_of, if_inner, inputs_of, outputs_of, gives_of, circuit_net}
+use Rattle.lt_net.specs.Tree.{Tree, leaves, right_of, node_of, leaf_at, node_in, leaves_in, if_inner, inputs_of, outputs_of, gives_of, circuit_net}
+use Rattle.lt_net.specs.Codes.{code_of, job_of}
 use Rattle.lt_net.specs.Alone.{IsAlone, ran, run_if_pending}
 use Rattle.lt_net.proofs.Kept.{IsNet}
 use Rattle.lt_net.proofs.Shape.{lt_tells, lt_false, eq_false, leaf_is}
-use Rattle.lt_net.proofs.Jobs.{job_of-code, same_itself}
+use Rattle.lt_net.proofs.Codes.{job_of-code}
+use Rattle.lt_net.proofs.Jobs.{same_itself}
 use Rattle.lt_net.proofs.Jobs.{has_one, has_two}
 use Rattle.lt_net.proofs.Spans.{split_is, end_at, leaf_end, rank, rank_in}
 use Rattle.lt_net.proofs.Runs.{ran_other, ran_own, ran_keeps, run_cases}

@@ -4,7 +4,8 @@ use Rattle.lt_model.specs.declared.mark.Mark.{Mark}
 use Rattle.lt_net.specs.declared.job.JobState.TheVariants.{Clean}
 use Rattle.lt_net.specs.declared.job.JobName.TheVariants.{Leaf}
 use Rattle.lt_net.specs.Net.{Event, State, replay, opening, IsSettled}
-use Rattle.lt_net.specs.Tree.{code_of, tree_of}
+use Rattle.lt_net.specs.Tree.{tree_of}
+use Rattle.lt_net.specs.Codes.{code_of}
 use Rattle.lt_net.proofs.Kept.{opening_kept, replay_kept}
 use Rattle.lt_net.specs.Alone.{net_over, IsAlone, IsUnclaimed, IsSwept, run_all, all_events, sweep_jobs, sweep, chosen, round, round_events, rounds, rounds_events, settled_alone, alone_events}
 use Rattle.lt_net.proofs.Runs.{all_replay, replay_append}

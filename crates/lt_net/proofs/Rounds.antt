@@ -8,10 +8,11 @@ use Rattle.lt_net.specs.declared.job.JobState.TheVariants.{Clean, Pending, Runni
 use Rattle.lt_net.specs.declared.job.JobName.{JobName}
 use Rattle.lt_net.specs.declared.job.JobName.TheVariants.{Leaf, Merge, Correct}
 use Rattle.lt_net.specs.Net.{Cell, Correction, Effect, State, has_cell, is_pending, IsSettled}
-use Rattle.lt_net.specs.Tree.{Tree, leaves, node_of, leaves_in, node_in, code_of, job_of, inputs_of, outputs_of, tree_of}
+use Rattle.lt_net.specs.Tree.{Tree, leaves, node_of, leaves_in, node_in, inputs_of, outputs_of, tree_of}
+use Rattle.lt_net.specs.Codes.{code_of, job_of}
 use Rattle.lt_net.specs.Alone.{IsAlone, IsSwept, net_over, run_if_pending, run_all, sweep, lowest_pending, leaf_jobs, chosen, round, rounds, settled_alone}
 use Rattle.lt_net.proofs.Shape.{lt_tells, lt_false, tree_leaves}
-use Rattle.lt_net.proofs.Jobs.{job_of-code, code_of-job}
+use Rattle.lt_net.proofs.Codes.{job_of-code, code_of-job}
 use Rattle.lt_net.proofs.Jobs.{has_one}
 use Rattle.lt_net.proofs.Spans.{leaf_end, rank, rank_in}
 use Rattle.lt_net.proofs.Runs.{clean_else, run_clean, all_alone}

@@ -8,14 +8,16 @@ use Rattle.lt_delta.proofs.Merges.{after_none}
 use Rattle.lt_net.specs.declared.job.JobName.{JobName}
 use Rattle.lt_net.specs.declared.job.JobName.TheVariants.{Leaf, Merge, Correct}
 use Rattle.lt_net.specs.Net.{Cell, Correction, Effect, State, Event, same_cell, has_cell, read, first_of, replay, opening, IsSettled}
-use Rattle.lt_net.specs.Tree.{Tree, Tip, Fork, leaves, right_of, node_of, right_in, node_in, leaves_in, code_of, job_of, if_inner, inputs_of, outputs_of, gives_of, is_leaf_job, circuit_net, before, then_all, leaf_value, IsSerial, GiveMarks, halved, tree_of}
+use Rattle.lt_net.specs.Tree.{Tree, Tip, Fork, leaves, right_of, node_of, right_in, node_in, leaves_in, if_inner, inputs_of, outputs_of, gives_of, is_leaf_job, circuit_net, before, then_all, leaf_value, IsSerial, GiveMarks, halved, tree_of}
+use Rattle.lt_net.specs.Codes.{code_of, job_of}
 use Rattle.lt_net.specs.Kept.{IsDone, IsKept}
 use Rattle.lt_net.proofs.Kept.{replay_kept, opening_kept}
 use Rattle.lt_net.proofs.Fitting.{marks_of}
 use Rattle.lt_net.proofs.Shape.{lt_true, lt_false, eq_false, right_is, right_left, right_right, node_left, node_right, some_leaf, halved_leaves}
 use Rattle.lt_net.proofs.Solve.{IsInnerDone, AreDone, solved, leaf_solved}
 use Rattle.lt_net.proofs.Solve as S
-use Rattle.lt_net.proofs.Jobs.{job_of-code, circuit_is_net, same_itself}
+use Rattle.lt_net.proofs.Codes.{job_of-code}
+use Rattle.lt_net.proofs.Jobs.{circuit_is_net, same_itself}
 
 module _ (effect : ℕ → List Mark → List Mark) (t : Tree) (s : State) (done : (j : ℕ) → IsDone (circuit_net effect (Some t)) s j) where
   -- what a job that is done gave, by the job's name

@@ -7,11 +7,13 @@ use Rattle.lt_net.specs.declared.job.JobName.{JobName}
 use Rattle.lt_net.specs.declared.job.JobName.TheVariants.{Merge, Correct}
 use Rattle.lt_net.specs.declared.job.JobState.TheVariants.{Clean}
 use Rattle.lt_net.specs.Net.{Cell, Correction, Effect, Net, State, has_cell}
-use Rattle.lt_net.specs.Tree.{Tree, leaves, right_of, right_in, code_of, if_inner, inputs_of, outputs_of, circuit_net, tree_of, halved_tree}
-use Rattle.lt_net.specs.Alone.{IsAlone, IsSwept, net_over, run_if_pending, run_all, merges_down, corrects_up, nodes, sweep_jobs, sweep}
+use Rattle.lt_net.specs.Tree.{Tree, leaves, right_of, right_in, if_inner, inputs_of, outputs_of, circuit_net, tree_of, halved_tree}
+use Rattle.lt_net.specs.Codes.{code_of, nodes_over}
+use Rattle.lt_net.specs.Alone.{IsAlone, IsSwept, net_over, run_if_pending, run_all, merges_down, corrects_up, sweep_jobs, sweep}
 use Rattle.lt_net.proofs.Kept.{IsNet}
 use Rattle.lt_net.proofs.Shape.{lt_tells, eq_false, right_is, tree_leaves}
-use Rattle.lt_net.proofs.Jobs.{job_of-code, circuit_is_net}
+use Rattle.lt_net.proofs.Codes.{job_of-code}
+use Rattle.lt_net.proofs.Jobs.{circuit_is_net}
 use Rattle.lt_net.proofs.Jobs.{has_two}
 use Rattle.lt_net.proofs.Runs.{IsUnread, run_alone, run_clean, run_keeps, run_append, all_alone}
 use Rattle.lt_net.proofs.Ranks.{IsRanked, IsReady, run_ready, circuit_is_ranked}
@@ -84,7 +86,7 @@ module _ (effect : ℕ → List Mark → List Mark) (t : Option Tree) where
       subst (λ n. has_cell x (outputs_of t n) ≡ false) (sym (job_of-code b)) (h x e')
 
 -- behind the last node there is no inner one
-pub inner_none : (n v : ℕ) → nodes n ≤ v → right_in (tree_of n) v ≡ None
+pub inner_none : (n v : ℕ) → nodes_over n ≤ v → right_in (tree_of n) v ≡ None
 inner_none zero v h = refl
 inner_none (suc n) v h = by_case (right_of (halved_tree (suc n)) v) refl
   where
@@ -123,7 +125,7 @@ module _ (effect : ℕ → List Mark → List Mark) (n : ℕ) (s : State) (a : I
       let none : inputs_of (tree_of n) (Correct v) ≡ [] = ap (λ o. if_inner o (λ right. Correction v ∷ Effect (v + 1) ∷ [])) e in
       a.kept.idle (code_of (Correct v)) (ap (inputs_of (tree_of n)) (job_of-code (Correct v)) ∙ none)
 
-  pub merges_start : MergesClean s (nodes n)
+  pub merges_start : MergesClean s (nodes_over n)
   merges_start w h = merge_idle w (inner_none n w h)
 
   pub merge_step : (v : ℕ) → MergesClean s (suc v) → MergesClean (run_if_pending (net_over effect n) s (code_of (Merge v))) v
@@ -153,14 +155,14 @@ module _ (effect : ℕ → List Mark → List Mark) (n : ℕ) (s : State) (a : I
         (unread_from effect (tree_of n) (Correct v) (Correct w) (correct_apart (tree_of n) w v (omega (arith, e.1)))) (h w (omega (arith, e.1)))
   ]
 
-  pub swept_from : MergesClean s 0 → CorrectsClean s (nodes n) → IsSwept s
+  pub swept_from : MergesClean s 0 → CorrectsClean s (nodes_over n) → IsSwept s
   swept_from m c = record {
     merges = λ v. m v (omega arith);
     corrects = λ v. by_case v;
   }
     where
       by_case : (v : ℕ) → s.status (code_of (Correct v)) ≡ Clean
-      by_case v = elim (lt_tells v (nodes n)) [ inl h ↦ c v h.1 | inr h ↦ correct_idle v (inner_none n v h.1) ]
+      by_case v = elim (lt_tells v (nodes_over n)) [ inl h ↦ c v h.1 | inr h ↦ correct_idle v (inner_none n v h.1) ]
 
 -- ---- the whole sweep
 
@@ -187,8 +189,8 @@ module _ (effect : ℕ → List Mark → List Mark) (n : ℕ) where
       (correct_keeps effect n s a v m) (correct_step effect n s a v h)
 
   module _ (s : State) (a : IsAlone (net_over effect n) s) where
-    pub sweep_is : sweep (net_over effect n) n s ≡ run_all (net_over effect n) (run_all (net_over effect n) s (merges_down (nodes n))) (corrects_up 0 (nodes n))
-    sweep_is = run_append (net_over effect n) (merges_down (nodes n)) (corrects_up 0 (nodes n)) s
+    pub sweep_is : sweep (net_over effect n) n s ≡ run_all (net_over effect n) (run_all (net_over effect n) s (merges_down (nodes_over n))) (corrects_up 0 (nodes_over n))
+    sweep_is = run_append (net_over effect n) (merges_down (nodes_over n)) (corrects_up 0 (nodes_over n)) s
 
     pub sweep_alone : IsAlone (net_over effect n) (sweep (net_over effect n) n s)
     sweep_alone = all_alone (net_over effect n) (is_net effect n) (sweep_jobs n) s a
@@ -199,9 +201,9 @@ module _ (effect : ℕ → List Mark → List Mark) (n : ℕ) where
     -- after a sweep only leaves may be Pending
     pub sweep_settles_inner : IsSwept (sweep (net_over effect n) n s)
     sweep_settles_inner =
-        let merged = run_all (net_over effect n) s (merges_down (nodes n)) in
-        let m : MergesClean merged 0 = merges_all (nodes n) s a (merges_start effect n s a) in
-        let b : IsAlone (net_over effect n) merged = all_alone (net_over effect n) (is_net effect n) (merges_down (nodes n)) s a in
-        let c = corrects_all (nodes n) 0 (nodes n) merged (omega arith) b m (λ w lt. absurd (omega arith)) in
+        let merged = run_all (net_over effect n) s (merges_down (nodes_over n)) in
+        let m : MergesClean merged 0 = merges_all (nodes_over n) s a (merges_start effect n s a) in
+        let b : IsAlone (net_over effect n) merged = all_alone (net_over effect n) (is_net effect n) (merges_down (nodes_over n)) s a in
+        let c = corrects_all (nodes_over n) 0 (nodes_over n) merged (omega arith) b m (λ w lt. absurd (omega arith)) in
         swept_from effect n (sweep (net_over effect n) n s) sweep_alone
-        (subst (λ t. MergesClean t 0) (sym sweep_is) c.0) (subst (λ t. CorrectsClean t (nodes n)) (sym sweep_is) c.1)
+        (subst (λ t. MergesClean t 0) (sym sweep_is) c.0) (subst (λ t. CorrectsClean t (nodes_over n)) (sym sweep_is) c.1)

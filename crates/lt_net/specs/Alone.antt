@@ -1,11 +1,12 @@
 -- What a worker alone does: it runs jobs that are Pending, one at a time, in sweeps and rounds.
-use Rattle.std.specs.Prelude.{◌≡◌, ℕ, zero, suc, ◌*◌, ◌+◌, ◌-◌, true, false, if◌then◌else◌, List, [], ◌∷◌, ◌++◌, Option, Some, None}
+use Rattle.std.specs.Prelude.{◌≡◌, ℕ, zero, suc, ◌+◌, true, false, if◌then◌else◌, List, [], ◌∷◌, ◌++◌, Option, Some, None}
 use Rattle.lt_model.specs.declared.mark.Mark.{Mark}
 use Rattle.lt_net.specs.declared.job.JobState.TheVariants.{Clean}
 use Rattle.lt_net.specs.declared.job.JobName.TheVariants.{Leaf, Merge, Correct}
 use Rattle.lt_net.specs.Kept.{IsKept}
 use Rattle.lt_net.specs.Net.{Net, State, Claim, Event, Claims, Finishes, is_pending, read, claimed, finished}
-use Rattle.lt_net.specs.Tree.{Tree, right_in, code_of, circuit_net, tree_of}
+use Rattle.lt_net.specs.Tree.{Tree, right_in, circuit_net, tree_of}
+use Rattle.lt_net.specs.Codes.{code_of, nodes_over}
 
 -- the net of a circuit over n leaves
 abbrev pub net_over : (ℕ → List Mark → List Mark) → ℕ → Net
@@ -58,12 +59,8 @@ abbrev pub corrects_up : (v count : ℕ) → List ℕ
 corrects_up v zero = []
 corrects_up v (suc count) = code_of (Correct v) ∷ corrects_up (suc v) count
 
--- the nodes of a tree over n leaves
-abbrev pub nodes : ℕ → ℕ
-nodes n = 2 * n - 1
-
 abbrev pub sweep_jobs : ℕ → List ℕ
-sweep_jobs n = merges_down (nodes n) ++ corrects_up 0 (nodes n)
+sweep_jobs n = merges_down (nodes_over n) ++ corrects_up 0 (nodes_over n)
 
 -- the Merges bottom up, then the Corrects top down
 abbrev pub sweep : Net → ℕ → State → State

@@ -1,11 +1,12 @@
 -- The tree of a circuit, its jobs as a net, and what serial running gives.
-use Rattle.std.specs.Prelude.{◌≡◌, ℕ, zero, suc, ◌*◌, ◌+◌, ◌-◌, ◌/◌, ◌%◌, ◌<◌, Bool, true, false, if◌then◌else◌, List, [], ◌∷◌, Option, Some, None, ◌==◌, nat_lt}
+use Rattle.std.specs.Prelude.{◌≡◌, ℕ, zero, suc, ◌*◌, ◌+◌, ◌-◌, ◌/◌, ◌<◌, Bool, true, false, if◌then◌else◌, List, [], ◌∷◌, Option, Some, None, ◌==◌, nat_lt}
 use Rattle.std.specs.Option.{option_map}
 use Rattle.lt_model.specs.declared.mark.Mark.{Mark}
 use Rattle.lt_model.specs.Marks.{AreMarks, and_then}
 use Rattle.lt_net.specs.declared.job.JobName.{JobName}
 use Rattle.lt_net.specs.declared.job.JobName.TheVariants.{Leaf, Merge, Correct}
 use Rattle.lt_net.specs.Net.{Cell, Correction, Effect, Net, State, same_cell, first_of, second_of}
+use Rattle.lt_net.specs.Codes.{code_of, job_of}
 
 pub data Tree : Type 0 where
   Tip : Tree
@@ -68,14 +69,6 @@ node_in None i = 0
 node_in (Some t) i = node_of t i
 
 -- ---- the jobs
-
-abbrev pub code_of : JobName → ℕ
-code_of (Leaf i) = 3 * i
-code_of (Merge v) = 3 * v + 1
-code_of (Correct v) = 3 * v + 2
-
-abbrev pub job_of : ℕ → JobName
-job_of code = if code % 3 == 0 then Leaf (code / 3) else (if code % 3 == 1 then Merge (code / 3) else Correct (code / 3))
 
 -- cells of an inner node, of which there are none without a right child
 abbrev pub if_inner : Option ℕ → (ℕ → List Cell) → List Cell

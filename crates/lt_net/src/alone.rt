@@ -4,7 +4,7 @@ ghost use Rattle.lt_model.specs.declared.mark.Mark.{Mark};
 ghost use Rattle.lt_net.specs.declared.job.JobState.TheVariants.{Clean};
 ghost use Rattle.lt_net.specs.declared.job.JobName.TheVariants.{Leaf};
 ghost use Rattle.lt_net.specs.Net.{Event, State, replay, opening, IsSettled};
-ghost use Rattle.lt_net.specs.Tree.{code_of};
+ghost use Rattle.lt_net.specs.Codes.{code_of};
 ghost use Rattle.lt_net.specs.Alone.{net_over, IsUnclaimed, IsSwept, run_all, sweep, rounds, settled_alone, alone_events};
 
 /// The Merges bottom up and then the Corrects top down, each where it is Pending, leave only leaves to be run.

@@ -1,6 +1,6 @@
 //! Jobs: their names and states.
-ghost use Rattle.std.specs.Prelude.{◌≡◌, ◌+◌, ◌*◌, ◌<◌, ◌^◌};
-ghost use Rattle.lt_net.specs.Tree.{code_of, job_of};
+ghost use Rattle.std.specs.Prelude.{◌≡◌, ◌+◌, ◌-◌, ◌*◌, ◌<◌, ◌^◌};
+ghost use Rattle.lt_net.specs.Codes.{code_of, codes_over, job_of, nodes_over, with_kind};
 
 /// What a job waits for.
 #[derive(Clone, Copy, PartialEq, Eq)]
@@ -52,4 +52,28 @@ impl JobName {
             JobName::Correct(code / 3)
         }
     }
+}
+
+/// A number with one of three kinds, 0, 1 or 2, as one number.
+pub fn with_kind(number: u32, kind: u32) -> u32
+    requires { with_kind number kind < 2 ^ 32 }
+    ensures { result ≡ with_kind number kind }
+{
+    3 * number + kind
+}
+
+/// How many nodes a tree over so many leaves has.
+pub fn nodes_over(leaves: u32) -> u32
+    requires { 2 * leaves < 2 ^ 32 }
+    ensures { result ≡ nodes_over leaves }
+{
+    (2 * leaves).saturating_sub(1)
+}
+
+/// How many codes they have. The code of each job of the tree is below that.
+pub fn codes_over(leaves: u32) -> u32
+    requires { codes_over leaves < 2 ^ 32 }
+    ensures { result ≡ codes_over leaves }
+{
+    3 * nodes_over(leaves)
 }

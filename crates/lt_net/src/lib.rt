@@ -7,5 +7,5 @@ mod job;
 mod laws;
 
 pub use alone::{alone_settles, each_round_one_leaf, sweep_settles_inner};
-pub use job::{JobName, JobState};
+pub use job::{JobName, JobState, codes_over, nodes_over, with_kind};
 pub use laws::{every_event_keeps, settled_is_serial};

@@ -13,6 +13,7 @@ use Rattle.lt_face.proofs.Above.{find_agree}
 use Rattle.lt_model.proofs.Laws.{itself}
 use Rattle.lt_flat.specs.Flat.{kept}
 use Rattle.lt_over.specs.Overlaid.{overlaid, lesser, is_reached}
+use Rattle.lt_over.proofs.Overlays.{bare_rows}
 
 -- a row above one that isn't below q isn't below q
 pub up_from : (a b q : Row) → row_cmp a b ≡ Less → is_lt (row_cmp a q) ≡ false → is_lt (row_cmp b q) ≡ false
@@ -102,7 +103,7 @@ kept_past p (x ∷ base) minus r up rises h out =
 
 -- ---- fewer rows are left
 
-le_filter : (p q : Row → Bool) (rows : List Row) → ((s : Row) → q s ≡ true → p s ≡ true) → length (filter q rows) ≤ length (filter p rows)
+pub le_filter : (p q : Row → Bool) (rows : List Row) → ((s : Row) → q s ≡ true → p s ≡ true) → length (filter q rows) ≤ length (filter p rows)
 le_filter p q [] more = omega arith
 le_filter p q (x ∷ rows) more =
     elim (q x) as (λ b. q x ≡ b → length (cond b (x ∷ filter q rows) (filter q rows)) ≤ length (filter p (x ∷ rows))) [
@@ -297,3 +298,7 @@ from_stops base minus q r more up h reached = stops (λ s. not (is_lt (row_cmp s
 
 pub above_stops : (base minus : List Row) (r s : Row) (more : Option Row) → IsAscending base → first_above base r ≡ Some s → is_reached more s ≡ true → lesser (first_above (kept base minus) r) more ≡ more
 above_stops base minus r s more up h reached = stops (λ t. is_lt (row_cmp r t)) base minus s more up h reached
+
+-- with nothing laid over it the base's least row is the least
+pub first-bare : (base minus plus : List Row) (q : Row) (first : Option Row) → minus ≡ [] → plus ≡ [] → first ≡ first_from base q → first ≡ first_from (overlaid base minus plus) q
+first-bare base minus plus q first none no_more is = is ∙ ap (λ (rows : List Row). first_from rows q) (sym (bare_rows base minus plus none no_more))

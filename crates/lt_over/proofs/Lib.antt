@@ -1,4 +1,6 @@
+pub mod Candidates
 pub mod Counts
 pub mod Edited
 pub mod Firsts
 pub mod Overlays
+pub mod Stacks

@@ -185,7 +185,7 @@ has-end [] q r = ap (λ b. b || false) (flips q r) ∙ alone (is_eq (row_cmp r q
 has-end (x ∷ rows) q r = ap (λ b. is_eq (row_cmp x r) || b) (has-end rows q r) ∙ sym (grouped (is_eq (row_cmp x r)) (has_row rows r) (is_eq (row_cmp r q)))
 
 -- a row more is taken out
-one_less : (base minus : List Row) (row : Row) → kept base (minus ++ row ∷ []) ≡ without_row (kept base minus) row
+pub one_less : (base minus : List Row) (row : Row) → kept base (minus ++ row ∷ []) ≡ without_row (kept base minus) row
 one_less [] minus row = refl
 one_less (r ∷ base) minus row =
     ap (λ b. cond (not b) (r ∷ kept base (minus ++ row ∷ [])) (kept base (minus ++ row ∷ []))) (has-end minus row r)

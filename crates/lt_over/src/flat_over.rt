@@ -1,25 +1,30 @@
 //! `FlatOver`: a sorted vector of rows with edits laid over it.
-ghost use Rattle.std.specs.Prelude.{◌≡◌, fold, IfOk, OnOk, OnErr};
+ghost use Rattle.std.specs.Prelude.{◌≡◌, fold, map, IfOk, OnOk, OnErr};
+ghost use Rattle.std.specs.Arc.{arc_value};
 ghost use Rattle.std.specs.List.{AllByRecursion};
 ghost use Rattle.lt_face.specs.Rows.{IsRow, IsRowSet, with_row, without_row};
 ghost use Rattle.lt_flat.specs.Flat.{kept};
+ghost use Rattle.lt_over.specs.Layers.{stacked};
 ghost use Rattle.lt_over.specs.Overlaid.{overlaid};
 
+use crate::layer::Layer;
 use crate::listing::listed;
 use crate::over::Over;
+use crate::stack::Stack;
 use lt_face::{Key, Near, NoMemory, Row, RowList, RowReads, RowSet};
 use lt_flat::FlatRows;
 use std::alloc::Global;
 use std::marker::Model;
+use std::sync::Arc;
 
 /// So many edits may lie over a sorted vector, or an eighth of its length.
 const FEW: usize = 256;
 
-/// A sorted vector of rows with two layers of edits over it: those of a state that is kept, which stay there until they are
-/// many, and over them those of the states that are made from it.
+/// A sorted vector of rows with edits over it: those of a state that is kept, which stay there until they are many; over them
+/// layers that other sets share; and over these the edits of one state, made in place.
 #[derive(Drop)]
 pub struct FlatOver {
-    set: Over<Over<FlatRows>>,
+    set: Over<Stack<Over<FlatRows>>>,
 }
 
 impl Model for FlatOver {
@@ -36,25 +41,39 @@ fn is_long(edits: usize, rows: usize) -> bool {
 }
 
 impl FlatOver {
-    /// The same rows, with nothing in the upper layer of edits. Where the lower one is long for the vector below it, the
-    /// vector is made anew and has them.
+    /// The same rows, with all edits in the lowest layer. Where they are long for the vector below it, the vector is made anew
+    /// and has them.
     pub fn folded(&self, alloc: Global) -> Result<FlatOver, NoMemory>
         ensures { IfOk result (λ set. set ≡ self.now) }
     {
-        let lower = self.set.lowered()?;
-        if is_long(lower.edits(), lower.base_len()) {
+        let lower = self.set.raised()?.lowered()?;
+        if is_long(lower.edits(), lower.base_most()) {
             let width = lower.width();
             let rows = listed(alloc, &lower)?;
             let set = Over::from_sorted(width, rows)?;
             return Ok(FlatOver { set });
         }
-        let set = Over::on(alloc, lower)?;
+        let most = lower.most();
+        let stack = Stack::on(alloc, lower, most);
+        let set = Over::on(alloc, stack, most)?;
         Ok(FlatOver { set })
     }
 
-    /// Whether there are edits in the upper layer.
+    /// Whether there are edits above the lowest layer.
     pub fn is_edited(&self) -> bool {
-        self.set.edits() > 0
+        self.set.is_edited()
+    }
+
+    /// The set with the layers laid over it, the first layer first. No row is copied.
+    pub fn layered(&self, layers: &[Arc<Layer>]) -> Result<FlatOver, NoMemory>
+        requires { AllByRecursion (λ layer. layer.width ≡ self.now.width) (map arc_value layers.now) }
+        ensures rows { IfOk result (λ set. set.rows ≡ stacked self.now.rows (map arc_value layers.now)) }
+        ensures width { IfOk result (λ set. set.width ≡ self.now.width) }
+    {
+        let stack = self.set.raised()?.pushed(layers)?;
+        let most = stack.most();
+        let set = Over::on(stack.allocator(), stack, most)?;
+        Ok(FlatOver { set })
     }
 
     /// Puts a row in, without a look at the base. Want of memory leaves the set as it was.
@@ -79,15 +98,20 @@ impl FlatOver {
         Ok(())
     }
 
-    /// The set without some rows, and then with others, each list ascending: one pass over the rows that are laid over the
-    /// base, which isn't looked at.
+    /// The set without some rows, and then with others, each list ascending, as one more layer.
     pub fn laid(&self, gone: RowList, come: RowList) -> Result<FlatOver, NoMemory>
         requires gone { IsRowSet self.now.width gone }
         requires come { IsRowSet self.now.width come }
         ensures rows { IfOk result (λ set. set.rows ≡ overlaid self.now.rows gone come) }
         ensures width { IfOk result (λ set. set.width ≡ self.now.width) }
     {
-        let set = self.set.laid(gone, come)?;
+        let alloc = come.allocator();
+        let layer = Layer::new(self.set.width(), gone, come)?;
+        let layer = Arc::new(alloc, layer)?;
+        let mut stack = self.set.raised()?;
+        stack.push(layer)?;
+        let most = stack.most();
+        let set = Over::on(alloc, stack, most)?;
         Ok(FlatOver { set })
     }
 }

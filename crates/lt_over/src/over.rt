@@ -1,15 +1,18 @@
 //! `Over`, and what it does as a set of rows.
-ghost use Rattle.std.specs.Prelude.{◌≡◌, IfOk, OnOk, OnErr};
+ghost use Rattle.std.specs.Prelude.{◌≡◌, ◌≤◌, length, IfOk, OnOk, OnErr};
 ghost use Rattle.lt_face.specs.Rows.{IsRow, IsRowSet, with_row, without_row};
 ghost use Rattle.lt_over.specs.Overlaid.{overlaid};
 
 use crate::counting::{count_lacked, count_staying};
 use crate::edits::{has_over, has_room, put_row, take_row};
-use crate::search::least_from;
+use crate::layer::Layer;
+use crate::search::{are_bare, least_from};
+use crate::stack::Stack;
 use lt_face::{Key, Near, NoMemory, Row, RowList, RowReads, RowSet};
 use lt_flat::FlatRows;
 use std::alloc::Global;
 use std::marker::Model;
+use std::sync::Arc;
 
 /// A set of rows with edits laid over it: rows that are taken out of it, and rows that are put in. Sets share the base and
 /// the edits. No edit costs a copy of the base, and those by `put`, `take` and `laid` don't even look at it.
@@ -18,11 +21,11 @@ pub struct Over<B: RowSet> {
     base: B,
     minus: FlatRows,
     plus: FlatRows,
-    base_len: usize,
+    most: usize,
 }
 
 impl<B: RowSet> Model for Over<B> {
-    ghost use Rattle.std.specs.Prelude.{◌≡◌, ◌+◌, ◌<◌, ◌^◌, length};
+    ghost use Rattle.std.specs.Prelude.{◌≡◌, ◌+◌, ◌<◌, ◌≤◌, ◌^◌, length};
     ghost use Rattle.lt_face.specs.State.{Relation};
     ghost use Rattle.lt_over.specs.Overlaid.{overlaid};
 
@@ -32,25 +35,25 @@ impl<B: RowSet> Model for Over<B> {
 
     ghost invariant = { λ s.
         (s.minus.width ≡ B.width_of s.base) × (s.plus.width ≡ B.width_of s.base)
-        × (length (B.rows s.base) + length s.plus.rows < 2 ^ 64)
-        × (s.base_len ≡ length (B.rows s.base)) };
+        × (s.most + length s.plus.rows < 2 ^ 64)
+        × (length (B.rows s.base) ≤ s.most) };
 }
 
 impl<B: RowSet> Over<B> {
-    /// The set, with nothing laid over it.
-    pub fn on(alloc: Global, base: B) -> Result<Over<B>, NoMemory>
+    /// The set of at most so many rows, with nothing laid over it.
+    pub(crate) fn on(alloc: Global, base: B, most: usize) -> Result<Over<B>, NoMemory>
+        requires { length (B.rows base) ≤ most }
         ensures rows { IfOk result (λ set. set.rows ≡ B.rows base) }
         ensures width { IfOk result (λ set. set.width ≡ B.width_of base) }
     {
         let width = base.width();
-        let base_len = base.len();
         let minus = FlatRows::empty(alloc, width)?;
         let plus = FlatRows::empty(alloc, width)?;
         Ok(Over {
             base,
             minus,
             plus,
-            base_len,
+            most,
         })
     }
 
@@ -67,7 +70,7 @@ impl<B: RowSet> Over<B> {
         ensures width { self.new.width ≡ self.old.width }
     {
         let _width = self.base.width();
-        put_row(self.base_len, &mut self.plus, row)?;
+        put_row(self.most, &mut self.plus, row)?;
         Ok(())
     }
 
@@ -99,7 +102,7 @@ impl<B: RowSet> Over<B> {
     }
 
     /// The set without the rows of one set, and then with those of another.
-    fn laid_by(&self, gone: &FlatRows, come: &FlatRows) -> Result<Over<B>, NoMemory>
+    pub(crate) fn laid_by(&self, gone: &FlatRows, come: &FlatRows) -> Result<Over<B>, NoMemory>
         requires gone { gone.now.width ≡ self.now.width }
         requires come { come.now.width ≡ self.now.width }
         ensures rows { IfOk result (λ set. set.rows ≡ overlaid self.now.rows gone.now.rows come.now.rows) }
@@ -109,7 +112,7 @@ impl<B: RowSet> Over<B> {
         let minus = self.minus.union(gone)?;
         let left = self.plus.difference(gone)?;
         let plus = left.union(come)?;
-        if !has_room(self.base_len, plus.len()) {
+        if !has_room(self.most, plus.len()) {
             return Err(NoMemory);
         }
         let base = self.base.share()?;
@@ -117,23 +120,42 @@ impl<B: RowSet> Over<B> {
             base,
             minus,
             plus,
-            base_len: self.base_len,
+            most: self.most,
         })
     }
 
-    /// How many rows the base has.
-    pub(crate) fn base_len(&self) -> usize {
-        self.base_len
+    /// A number that the rows don't pass.
+    pub(crate) fn most(&self) -> usize
+        ensures { length self.now.rows ≤ result }
+    {
+        self.most + self.plus.len()
+    }
+
+    /// A number that the rows of the base don't pass.
+    pub(crate) fn base_most(&self) -> usize {
+        self.most
     }
 }
 
-impl<B: RowSet> Over<Over<B>> {
-    /// The same rows, with the upper edits among the lower ones.
-    pub(crate) fn lowered(&self) -> Result<Over<B>, NoMemory>
-        ensures { IfOk result (λ set. set ≡ self.now) }
+impl<B: RowSet> Over<Stack<B>> {
+    /// The same rows, with the edits as the last layer of the base.
+    pub(crate) fn raised(&self) -> Result<Stack<B>, NoMemory>
+        ensures { IfOk result (λ stack. stack ≡ self.now) }
     {
-        let lower = self.base.laid_by(&self.minus, &self.plus)?;
-        Ok(lower)
+        let _width = self.base.width();
+        let mut stack = self.base.share()?;
+        if are_bare(&self.minus, &self.plus) {
+            return Ok(stack);
+        }
+        let layer = Layer::of(&self.minus, &self.plus)?;
+        let layer = Arc::new(stack.allocator(), layer)?;
+        stack.push(layer)?;
+        Ok(stack)
+    }
+
+    /// Whether rows are laid over the base, or layers over its own.
+    pub(crate) fn is_edited(&self) -> bool {
+        self.edits() > 0 || self.base.is_layered()
     }
 }
 
@@ -152,7 +174,7 @@ impl<B: RowSet> RowReads for Over<B> {
         let _width = self.base.width();
         let put = count_lacked(&self.base, self.plus.as_slice());
         let taken = count_staying(&self.base, &self.plus, self.minus.as_slice());
-        self.base_len + put - taken
+        self.base.len() + put - taken
     }
 
     fn has(&self, row: &Row) -> bool {
@@ -172,6 +194,9 @@ impl<B: RowSet> RowReads for Over<B> {
         let _width = self.base.width();
         let _width = self.plus.width();
         let first = self.base.row_near(near, prefix, bound);
+        if are_bare(&self.minus, &self.plus) {
+            return first;
+        }
         let mut place = Near {
             list: 0,
             at: near.list,
@@ -185,28 +210,28 @@ impl<B: RowSet> RowReads for Over<B> {
 impl<B: RowSet> RowSet for Over<B> {
     fn empty(alloc: Global, width: usize) -> Result<Over<B>, NoMemory> {
         let base = B::empty(alloc, width)?;
-        let base_len = base.len();
+        let most = base.len();
         let minus = FlatRows::empty(alloc, width)?;
         let plus = FlatRows::empty(alloc, width)?;
         Ok(Over {
             base,
             minus,
             plus,
-            base_len,
+            most,
         })
     }
 
     fn from_sorted(width: usize, rows: RowList) -> Result<Over<B>, NoMemory> {
         let alloc = rows.allocator();
         let base = B::from_sorted(width, rows)?;
-        let base_len = base.len();
+        let most = base.len();
         let minus = FlatRows::empty(alloc, width)?;
         let plus = FlatRows::empty(alloc, width)?;
         Ok(Over {
             base,
             minus,
             plus,
-            base_len,
+            most,
         })
     }
 
@@ -215,7 +240,7 @@ impl<B: RowSet> RowSet for Over<B> {
         if has_over(&self.base, &self.minus, &self.plus, &row) {
             return Ok(false);
         }
-        put_row(self.base_len, &mut self.plus, row)?;
+        put_row(self.most, &mut self.plus, row)?;
         Ok(true)
     }
 
@@ -237,7 +262,7 @@ impl<B: RowSet> RowSet for Over<B> {
             base,
             minus,
             plus,
-            base_len: self.base_len,
+            most: self.most,
         })
     }
 }

@@ -1,5 +1,5 @@
 //! Searches past rows that are taken out.
-ghost use Rattle.std.specs.Prelude.{◌≡◌, true, List, ℕ};
+ghost use Rattle.std.specs.Prelude.{◌≡◌, [], true, IsTrue, List, ℕ};
 ghost use Rattle.std.specs.Option.{option_copied};
 ghost use Rattle.lt_face.specs.Rows.{first_above, first_from, has_row};
 ghost use Rattle.lt_flat.specs.Flat.{kept};
@@ -8,8 +8,16 @@ ghost use Rattle.lt_over.specs.Overlaid.{is_reached, lesser};
 use lt_face::{Near, Row, RowReads, row_above};
 use lt_flat::FlatRows;
 
+/// Whether no row is taken out and none put in.
+pub(crate) fn are_bare(minus: &FlatRows, plus: &FlatRows) -> bool
+    ensures minus { IsTrue result → minus.now.rows ≡ [] }
+    ensures plus { IsTrue result → plus.now.rows ≡ [] }
+{
+    minus.len() == 0 && plus.len() == 0
+}
+
 /// Whether the row is at least one that is put in.
-fn reaches(more: Option<&Row>, row: &Row) -> bool
+pub(crate) fn reaches(more: Option<&Row>, row: &Row) -> bool
     ensures { result ≡ is_reached (option_copied more.entry) row.now }
 {
     match more {

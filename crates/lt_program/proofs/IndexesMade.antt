@@ -12,7 +12,7 @@ use Rattle.lt_model.specs.declared.normal.Atom.{Atom}
 use Rattle.lt_model.specs.declared.normal.Stmt.{Stmt}
 use Rattle.lt_model.specs.declared.normal.Stmt.TheVariants.{Insert, Delete, Replace, Need, Print}
 use Rattle.lt_model.specs.Fits.{IsWide, IsAtomOf, IsBodyOf, FitsStatement, Fits}
-use Rattle.lt_base.specs.Columns.{IsPermOf}
+use Rattle.lt_delta.specs.Columns.{IsPermOf}
 use Rattle.lt_base.specs.Tables.{Table, has_index}
 use Rattle.lt_base.proofs.OwnOrder.{row_eq-true, row_eq-itself}
 use Rattle.lt_query.specs.declared.plans.Guide.{Guide}

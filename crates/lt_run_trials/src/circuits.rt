@@ -10,25 +10,40 @@ use crate::sample::Sample;
 use lt_circuit::{Circuit, Entry, Event, JobName};
 use lt_face::NoMemory;
 use lt_face::key::Key;
+use lt_net::JobName::{Correct, Leaf, Merge};
 use std::alloc::Global;
 use std::sync::Arc;
 
-/// Whether the entries are these, by worker and code.
+/// Whether the entries are these.
 fn is_journal(journal: &[Entry], want: &[Entry]) -> bool {
     journal == want
 }
 
-/// The entry of this worker and code.
-fn by(worker: u32, code: u32) -> Entry {
-    let job = JobName::of(code / 3);
-    let event = if code % 3 == 0 {
-        Event::Claim
-    } else if code % 3 == 1 {
-        Event::Finish
-    } else {
-        Event::Abandon
-    };
-    Entry { worker, job, event }
+/// The worker takes the job.
+fn claims(worker: u32, job: JobName) -> Entry {
+    Entry {
+        worker,
+        job,
+        event: Event::Claim,
+    }
+}
+
+/// The worker has done the job.
+fn finishes(worker: u32, job: JobName) -> Entry {
+    Entry {
+        worker,
+        job,
+        event: Event::Finish,
+    }
+}
+
+/// The worker gives the job up.
+fn abandons(worker: u32, job: JobName) -> Entry {
+    Entry {
+        worker,
+        job,
+        event: Event::Abandon,
+    }
 }
 
 /// A circuit that one worker settled.
@@ -46,16 +61,16 @@ fn settled_alone(alloc: Global, leaves: u32) -> Result<Circuit<Sample>, NoMemory
 /// The events of one worker over two leaves.
 fn one_worker() -> [Entry; 10] {
     [
-        by(0, 0),
-        by(0, 1),
-        by(0, 3),
-        by(0, 4),
-        by(0, 6),
-        by(0, 7),
-        by(0, 9),
-        by(0, 10),
-        by(0, 3),
-        by(0, 4),
+        claims(0, Leaf(0)),
+        finishes(0, Leaf(0)),
+        claims(0, Merge(0)),
+        finishes(0, Merge(0)),
+        claims(0, Correct(0)),
+        finishes(0, Correct(0)),
+        claims(0, Leaf(1)),
+        finishes(0, Leaf(1)),
+        claims(0, Merge(0)),
+        finishes(0, Merge(0)),
     ]
 }
 
@@ -113,7 +128,7 @@ fn each_leaf_has_its_effect_and_tally(rt: HostRuntime) -> Result<(), NoMemory> {
 fn leaf_goes_round(floor: &mut Floor<Sample>) -> bool {
     let leaf = floor.begins_leaf(0);
     let busy = floor.is_told(1);
-    let done = floor.follow(&[by(0, 1)]);
+    let done = floor.follow(&[finishes(0, Leaf(0))]);
     let settled = floor.is_told(0);
     leaf && busy && done == 1 && settled
 }
@@ -136,18 +151,18 @@ fn one_leaf_is_claimed_and_finished(rt: HostRuntime) -> Result<(), NoMemory> {
 /// Leaf 1 finishes while the merge runs on what stood before.
 fn two_workers() -> [Entry; 12] {
     [
-        by(0, 0),
-        by(1, 9),
-        by(0, 1),
-        by(0, 3),
-        by(1, 10),
-        by(0, 4),
-        by(1, 6),
-        by(1, 7),
-        by(0, 3),
-        by(0, 4),
-        by(1, 9),
-        by(1, 10),
+        claims(0, Leaf(0)),
+        claims(1, Leaf(1)),
+        finishes(0, Leaf(0)),
+        claims(0, Merge(0)),
+        finishes(1, Leaf(1)),
+        finishes(0, Merge(0)),
+        claims(1, Correct(0)),
+        finishes(1, Correct(0)),
+        claims(0, Merge(0)),
+        finishes(0, Merge(0)),
+        claims(1, Leaf(1)),
+        finishes(1, Leaf(1)),
     ]
 }
 
@@ -198,44 +213,44 @@ fn settles_from(alloc: Global, entries: &[Entry], could: usize) -> Result<bool, 
 /// A merge on what stood before is given up.
 fn overtaken() -> [Entry; 6] {
     [
-        by(0, 0),
-        by(1, 9),
-        by(0, 1),
-        by(0, 12),
-        by(1, 10),
-        by(0, 14),
+        claims(0, Leaf(0)),
+        claims(1, Leaf(1)),
+        finishes(0, Leaf(0)),
+        claims(0, Merge(1)),
+        finishes(1, Leaf(1)),
+        abandons(0, Merge(1)),
     ]
 }
 
 /// A leaf's correction changes while it runs. It is given up and taken again.
 fn dirtied() -> [Entry; 8] {
     [
-        by(0, 0),
-        by(1, 9),
-        by(0, 1),
-        by(0, 15),
-        by(0, 16),
-        by(1, 11),
-        by(1, 9),
-        by(0, 27),
+        claims(0, Leaf(0)),
+        claims(1, Leaf(1)),
+        finishes(0, Leaf(0)),
+        claims(0, Correct(1)),
+        finishes(0, Correct(1)),
+        abandons(1, Leaf(1)),
+        claims(1, Leaf(1)),
+        claims(0, Leaf(3)),
     ]
 }
 
 /// The last leaves first. What another holds, what isn't Pending and what names no job isn't given.
 fn backwards() -> [Entry; 12] {
     [
-        by(1, 27),
-        by(0, 27),
-        by(1, 28),
-        by(1, 27),
-        by(1, 3),
-        by(1, 3000),
-        by(0, 18),
-        by(0, 19),
-        by(0, 39),
-        by(0, 40),
-        by(1, 0),
-        by(1, 1),
+        claims(1, Leaf(3)),
+        claims(0, Leaf(3)),
+        finishes(1, Leaf(3)),
+        claims(1, Leaf(3)),
+        claims(1, Merge(0)),
+        claims(1, Merge(333)),
+        claims(0, Leaf(2)),
+        finishes(0, Leaf(2)),
+        claims(0, Merge(4)),
+        finishes(0, Merge(4)),
+        claims(1, Leaf(0)),
+        finishes(1, Leaf(0)),
     ]
 }
 

@@ -1,6 +1,7 @@
 pub mod Gaps
 pub mod Firsts
 pub mod Words
+pub mod Counting
 pub mod Places
 pub mod Choice
 pub mod Digits

@@ -1,19 +1,19 @@
 -- Bytes have a reading, also behind items that were read: the next item is read until the reader stops.
-use Rattle.std.proofs.Common.{◌≡◌, ◌≢◌, ℕ, zero, suc, ◌≤◌, ◌<◌, List, [], ◌∷◌, ◌++◌, length, Result, Ok, Err, refl, sym, ap, subst, ◌∙◌, append_assoc, arith}
+use Rattle.std.proofs.Common.{◌≡◌, ◌≢◌, ℕ, zero, suc, ◌≤◌, ◌<◌, List, [], ◌∷◌, ◌++◌, length, Ok, Err, refl, sym, ap, subst, ◌∙◌, append_assoc, arith}
 use Rattle.std.proofs.lemmas.List.{append-nil, length-append, length-map, map-append}
 use Rattle.lt_reading.specs.Reading.{Outcome, Stop}
 use Rattle.lt_reading.specs.Faults.{code_of}
 use Rattle.lt_model.specs.declared.syntax.Item.{Item}
 use Rattle.lt_model.specs.Tokens.{Shape, Token, Ending, Read, finished, broken, tokens}
-use Rattle.lt_model.specs.Grammar.{legal, SpellsItem, Derives}
+use Rattle.lt_model.specs.Grammar.{legal, Derives}
 use Rattle.lt_model.specs.Faults as faults
 use Rattle.lt_model.specs.Script as script
 use Rattle.lt_model.specs.Script.{Script}
 use Rattle.lt_grammar.specs.Grammar as tree
 use Rattle.lt_grammar.specs.Meaning.{item_value}
 use Rattle.lt_grammar.specs.Productions.{item_at}
-use Rattle.lt_grammar.proofs.Items.{Found, Stopped, item_found, item_stops, nothing_left, Derives-more}
-use Rattle.lt_script.specs.Ahead.{Place, ahead, passed_tokens}
+use Rattle.lt_grammar.proofs.Items.{Stopped, item_found, item_stops, nothing_left, Derives-more}
+use Rattle.lt_script.specs.Ahead.{ahead, passed_tokens}
 use Rattle.lt_script.specs.declared.reader.Reader.{Reader}
 use Rattle.lt_script.specs.Laws.{SomeReading}
 use Rattle.lt_script.specs.Reading.{bytes_of, HasRead}

@@ -42,7 +42,7 @@ fn terms(alloc: Global, terms: &[tree::Term]) -> Result<TermList, NoMemory>
     requires { AllByRecursion (IsTerm full) (map term_of terms.now) }
     ensures { IfOk result (λ built. built ≡ map term_value (map term_of terms.now)) }
 {
-    let mut built = Items::new(alloc);
+    let mut built = Items::from_vec(Vec::with_capacity(alloc, terms.len())?);
     'each: for term in terms {
         built.push(self::term(alloc, term))?;
     }
@@ -56,7 +56,7 @@ fn head(alloc: Global, head: &tree::Head) -> Result<Head, NoMemory>
 {
     Ok(Head {
         relation: name(alloc, &head.relation),
-        terms: terms(alloc, &head.terms)?,
+        terms: terms(alloc, head.terms.as_slice())?,
     })
 }
 
@@ -92,7 +92,7 @@ fn literals(alloc: Global, literals: &[tree::Literal]) -> Result<LiteralList, No
     requires { AllByRecursion (IsLiteral full) (map literal_of literals.now) }
     ensures { IfOk result (λ built. built ≡ map literal_value (map literal_of literals.now)) }
 {
-    let mut built = Items::new(alloc);
+    let mut built = Items::from_vec(Vec::with_capacity(alloc, literals.len())?);
     'each: for literal in literals {
         built.push(self::literal(alloc, literal)?)?;
     }
@@ -169,7 +169,7 @@ fn statement(alloc: Global, statement: &tree::Statement) -> Result<Statement, No
             let body = self::body(alloc, body)?;
             Ok(Statement::Need { some: *some, body })
         }
-        tree::Statement::Print { terms, body } => print(alloc, terms, body),
+        tree::Statement::Print { terms, body } => print(alloc, terms.as_slice(), body),
     }
 }
 
@@ -177,7 +177,7 @@ fn statements(alloc: Global, statements: &[tree::Statement]) -> Result<Statement
     requires { AllByRecursion (IsStatement full) (map statement_of statements.now) }
     ensures { IfOk result (λ built. built ≡ map statement_value (map statement_of statements.now)) }
 {
-    let mut built = Items::new(alloc);
+    let mut built = Items::from_vec(Vec::with_capacity(alloc, statements.len())?);
     'each: for statement in statements {
         built.push(self::statement(alloc, statement)?)?;
     }
@@ -198,7 +198,7 @@ fn programs(alloc: Global, programs: &[tree::Program]) -> Result<ProgramList, No
     requires { AllByRecursion (IsProgram full) (map program_of programs.now) }
     ensures { IfOk result (λ built. built ≡ map program_value (map program_of programs.now)) }
 {
-    let mut built = Items::new(alloc);
+    let mut built = Items::from_vec(Vec::with_capacity(alloc, programs.len())?);
     'each: for program in programs {
         built.push(self::program(alloc, program)?)?;
     }

@@ -2,6 +2,7 @@
 //! at fault, it gives the first fault.
 #![tactic(auto)]
 
+mod among;
 mod build;
 mod cells;
 mod cursor;

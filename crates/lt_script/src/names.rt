@@ -1,12 +1,12 @@
 //! The names of variables in a statement, and how many different ones there are.
-ghost use Rattle.std.specs.Prelude.{◌≡◌, ◌++◌, [], IfOk, map, fold};
-ghost use Rattle.std.specs.List.{flat_map, list_any};
-ghost use Rattle.std.specs.Str.{bytes_eq};
+ghost use Rattle.std.specs.Prelude.{◌≡◌, ◌≤◌, ◌+◌, ◌++◌, [], IfOk, IfSome, length, map, fold};
+ghost use Rattle.std.specs.List.{flat_map};
 ghost use Rattle.lt_grammar.specs.Grammar.{term_names, literal_names, statement_names, few_names};
 ghost use Rattle.lt_model.specs.Variables.{with_name};
 ghost use Rattle.lt_script.specs.Parsed.{texts};
 ghost use Rattle.lt_script.specs.Tree.{term_of, literal_of, statement_of};
 
+use crate::among::contains;
 use crate::tree::{Literal, Statement, Term};
 use std::alloc::{AllocError, Global};
 
@@ -26,18 +26,6 @@ fn push_terms<'a>(names: &mut Vec<&'a [u8]>, terms: &[Term<'a>]) -> Result<(), A
         push_term(names, *term)?;
     }
     Ok(())
-}
-
-/// Whether the text is among these.
-pub(crate) fn contains(names: &[&[u8]], text: &[u8]) -> bool
-    ensures { result ≡ list_any (bytes_eq text.now) (texts names.now) }
-{
-    for name in names {
-        if text == *name {
-            return true;
-        }
-    }
-    false
 }
 
 // Adds a name, if it is new.
@@ -78,7 +66,7 @@ fn push_literal<'a>(names: &mut Vec<&'a [u8]>, literal: &Literal<'a>) -> Result<
     ensures { IfOk result (λ x. texts names.new.items ≡ texts names.old.items ++ literal_names (literal_of literal.now)) }
 {
     match literal {
-        Literal::Atom(head) => push_terms(names, &head.terms),
+        Literal::Atom(head) => push_terms(names, head.terms.as_slice()),
         Literal::Compare { left, right, .. } => push_both(names, *left, *right),
         Literal::Sum {
             name,
@@ -122,22 +110,78 @@ fn push_statement<'a>(
 {
     match statement {
         Statement::Insert { head, body } | Statement::Delete { head, body } => {
-            push_rule(names, &head.terms, body)
+            push_rule(names, head.terms.as_slice(), body)
         }
         Statement::Replace { gone, come, body } => {
-            push_terms(names, &gone.terms)?;
-            push_rule(names, &come.terms, body)
+            push_terms(names, gone.terms.as_slice())?;
+            push_rule(names, come.terms.as_slice(), body)
         }
         Statement::Require { body, .. } => push_literals(names, body),
-        Statement::Print { terms, body } => push_rule(names, terms, body),
+        Statement::Print { terms, body } => push_rule(names, terms.as_slice(), body),
     }
 }
 
-/// Whether a statement has at most sixteen variables.
-#[tactic(auto, unfolding(lt_grammar::specs::Grammar::few_names))]
+// The room behind so many.
+fn room_behind(room: usize, taken: usize) -> Option<usize>
+    ensures { IfSome result (λ left. taken + left ≤ room) }
+{
+    room.checked_sub(taken)
+}
+
+// The room that a literal's names leave, at least.
+fn room_behind_literal(room: usize, literal: &Literal) -> Option<usize>
+    ensures { IfSome result (λ left. length (literal_names (literal_of literal.now)) + left ≤ room) }
+{
+    match literal {
+        Literal::Atom(head) => room_behind(room, head.terms.as_slice().len()),
+        Literal::Compare { .. } => room_behind(room, 2),
+        Literal::Sum { .. } => room_behind(room, 3),
+    }
+}
+
+// The room that the names of a body leave, at least.
+fn room_behind_body(room: usize, body: &[Literal]) -> Option<usize>
+    ensures { IfSome result (λ left. length (flat_map literal_names (map literal_of body.now)) + left ≤ room) }
+{
+    let mut left = room;
+    for literal in body {
+        left = room_behind_literal(left, literal)?;
+    }
+    Some(left)
+}
+
+// The room that the names of terms and of a body leave, at least.
+fn room_behind_rule(room: usize, terms: &[Term], body: &[Literal]) -> Option<usize>
+    ensures { IfSome result (λ left. length terms.now + length (flat_map literal_names (map literal_of body.now)) + left ≤ room) }
+{
+    let left = room_behind(room, terms.len())?;
+    room_behind_body(left, body)
+}
+
+// The room that a statement's names leave, at least.
+fn room_behind_statement(room: usize, statement: &Statement) -> Option<usize>
+    ensures { IfSome result (λ left. length (statement_names (statement_of statement.now)) + left ≤ room) }
+{
+    match statement {
+        Statement::Insert { head, body } => room_behind_rule(room, head.terms.as_slice(), body),
+        Statement::Delete { head, body } => room_behind_rule(room, head.terms.as_slice(), body),
+        Statement::Replace { gone, come, body } => {
+            let left = room_behind(room, gone.terms.as_slice().len())?;
+            room_behind_rule(left, come.terms.as_slice(), body)
+        }
+        Statement::Require { body, .. } => room_behind_body(room, body),
+        Statement::Print { terms, body } => room_behind_rule(room, terms.as_slice(), body),
+    }
+}
+
+/// Whether a statement has at most sixteen variables. They are counted only where more than sixteen terms may be names.
+#[tactic(auto, unfolding(lt_grammar::specs::Grammar::few_names), using(crate::proofs::Counting::few_in_all))]
 pub fn has_few_names(alloc: Global, statement: &Statement) -> Result<bool, AllocError>
     ensures { IfOk result (λ b. b ≡ few_names (statement_of statement.now)) }
 {
+    if room_behind_statement(16, statement).is_some() {
+        return Ok(true);
+    }
     let mut names = Vec::new(alloc);
     push_statement(&mut names, statement)?;
     Ok(without_repeats(alloc, &names)?.len() <= 16)

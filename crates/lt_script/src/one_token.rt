@@ -8,32 +8,35 @@ ghost use Rattle.lt_script.specs.View.{shape};
 ghost use Rattle.lt_script.specs.Ahead.{shapes};
 ghost use Rattle.lt_script.specs.Parsed.{Parses};
 
+use crate::among::contains;
 use crate::cursor::Cursor;
 use crate::label::Label;
-use crate::names::contains;
 use crate::range::is_int;
 use crate::refusal::{Cause, Refusal};
 use crate::token::{Lexeme, Token};
 use lt_model::kind::Kind;
 use lt_model::syntax::Op;
+use lt_reading::texts::are_same;
 
 impl<'a> Token<'a> {
     /// Whether it is this word.
+    #[inline(always)]
     pub fn is_word(&self, text: &[u8]) -> bool
         ensures { result ≡ same_shape (shape self.now) (word_shape text.now) }
     {
         match self.lexeme {
-            Lexeme::Word(label) => label.bytes == text,
+            Lexeme::Word(label) => are_same(label.bytes, text),
             _ => false,
         }
     }
 
     /// Whether it is this sign.
+    #[inline(always)]
     pub fn is_sign(&self, text: &[u8]) -> bool
         ensures { result ≡ same_shape (shape self.now) (sign_shape text.now) }
     {
         match self.lexeme {
-            Lexeme::Sign(sign) => sign == text,
+            Lexeme::Sign(sign) => are_same(sign, text),
             _ => false,
         }
     }
@@ -61,32 +64,37 @@ impl<'a> Token<'a> {
     }
 }
 
-/// Whether the word is no name.
+/// Whether the word is no name. Only the reserved words that begin as it does are looked at.
 pub fn is_reserved(text: &[u8]) -> bool
     ensures { result ≡ reserved_test text.now }
 {
-    let reserved = [
-        b"relation".as_slice(),
-        b"batch".as_slice(),
-        b"program".as_slice(),
-        b"end".as_slice(),
-        b"commit".as_slice(),
-        b"show".as_slice(),
-        b"at".as_slice(),
-        b"insert".as_slice(),
-        b"delete".as_slice(),
-        b"replace".as_slice(),
-        b"by".as_slice(),
-        b"where".as_slice(),
-        b"require".as_slice(),
-        b"some".as_slice(),
-        b"none".as_slice(),
-        b"print".as_slice(),
-        b"int".as_slice(),
-        b"sym".as_slice(),
-        b"not".as_slice(),
-    ];
-    contains(&reserved, text)
+    let Some((first, _)) = text.split_first() else {
+        return false;
+    };
+    match *first {
+        b'a' => contains(&[b"at".as_slice()], text),
+        b'b' => contains(&[b"batch".as_slice(), b"by".as_slice()], text),
+        b'c' => contains(&[b"commit".as_slice()], text),
+        b'd' => contains(&[b"delete".as_slice()], text),
+        b'e' => contains(&[b"end".as_slice()], text),
+        b'i' => contains(&[b"insert".as_slice(), b"int".as_slice()], text),
+        b'n' => contains(&[b"none".as_slice(), b"not".as_slice()], text),
+        b'p' => contains(&[b"program".as_slice(), b"print".as_slice()], text),
+        b'r' => contains(
+            &[
+                b"relation".as_slice(),
+                b"replace".as_slice(),
+                b"require".as_slice(),
+            ],
+            text,
+        ),
+        b's' => contains(
+            &[b"show".as_slice(), b"some".as_slice(), b"sym".as_slice()],
+            text,
+        ),
+        b'w' => contains(&[b"where".as_slice()], text),
+        _ => false,
+    }
 }
 
 /// What is answered where the token that stands next isn't allowed.
@@ -98,6 +106,7 @@ pub fn not_allowed<T>() -> Result<T, Refusal>
 
 impl<'a> Cursor<'a> {
     /// Reads this very word.
+    #[inline(always)]
     pub fn word(&mut self, text: &[u8]) -> Result<(), Refusal>
         ensures { Parses (λ x. Prim.tt) result self.old self.new (this_token same_shape (word_shape text.now)) }
     {
@@ -111,6 +120,7 @@ impl<'a> Cursor<'a> {
     }
 
     /// Reads this very sign.
+    #[inline(always)]
     pub fn sign(&mut self, text: &[u8]) -> Result<(), Refusal>
         ensures { Parses (λ x. Prim.tt) result self.old self.new (this_token same_shape (sign_shape text.now)) }
     {
@@ -124,6 +134,7 @@ impl<'a> Cursor<'a> {
     }
 
     /// Whether this word stands next.
+    #[inline(always)]
     pub fn word_stands(&self, text: &[u8]) -> bool
         ensures { result ≡ stands (word_shape text.now) (shapes self.now) }
     {
@@ -134,6 +145,7 @@ impl<'a> Cursor<'a> {
     }
 
     /// Whether this sign stands next.
+    #[inline(always)]
     pub fn sign_stands(&self, text: &[u8]) -> bool
         ensures { result ≡ stands (sign_shape text.now) (shapes self.now) }
     {

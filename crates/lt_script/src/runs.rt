@@ -4,10 +4,11 @@ ghost use Rattle.std.specs.List.{prefix_len};
 ghost use Rattle.lt_model.specs.Tokens.{in_word as is_in_word, is_digit as is_a_digit, sign_at};
 ghost use Rattle.lt_script.specs.Signs.{sign_of};
 
+// Most bytes of words are letters, so these are looked at first.
 fn in_word(byte: u8) -> bool
     ensures { result ≡ is_in_word byte }
 {
-    matches!(byte, b'a'..=b'z' | b'0'..=b'9' | b'_')
+    matches!(byte, b'a'..=b'z') || matches!(byte, b'0'..=b'9' | b'_')
 }
 
 /// How many bytes at the front may stand in a word.

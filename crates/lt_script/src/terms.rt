@@ -13,7 +13,7 @@ use crate::cursor::Cursor;
 use crate::one_token::is_reserved;
 use crate::refusal::{Cause, Refusal};
 use crate::token::Lexeme;
-use crate::tree::{Head, Term};
+use crate::tree::{Head, Term, Terms};
 use std::alloc::Global;
 
 impl<'a> Cursor<'a> {
@@ -90,11 +90,11 @@ impl<'a> Cursor<'a> {
     }
 
     // The terms after the first.
-    fn further_terms(&mut self, alloc: Global, first: Term<'a>) -> Result<Vec<Term<'a>>, Refusal>
+    fn further_terms(&mut self, alloc: Global, first: Term<'a>) -> Result<Terms<'a>, Refusal>
         ensures read { Parses (λ v. map term_of (drop 1 v.items)) result self.old self.new (further begins_term term_at 7) }
         ensures first { IfOk result (λ v. v.items ≡ first.entry ∷ drop 1 v.items) }
     {
-        let mut terms = Vec::new(alloc);
+        let mut terms = Terms::new(alloc);
         terms.push(first)?;
         'terms: while self.sign_stands(b",") {
             if terms.len() == 8 {
@@ -108,7 +108,7 @@ impl<'a> Cursor<'a> {
 
     /// At most eight terms between parentheses.
     #[tactic(auto, unfolding(lt_grammar::specs::Productions::terms_at))]
-    pub fn terms(&mut self, alloc: Global) -> Result<Vec<Term<'a>>, Refusal>
+    pub fn terms(&mut self, alloc: Global) -> Result<Terms<'a>, Refusal>
         ensures { Parses (λ v. terms_of v.items) result self.old self.new terms_at }
     {
         self.sign(b"(")?;

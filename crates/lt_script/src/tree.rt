@@ -2,6 +2,7 @@
 use crate::label::Label;
 use lt_model::kind::Kind;
 use lt_model::syntax::Op;
+use smallvec::SmallVec;
 
 /// A name, a number or a symbol.
 #[derive(Clone, Copy)]
@@ -11,11 +12,23 @@ pub enum Term<'a> {
     Quoted(Label<'a>),
 }
 
+impl<'a> Default for Term<'a> {
+    fn default() -> Term<'a> {
+        Term::Numeral {
+            minus: false,
+            digits: &[],
+        }
+    }
+}
+
+/// Terms between parentheses. Up to four lie in the value itself.
+pub type Terms<'a> = SmallVec<Term<'a>, 4>;
+
 /// A relation and its arguments, at least one.
 #[derive(Drop)]
 pub struct Head<'a> {
     pub relation: Label<'a>,
-    pub terms: Vec<Term<'a>>,
+    pub terms: Terms<'a>,
 }
 
 /// A part of a body.
@@ -56,7 +69,7 @@ pub enum Statement<'a> {
         body: Vec<Literal<'a>>,
     },
     Print {
-        terms: Vec<Term<'a>>,
+        terms: Terms<'a>,
         body: Vec<Literal<'a>>,
     },
 }

@@ -3,6 +3,7 @@
 
 mod counted;
 mod covering;
+mod gathering;
 mod hits;
 mod order;
 mod sealing;

@@ -6,7 +6,7 @@ use crate::covering::{Hit, KeptGap};
 use crate::spot::Spot;
 use crate::store::Store;
 use lt_face::items::{Changes, Items, Perm};
-use lt_face::key::Key;
+use lt_face::key::{Gap, Key};
 use lt_face::memory::NoMemory;
 use lt_face::moves::Moves;
 use lt_face::row::Row;
@@ -36,6 +36,7 @@ impl Sense {
     ghost use Rattle.lt_face.specs.Lists.{IsIn};
     ghost use Rattle.lt_face.specs.State.{Row as RowView, State};
     ghost use Rattle.lt_sense.specs.Sense.{covers, gap_covers, hit_covers, IsTight};
+    ghost use Rattle.lt_sense.specs.Gathered.{gathered};
     ghost use Rattle.lt_sense.specs.Ordered.{IsSealed, AreNarrow, orders_of};
     ghost use Rattle.lt_sense.specs.Spots.{IsSpotOf, AreUncovered, IsFirstCovered};
 
@@ -68,6 +69,23 @@ impl Sense {
         }
         self.sealed = false;
         self.store.add_gap(relation, perm, prefix, lo, hi)?;
+        Ok(())
+    }
+
+    /// Adds the gaps under one prefix that an iterator noted, but those that are empty. After want of memory some may be added.
+    pub fn add_gaps(
+        &mut self,
+        relation: u32,
+        perm: &Perm,
+        prefix: &Row,
+        iter: usize,
+        noted: &[(u32, Gap)],
+    ) -> Result<(), NoMemory>
+        ensures kept { OnOk result (self.new.gaps ≡ self.old.gaps ++ gathered relation perm.now prefix.now iter noted.now) }
+        ensures hits { self.new.hits ≡ self.old.hits }
+    {
+        self.sealed = false;
+        self.store.add_gaps(relation, perm, prefix, iter, noted)?;
         Ok(())
     }
 

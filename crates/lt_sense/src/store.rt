@@ -4,11 +4,13 @@ ghost use Rattle.std.specs.List.{list_any, slice_range, AllByRecursion};
 ghost use Rattle.lt_face.specs.Lists.{IsIn};
 ghost use Rattle.lt_face.specs.State.{permuted};
 ghost use Rattle.lt_sense.specs.Sense.{lies_in as lies_within, gap_covers, hit_covers};
+ghost use Rattle.lt_sense.specs.Gathered.{gathered};
 ghost use Rattle.lt_sense.specs.Stored.{piece_of, gap_of, stored_gap, hit_of, sense_of, IsPiece, IsSound, GrowsBelow, IsRunFor};
 
 use crate::covering::{Hit, KeptGap, lies_in};
+use crate::gathering::push_gaps;
 use lt_face::items::Perm;
-use lt_face::key::Key;
+use lt_face::key::{Gap, Key};
 use lt_face::memory::NoMemory;
 use lt_face::row::Row;
 use std::alloc::Global;
@@ -145,16 +147,13 @@ impl Store {
         Ok(at)
     }
 
-    /// A run of this relation, these columns and this prefix.
-    fn run_for(&mut self, relation: u32, perm: &Perm, prefix: &Row) -> Result<usize, NoMemory>
+    /// A new run of this relation, these columns and this prefix.
+    fn new_run(&mut self, relation: u32, perm: &Perm, prefix: &Row) -> Result<usize, NoMemory>
         requires { IsSound self.old }
         ensures sound { IsSound self.new }
         ensures grows { GrowsBelow self.old self.new }
         ensures run { IfOk result (IsRunFor self.new relation perm.now prefix.now) }
     {
-        if let Some(at) = self.latest_run(relation, perm, prefix) {
-            return Ok(at);
-        }
         let family = self.family_for(relation, perm)?;
         let start = self.cells.len();
         self.cells.extend_from_slice(prefix.cells())?;
@@ -164,6 +163,20 @@ impl Store {
             family,
             prefix: Piece { start, width },
         })?;
+        Ok(at)
+    }
+
+    /// A run of this relation, these columns and this prefix: one of the latest, if one is such.
+    fn run_for(&mut self, relation: u32, perm: &Perm, prefix: &Row) -> Result<usize, NoMemory>
+        requires { IsSound self.old }
+        ensures sound { IsSound self.new }
+        ensures grows { GrowsBelow self.old self.new }
+        ensures run { IfOk result (IsRunFor self.new relation perm.now prefix.now) }
+    {
+        if let Some(at) = self.latest_run(relation, perm, prefix) {
+            return Ok(at);
+        }
+        let at = self.new_run(relation, perm, prefix)?;
         Ok(at)
     }
 
@@ -184,6 +197,25 @@ impl Store {
     {
         let run = self.run_for(relation, perm, prefix)?;
         self.gaps.push(Passed { run, lo, hi })?;
+        Ok(())
+    }
+
+    /// Adds the gaps under one prefix that an iterator noted, but those that are empty.
+    pub(crate) fn add_gaps(
+        &mut self,
+        relation: u32,
+        perm: &Perm,
+        prefix: &Row,
+        iter: usize,
+        noted: &[(u32, Gap)],
+    ) -> Result<(), NoMemory>
+        requires { IsSound self.old }
+        ensures sound { IsSound self.new }
+        ensures kept { OnOk result ((sense_of self.new).gaps ≡ (sense_of self.old).gaps ++ gathered relation perm.now prefix.now iter noted.now) }
+        ensures hits { (sense_of self.new).hits ≡ (sense_of self.old).hits }
+    {
+        let run = self.new_run(relation, perm, prefix)?;
+        push_gaps(&mut self.gaps, run, iter, noted)?;
         Ok(())
     }
 

@@ -37,7 +37,7 @@ checks schema programs = map (λ (p : Program). checked p schema) programs
 abbrev named : Schema → List Program → List (Text × Checked)
 named schema programs = map (λ (p : Program). (p.name, checked p schema)) programs
 
-abbrev replies_of : List (Reply × Marks) → List Reply
+abbrev pub replies_of : List (Reply × Marks) → List Reply
 replies_of dones = map (λ (done : Reply × Marks). done.0) dones
 
 abbrev effects_of : List (Reply × Marks) → List Marks
@@ -81,10 +81,10 @@ serial-length (program ∷ programs) state = ap suc (serial-length programs (lai
 -- ---- a batch
 
 module _ (w : World) (m : model.World) (programs : List Program) (cs : List Checked) (s : Shows w m) (judged : cs ≡ map (λ (p : Program). checked p w.schema) programs) where
-  same_checks : checks m.schema programs ≡ cs
+  pub same_checks : checks m.schema programs ≡ cs
   same_checks = ap (λ (h : Schema). checks h programs) s.schema ∙ sym judged
 
-  same_runs : serial (filter_map (λ (check : Text × Checked). good_of check.1) (named m.schema programs)) m.state ≡ serial (filter_map good_of cs) (state_of w.database)
+  pub same_runs : serial (filter_map (λ (check : Text × Checked). good_of check.1) (named m.schema programs)) m.state ≡ serial (filter_map good_of cs) (state_of w.database)
   same_runs =
       ap (λ (ps : List (List Stmt)). serial ps m.state) (same_goods m.schema programs ∙ ap (λ (c : List Checked). filter_map good_of c) same_checks)
       ∙ ap (λ (st : State). serial (filter_map good_of cs) st) s.state

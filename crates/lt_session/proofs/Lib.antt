@@ -9,4 +9,5 @@ pub mod Showing
 pub mod Writing
 pub mod Fronts
 pub mod Ends
-pub mod Statuses
+pub mod Counting
+pub mod Summing

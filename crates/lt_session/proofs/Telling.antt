@@ -19,7 +19,7 @@ abbrev Bytes : Type 0
 Bytes = Option (List ℕ)
 
 -- an element, and those behind it
-split : {X : Type 0} (xs : List X) (i : ℕ) (x : X) → i < length xs → x ≡ get_or xs i x → drop i xs ≡ x ∷ drop (i + 1) xs
+pub split : {X : Type 0} (xs : List X) (i : ℕ) (x : X) → i < length xs → x ≡ get_or xs i x → drop i xs ≡ x ∷ drop (i + 1) xs
 split {X = X} xs i x below at = drop_more xs i x below ∙ ap (λ (y : X). y ∷ drop (i + 1) xs) (sym at)
 
 module _ (marks : Bool) (schema : Schema) (programs : List Program) (judgements : List Judgement) (replies : List Reply) (effects : List Marks) where

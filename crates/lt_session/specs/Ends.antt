@@ -5,6 +5,7 @@ use Rattle.std.specs.Io.KnownBytes.{Appends, Consumes, IsAtEnd, Keeps}
 use Rattle.lt_command.specs.declared.words.Command.{Command}
 use Rattle.lt_command.specs.declared.words.Command.TheVariants.{Bench, Run}
 use Rattle.lt_edges.specs.Causes.{Rose}
+use Rattle.lt_gen.specs.Summaries.{summary_of, summary_text}
 use Rattle.lt_model.specs.declared.syntax.Item.{Item}
 use Rattle.lt_model.specs.Script.{Close, End, Fault, Script}
 use Rattle.lt_model.specs.Report.{report}
@@ -18,6 +19,12 @@ abbrev pub IfRun : Option Command → (Bool → Type 0) → Type 0
 IfRun (Some (Run workers marks)) P = P marks
 IfRun (Some (Bench seed items programs workers)) P = ⊤
 IfRun None P = ⊤
+
+-- the words ask for a bench, with this seed and so many items and programs, of which this holds
+abbrev pub IfBench : Option Command → (ℕ → ℕ → ℕ → Type 0) → Type 0
+IfBench (Some (Run workers marks)) P = ⊤
+IfBench (Some (Bench seed items programs workers)) P = P seed items programs
+IfBench None P = ⊤
 
 -- these are all bytes that the source had left, and they are within the limit
 pub record IsInput (left_old left_new : Option (List ℕ)) (bytes : List ℕ) : Type 0 where
@@ -65,3 +72,17 @@ EndsAs marks ReadFault l m r s h i w x = Rose r s × Keeps h i
 EndsAs marks WriteFault l m r s h i w x = Rose w x × IsPart marks l m h i
 EndsAs marks NoMemory l m r s h i w x = Keeps h i ⊎ IsPart marks l m h i
 EndsAs marks TooLong l m r s h i w x = IsTooLong l m × Keeps h i
+
+-- the lines that tell what comes of the generated script
+abbrev pub bench_text : ℕ → ℕ → ℕ → List ℕ
+bench_text seed items programs = summary_text (summary_of seed items programs)
+
+-- how a bench ends that has this text to write
+abbrev pub BenchEndsAs : List ℕ → Status → Option (List ℕ) → Option (List ℕ) → ℕ → ℕ → Type 0
+BenchEndsAs text Done h i w x = Appends h i text
+BenchEndsAs text NotTaken h i w x = ⊥
+BenchEndsAs text Faulty h i w x = ⊥
+BenchEndsAs text ReadFault h i w x = ⊥
+BenchEndsAs text WriteFault h i w x = Rose w x × AppendsFront h i text
+BenchEndsAs text NoMemory h i w x = Keeps h i
+BenchEndsAs text TooLong h i w x = ⊥

@@ -6,3 +6,4 @@ pub mod Input
 pub mod Statuses
 pub mod Writing
 pub mod Ends
+pub mod Counting

@@ -30,6 +30,14 @@ Takes old item new = (marks : Bool) (m : model.World) → Shows old m → Shows 
 abbrev pub unwritten : model.World → model.World
 unwritten m = record m { text = [] }
 
+-- where it stands, with no version made and nothing written
+abbrev pub now_of : model.World → model.World
+now_of m = record m { versions = []; text = [] }
+
+-- the session stands where the fold does, and has none of its versions
+abbrev pub ShowsNow : World → model.World → Type 0
+ShowsNow w m = Shows w (now_of m)
+
 -- what the fold writes of the item
 abbrev pub said : Bool → model.World → Item → model.Text
 said marks m item = (model.step marks (unwritten m) item).text

@@ -1,7 +1,8 @@
-//! The top call: from the words and the bytes to the report and the status.
+//! The top call: from the words and the bytes to the report, or from the words to the summary of a bench, and to the status.
 #![tactic(auto)]
 
 mod batch;
+mod bench;
 mod halt;
 mod input;
 mod options;

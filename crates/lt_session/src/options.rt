@@ -1,8 +1,16 @@
-//! What the words of a run say of its batches.
+//! What the words of a command say.
 
 /// How many workers run a batch, and whether the marks of its programs are written.
 #[derive(Clone, Copy, Debug)]
 pub struct Options {
     pub workers: u32,
     pub marks: bool,
+}
+
+/// Which script is generated: where its draws begin, how many things it has in stock, and how many of its programs buy.
+#[derive(Clone, Copy, Debug)]
+pub struct Generated {
+    pub seed: u64,
+    pub items: u32,
+    pub programs: u32,
 }

@@ -4,18 +4,21 @@ ghost use Rattle.std.specs.Io.KnownBytes.{Appends, Keeps};
 ghost use Rattle.lt_edges.specs.Causes.{Rose};
 ghost use Rattle.lt_model.specs.Report.{usage_text};
 ghost use Rattle.lt_command.specs.Command.{command, is_taken};
+ghost use Rattle.lt_gen.specs.Summaries.{summary_text};
 ghost use Rattle.lt_report.specs.Puts.{AppendsFront, Puts};
 ghost use Rattle.lt_session.specs.Input.{limit};
 ghost use Rattle.lt_session.specs.Statuses.{status_code};
-ghost use Rattle.lt_session.specs.Ends.{EndsAs, IfRun, IsFaultReported, IsPart, IsReported, IsTooLong};
+ghost use Rattle.lt_session.specs.Ends.{bench_text, BenchEndsAs, EndsAs, IfBench, IfRun, IsFaultReported, IsPart, IsReported, IsTooLong};
 
+use crate::bench::summarize;
 use crate::halt::Halt;
 use crate::input::{InputError, read_all};
-use crate::options::Options;
+use crate::options::{Generated, Options};
 use crate::script::write_report;
 use crate::status::{Status, code};
 use lt_command::{Command, command_of};
 use lt_edges::{Failed, Gate, Sink, Source};
+use lt_gen::{Summary, bench_summary};
 use lt_report::put_usage;
 use std::alloc::Global;
 use std::sync::Wait;
@@ -73,8 +76,39 @@ fn run_script<R: Threads + Wait + Sync, S: Source, K: Sink, G: Gate>(
     }
 }
 
-/// Runs a command. The status is 0 where a script without a fault was read to its end, 2 where it has one, 1 where the
-/// words aren't taken, 3 or 4 where a read or a write failed, 5 where memory ran out, and 6 where the script is longer
+// Writes the lines of a summary and passes them on.
+fn write_summary<K: Sink>(sink: &mut K, summary: &Summary) -> Result<(), Failed>
+    ensures { Puts result (K.holds sink.old) (K.holds sink.new) (K.faults sink.old) (K.faults sink.new) (summary_text summary.now) }
+{
+    bench_summary(sink, summary)?;
+    sink.flush()
+}
+
+// Runs the generated script and writes what comes of it.
+fn run_bench<R: Threads + Wait + Sync, K: Sink, G: Gate>(
+    rt: &R,
+    alloc: Global,
+    sink: &mut K,
+    generated: Generated,
+    workers: u32,
+    gate: &G,
+) -> Status
+    requires items { (1 ≤ generated.items) × (generated.items ≤ 16384) }
+    requires programs { (1 ≤ generated.programs) × (generated.programs ≤ 65536) }
+    requires workers { (1 ≤ workers) × (workers ≤ 16) }
+    ensures { BenchEndsAs (bench_text generated.seed generated.items generated.programs) result (K.holds sink.old) (K.holds sink.new) (K.faults sink.old) (K.faults sink.new) }
+{
+    let Ok(summary) = summarize(rt, alloc, generated, workers, gate) else {
+        return Status::NoMemory;
+    };
+    match write_summary(sink, &summary) {
+        Ok(()) => Status::Done,
+        Err(_) => Status::WriteFault,
+    }
+}
+
+/// Runs a command. The status is 0 where a script without a fault was read to its end or a bench has run, 2 where the
+/// script has a fault, 1 where the words aren't taken, 3 or 4 where a read or a write failed, 5 where memory ran out, and 6 where the script is longer
 /// than 16,777,216 bytes.
 pub fn repair_main<R: Threads + Wait + Sync, S: Source, K: Sink, G: Gate>(
     rt: &R,
@@ -87,29 +121,52 @@ pub fn repair_main<R: Threads + Wait + Sync, S: Source, K: Sink, G: Gate>(
     // A run: the bytes written are the report of the bytes read, with marks where they are asked for.
     ensures reported { result ≡ 0 → IfRun (command (map string_bytes words.now)) (λ marks. IsReported marks (S.left source.old) (S.left source.new) (K.holds sink.old) (K.holds sink.new)) }
     ensures faulty { result ≡ 2 → IfRun (command (map string_bytes words.now)) (λ marks. IsFaultReported marks (S.left source.old) (S.left source.new) (K.holds sink.old) (K.holds sink.new)) }
+    // A bench: the bytes written tell what comes of the generated script, its programs run one after another.
+    ensures summed { result ≡ 0 → IfBench (command (map string_bytes words.now)) (λ seed items programs. Appends (K.holds sink.old) (K.holds sink.new) (bench_text seed items programs)) }
+    ensures unread { IfBench (command (map string_bytes words.now)) (λ seed items programs. Keeps (S.left source.old) (S.left source.new)) }
     // Why it ended otherwise.
     ensures words { (result ≡ 1) ⊎ (result ≡ 4) ⊎ (result ≡ 5) ⊎ IsTrue (is_taken (map string_bytes words.now)) }
-    ensures not_taken { result ≡ 1 → IfRun (command (map string_bytes words.now)) (λ marks. ⊥) }
+    ensures not_taken { result ≡ 1 → is_taken (map string_bytes words.now) ≡ false }
     ensures usage { result ≡ 1 → Appends (K.holds sink.old) (K.holds sink.new) usage_text }
     ensures read_fault { result ≡ 3 → Rose (S.faults source.old) (S.faults source.new) }
     ensures write_fault { result ≡ 4 → Rose (K.faults sink.old) (K.faults sink.new) }
     ensures too_long { result ≡ 6 → IsTooLong (S.left source.old) (S.left source.new) }
+    ensures bench_ends { IfBench (command (map string_bytes words.now)) (λ seed items programs. (result ≡ 0) ⊎ (result ≡ 4) ⊎ (result ≡ 5)) }
     ensures known { result ≤ 6 }
     // What was written until then.
     ensures part { result ≡ 4 → IfRun (command (map string_bytes words.now)) (λ marks. IsPart marks (S.left source.old) (S.left source.new) (K.holds sink.old) (K.holds sink.new)) }
     ensures memory_part { result ≡ 5 → IfRun (command (map string_bytes words.now)) (λ marks. Keeps (K.holds sink.old) (K.holds sink.new) ⊎ IsPart marks (S.left source.old) (S.left source.new) (K.holds sink.old) (K.holds sink.new)) }
+    ensures bench_part { result ≡ 4 → IfBench (command (map string_bytes words.now)) (λ seed items programs. AppendsFront (K.holds sink.old) (K.holds sink.new) (bench_text seed items programs)) }
+    ensures bench_unwritten { result ≡ 5 → IfBench (command (map string_bytes words.now)) (λ seed items programs. Keeps (K.holds sink.old) (K.holds sink.new)) }
     ensures usage_part { result ≡ 4 → is_taken (map string_bytes words.now) ≡ false → AppendsFront (K.holds sink.old) (K.holds sink.new) usage_text }
     ensures unwritten { ((result ≡ 3) ⊎ (result ≡ 6)) → Keeps (K.holds sink.old) (K.holds sink.new) }
     // Where no read and no write failed and the input is within the limit, it is run, or memory ran out.
     ensures complete { IfRun (command (map string_bytes words.now)) (λ marks. (Rose (S.faults source.old) (S.faults source.new) → ⊥) → (Rose (K.faults sink.old) (K.faults sink.new) → ⊥)
         → IfSome (S.left source.old) (λ bytes. length bytes ≤ limit) → IsSome (S.left source.old) → (result ≡ 0) ⊎ (result ≡ 2) ⊎ (result ≡ 5)) }
+    ensures bench_complete { IfBench (command (map string_bytes words.now)) (λ seed items programs. (Rose (K.faults sink.old) (K.faults sink.new) → ⊥) → (result ≡ 0) ⊎ (result ≡ 5)) }
 {
     match command_of(alloc, words) {
         Ok(Some(Command::Run { workers, marks })) => {
             let options = Options { workers, marks };
             code(run_script(rt, alloc, source, sink, options, gate))
         }
-        Ok(Some(Command::Bench { .. })) => code(refuse_words(sink)),
+        Ok(
+            Some(
+                Command::Bench {
+                    seed,
+                    items,
+                    programs,
+                    workers,
+                },
+            ),
+        ) => {
+            let generated = Generated {
+                seed,
+                items,
+                programs,
+            };
+            code(run_bench(rt, alloc, sink, generated, workers, gate))
+        }
         Ok(None) => code(refuse_words(sink)),
         Err(_) => code(Status::NoMemory),
     }

@@ -51,7 +51,7 @@ fn database_at<'a>(
 impl World {
     ghost use Rattle.lt_model.specs.Report as model;
     ghost use Rattle.lt_session.specs.Batches.{IsRun};
-    ghost use Rattle.lt_session.specs.World.{IsWorld, said, Shows, Takes};
+    ghost use Rattle.lt_session.specs.World.{IsWorld, said, Shows, ShowsNow, Takes};
 
     /// No relation, and no version but the empty one.
     pub fn new(alloc: Global) -> Result<World, NoMemory>
@@ -138,6 +138,14 @@ impl World {
         let version = database.share()?;
         self.versions.publish(version)?;
         self.database = database;
+        Ok(())
+    }
+
+    /// Gives up the versions that were made; those that come are numbered from 1 on.
+    pub fn forget_versions(&mut self, alloc: Global) -> Result<(), NoMemory>
+        ensures { OnOk result ((m : model.World) → Shows self.old m → ShowsNow self.new m) }
+    {
+        self.versions = Versions::new(alloc)?;
         Ok(())
     }
 

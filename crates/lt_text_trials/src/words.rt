@@ -91,8 +91,8 @@ const BENCHES: [(&str, Option<(u64, u32, u32, u32)>); 15] = [
     ("bench --seed 1 --items 64 --programs 32 --marks", None),
 ];
 
-// The words of a line, after the program's name.
-fn line_words(alloc: Global, line: &str) -> Result<Vec<String>, AllocError> {
+/// The words of a line, after the program's name.
+pub(crate) fn line_words(alloc: Global, line: &str) -> Result<Vec<String>, AllocError> {
     let mut words = words_of(alloc, &["lt_shell"])?;
     for word in line.split_whitespace() {
         words.push(String::from_str(alloc, word)?)?;

@@ -140,3 +140,19 @@ fn rows_take_the_marks(rt: HostRuntime) -> Result<(), NoMemory> {
     same(&rt, other.len(), 0);
     Ok(())
 }
+
+/// Whether the row that a database takes in place is there, also in its index.
+fn takes_marks_in_place(alloc: Global) -> Result<bool, NoMemory> {
+    let perm = swapped(alloc)?;
+    let before = indexed(alloc, &perm)?;
+    let marks = mark_on(alloc, 3, 7)?;
+    let after = before.lay(&marks)?;
+    Ok(has_the_row(alloc, &after, &perm))
+}
+
+#[test]
+fn each_index_takes_the_marks_in_place(rt: HostRuntime) -> Result<(), NoMemory> {
+    let is_so = takes_marks_in_place(rt.alloc())?;
+    holds(&rt, is_so);
+    Ok(())
+}

@@ -4,8 +4,9 @@ ghost use Rattle.std.specs.Prelude.{◌≡◌, IfOk};
 use crate::agree::{holds, same};
 use lt_circuit::board::Board;
 use lt_circuit::tree::{leaf_at, node_of, parent_of, right_of};
+use lt_circuit::{Entry, Event};
 use lt_face::NoMemory;
-use lt_net::JobName;
+use lt_net::{JobName, codes_over, nodes_over};
 use std::alloc::Global;
 
 #[test]
@@ -55,6 +56,38 @@ fn codes_name_jobs(rt: HostRuntime) {
         same(&rt, name.code(), code);
         holds(&rt, JobName::of(code) == name);
     }
+}
+
+#[test]
+fn codes_tell_entries(rt: HostRuntime) {
+    let (worker, job) = (1, JobName::Leaf(3));
+    let taken = Entry {
+        worker,
+        job,
+        event: Event::Claim,
+    };
+    let done = Entry {
+        worker,
+        job,
+        event: Event::Finish,
+    };
+    let given_up = Entry {
+        worker,
+        job,
+        event: Event::Abandon,
+    };
+    same(
+        &rt,
+        (taken.code(), done.code(), given_up.code()),
+        (27, 28, 29),
+    );
+}
+
+/// Of five leaves there are nine nodes, each with three codes.
+#[test]
+fn the_codes_over_five_leaves(rt: HostRuntime) {
+    same(&rt, (nodes_over(5), codes_over(5)), (9, 27));
+    same(&rt, (nodes_over(0), codes_over(0)), (0, 0));
 }
 
 /// The opening of a batch of two programs.

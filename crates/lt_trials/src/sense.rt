@@ -1,7 +1,7 @@
 //! Which rows a sense covers, and the first of changed rows that it covers.
 use crate::agree::{holds, same};
 use crate::rows::{columns, row};
-use lt_face::{END, Items, Key, NoMemory, Row};
+use lt_face::{END, Gap, Items, Key, NoMemory, Row};
 use lt_sense::{Changes, Sense, Spot};
 use std::alloc::Global;
 
@@ -57,6 +57,32 @@ fn with_gap(
 
 fn covers(sense: &Sense, relation: u32, row: &Row) -> bool {
     sense.covers(relation, row)
+}
+
+/// A sense of those gaps that iterator 1 noted.
+fn of_the_second(alloc: Global) -> Result<Sense, NoMemory> {
+    let own_order = columns(alloc, &[0])?;
+    let none = row(alloc, &[]);
+    let noted = [
+        (1, Gap { lo: 2, hi: 4 }),
+        (0, Gap { lo: 4, hi: 6 }),
+        (1, Gap { lo: 6, hi: 8 }),
+        (1, Gap { lo: 9, hi: 9 }),
+    ];
+    let mut sense = Sense::new(alloc);
+    sense.add_gaps(3, &own_order, &none, 1, &noted)?;
+    Ok(sense)
+}
+
+#[test]
+fn one_iterators_gaps_are_gathered(rt: HostRuntime) -> Result<(), NoMemory> {
+    let sense = of_the_second(rt.alloc())?;
+    same(&rt, sense.gap_count(), 2);
+    for (cell, covered) in [(2, true), (4, false), (7, true), (9, false)] {
+        let is_covered = covers(&sense, 3, &row(rt.alloc(), &[cell]));
+        same(&rt, (cell, is_covered), (cell, covered));
+    }
+    Ok(())
 }
 
 #[test]

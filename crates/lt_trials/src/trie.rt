@@ -44,6 +44,24 @@ fn goes_down_and_up(rt: HostRuntime) -> Result<(), NoMemory> {
 }
 
 #[test]
+fn enters_where_a_copy_was_opened(rt: HostRuntime) -> Result<(), NoMemory> {
+    let set = two_rows(rt.alloc())?;
+    let mut moves: Moves<()> = Moves::new();
+    let mut trie = TrieIter::new(rt.alloc(), &set);
+    let mut opened = trie.copy();
+    opened.open_level(&mut moves);
+    trie.enter(&opened);
+    same(&rt, (trie.key(), trie.level()), (1, 1));
+    let mut below = trie.copy();
+    below.open_level(&mut moves);
+    trie.enter(&below);
+    same(&rt, (trie.key(), trie.level()), (7, 2));
+    trie.up();
+    same(&rt, (trie.key(), trie.level()), (1, 1));
+    Ok(())
+}
+
+#[test]
 fn moves_on_at_its_level(rt: HostRuntime) -> Result<(), NoMemory> {
     let set = two_rows(rt.alloc())?;
     let mut moves: Moves<()> = Moves::new();

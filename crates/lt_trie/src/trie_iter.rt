@@ -45,6 +45,16 @@ impl<'a, R: RowReads> Model for TrieIter<'a, R> {
     }) };
 }
 
+/// Where the next search begins: at the root with the first row.
+fn near_at(level: u32, near: Near) -> Near {
+    if level == 0 { Near::start() } else { near }
+}
+
+/// Where the next search begins after the last level was entered, below which there is none, or another.
+fn near_in(is_last: bool, above: Near, there: Near) -> Near {
+    if is_last { above } else { there }
+}
+
 impl<'a, R: RowReads> TrieIter<'a, R> {
     /// At the root of the set's trie. `alloc` is for the prefix, which takes no memory from it.
     pub fn new(alloc: Global, rows: &'a R) -> TrieIter<'a, R>
@@ -116,6 +126,29 @@ impl<'a, R: RowReads> TrieIter<'a, R> {
     {
         self.level -= 1;
         self.key = self.prefix.pop().unwrap_or(END);
+        self.near = near_at(self.level, self.near);
+    }
+
+    /// Goes to where another iterator stands, which was opened one level below this one's key. It is not counted as a move.
+    pub fn enter(&mut self, opened: &TrieIter<'a, R>)
+        requires level { opened.now.level ≡ self.old.level + 1 }
+        requires root { self.old.level ≡ 0 → opened.now.prefix ≡ [] }
+        requires deeper { 0 < self.old.level → opened.now.prefix ≡ self.old.prefix ++ self.old.here ∷ [] }
+        ensures { self.new ≡ opened.now }
+    {
+        let level = opened.level;
+        if self.level > 0 {
+            let above = self.key;
+            self.prefix.push(above);
+        }
+        self.rows = opened.rows;
+        self.level = level;
+        self.key = opened.key;
+        self.near = near_in(
+            level as usize == opened.rows.width(),
+            self.near,
+            opened.near,
+        );
     }
 
     /// Goes to the least key of the level at or above the bound.

@@ -1,14 +1,13 @@
 -- What a seat knows while its workers go on.
-use Rattle.std.proofs.Common.{◌≡◌, ◌≢◌, ℕ, ◌<◌, ◌≤◌, ◌⊎◌, inl, inr, ⊎_elim, List, [], ◌∷◌, ◌++◌, map, Option, Some, None, Bool, true, false, cond, ltb, length, refl, sym, ap, ◌∙◌, subst, arith, append_assoc, append-nil}
+use Rattle.std.proofs.Common.{◌≡◌, ℕ, ⊎_elim, List, [], ◌∷◌, ◌++◌, map, Option, Some, None, true, false, cond, ltb, length, refl, sym, ap, ◌∙◌, subst, arith, append_assoc, append-nil}
 use mathlib.Core.Logic.{dite}
 use native.Mathlib.Decide.{ℕ_discrete, dec_le}
 use Rattle.lt_model.specs.declared.mark.Mark.{Mark}
 use Rattle.lt_net.specs.declared.job.JobState.TheVariants.{Clean}
 use Rattle.lt_net.specs.Kept.{IsKept}
-use Rattle.lt_net.specs.Net.{Net, State, Claim as Held, Event, Claims as Claim, Finishes, Abandons, step, claim_step, claim_of, is_held, is_pending, replay, opening, IsSettled}
+use Rattle.lt_net.specs.Net.{Net, State, Claim as Held, Event, Claims as Claim, Finishes, Abandons, step, claim_step, is_held, is_pending, replay, opening, IsSettled}
 use Rattle.lt_net.proofs.Serial.{reached_kept}
 use Rattle.lt_circuit.specs.Circuit.{CircuitView, state}
-use Rattle.lt_circuit.specs.Claiming.{IsAnswer}
 use Rattle.lt_circuit.specs.declared.claim.Claim.TheVariants.{Settled as SettledAnswer}
 use Rattle.lt_turn.specs.Journal.{Extends}
 use Rattle.lt_turn.specs.Rule.{above, below, joined, longer}

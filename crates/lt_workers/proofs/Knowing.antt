@@ -1,17 +1,16 @@
 -- What a seat knows of the circuit.
-use Rattle.std.proofs.Common.{◌≡◌, ◌≢◌, ℕ, ◌+◌, ◌<◌, ◌≤◌, inl, arith, List, [], ◌∷◌, ◌++◌, map, Option, Some, None, refl, sym, ap, ◌∙◌, subst}
+use Rattle.std.proofs.Common.{◌≡◌, ◌≢◌, ℕ, ◌+◌, ◌<◌, ◌≤◌, inl, arith, List, ◌++◌, map, Option, Some, None, refl, sym, ap, ◌∙◌, subst}
 use mathlib.Core.Logic.{dite}
 use native.Mathlib.Decide.{dec_le}
 use Rattle.std.proofs.lemmas.List.Elements.{All-weaker}
 use Rattle.lt_net.specs.Alone.{IsUnclaimed}
 use Rattle.lt_model.specs.declared.mark.Mark.{Mark}
-use Rattle.lt_net.specs.Net.{Net, State, Claim as Held, finished, abandoned, update, opening, replay}
+use Rattle.lt_net.specs.Net.{Net, State, Claim as Held, finished, abandoned, opening, replay}
 use Rattle.lt_net.proofs.Kept.{update_same}
 use Rattle.lt_circuit.specs.declared.claim.Claim.{Claim}
 use Rattle.lt_circuit.specs.declared.claim.Claim.TheVariants.{Job, Busy, Settled, NoMemory}
 use Rattle.lt_circuit.specs.Circuit.{CircuitView, state, IsReplay}
 use Rattle.lt_circuit.specs.Claiming.{IsAnswer}
-use Rattle.lt_circuit.specs.Job.{claim_of_job}
 use Rattle.lt_turn.specs.Journal.{Extends, GoesOn, IsOutside}
 use Rattle.lt_turn.specs.declared.view.View.{View}
 use Rattle.lt_workers.specs.declared.held.Basis.{Basis}

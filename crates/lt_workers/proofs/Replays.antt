@@ -1,18 +1,15 @@
 -- Claims over a list of events: an event changes its own worker's claim alone.
-use Rattle.std.proofs.Common.{◌≡◌, ◌≢◌, ℕ, ◌+◌, ◌*◌, ◌<◌, ◌≤◌, ◌/◌, ◌%◌, ◌⊎◌, inl, inr, ⊎_elim, Bool, true, false, List, [], ◌∷◌, ◌++◌, map, Option, Some, None, refl, sym, ap, ◌∙◌, subst, arith}
-use Rattle.std.specs.Prelude.{All, if◌then◌else◌, ◌==◌}
+use Rattle.std.proofs.Common.{◌≡◌, ◌≢◌, ℕ, ◌<◌, ◌≤◌, ⊎_elim, Bool, true, false, List, [], ◌∷◌, ◌++◌, map, Option, Some, None, refl, sym, ap, ◌∙◌, arith}
+use Rattle.std.specs.Prelude.{All, if◌then◌else◌}
 use Rattle.std.specs.List.{AllByRecursion}
 use Rattle.std.proofs.lemmas.List.{map-append}
 use Rattle.std.proofs.lemmas.List.Elements.{All-head, All-tail}
-use Rattle.lt_net.specs.Net.{Net, State, Claim as Held, Event, Claims, Finishes, Abandons, step, claim_step, finish_step, abandon_step, claim_of, claimed, finished, abandoned, is_pending, update, replay}
+use Rattle.lt_net.specs.Net.{Net, State, Claim as Held, Event, Claims, Finishes, Abandons, step, claim_step, finish_step, abandon_step, claim_of, claimed, finished, abandoned, is_pending, replay}
 use Rattle.lt_circuit.specs.Shape.{worker_of}
 use Rattle.lt_net.proofs.Runs.{replay_append}
 use Rattle.lt_circuit.specs.declared.entry.Entry.{Entry}
-use Rattle.lt_circuit.specs.declared.entry.Event.{Event as Kind}
-use Rattle.lt_circuit.specs.declared.entry.Event.TheVariants.{Claim, Finish, Abandon}
-use Rattle.lt_circuit.specs.Entry.{event_of, event_on, kind_code, coded_event}
-use Rattle.lt_net.specs.Tree.{code_of}
-use Rattle.lt_net.proofs.Shape.{eq_false}
+use Rattle.lt_circuit.specs.Entry.{event_of}
+use Rattle.lt_circuit.proofs.Entries.{event_told, worker_told}
 use Rattle.lt_circuit.proofs.Steps.{other_claim}
 use Rattle.lt_turn.specs.Journal.{IsOutside}
 use Rattle.lt_workers.specs.Seen.{pair_of, event_for}
@@ -48,17 +45,9 @@ module _ (net : Net) where
       by_step None eq later is = absurd (cc)
       by_step (Some u) eq later is = later u is ∙ step_keeps s u e v all.0 eq
 
-worker_is : (p : ℕ × ℕ) → worker_of (event_for p) ≡ p.0
-worker_is p = by_end (p.1 % 3 == 0) (p.1 % 3 == 1)
-  where
-    by_end : (a b : Bool) → worker_of (if a then Claims p.0 (p.1 / 3) else (if b then Finishes p.0 (p.1 / 3) else Abandons p.0 (p.1 / 3))) ≡ p.0
-    by_end true b = refl
-    by_end false true = refl
-    by_end false false = refl
-
 outside : (first end v : ℕ) (e : ℕ × ℕ) → first ≤ v → v < end → IsOutside first end e → v ≢ worker_of (event_for e)
 outside first end v e low high out same =
-    let is : worker_of (event_for e) ≡ e.0 = worker_is e in
+    let is : worker_of (event_for e) ≡ e.0 = worker_told e.0 e.1 in
     ⊎_elim (λ (l : e.0 < first). absurd (omega arith)) (λ (h : end ≤ e.0). absurd (omega arith)) out
 
 pub events_outside : (first end v : ℕ) (rest : List (ℕ × ℕ)) → first ≤ v → v < end → All (IsOutside first end) rest → AllByRecursion (λ (e : Event). v ≢ worker_of e) (map event_for rest)
@@ -77,24 +66,7 @@ replay_parts net s t es fs is = by_middle (replay net (Some s) es) refl (sym (re
 pub events_append : (xs ys : List (ℕ × ℕ)) → map event_for (xs ++ ys) ≡ map event_for xs ++ map event_for ys
 events_append xs ys = map-append event_for xs ys
 
--- ---- an entry's code tells its event
-
-kind_event : (k : Kind) (w j : ℕ) → coded_event w (3 * j + kind_code k) ≡ event_on k w j
-kind_event Claim w j =
-    let a : ((3 * j + 0) % 3 == 0) ≡ true = ap (λ n. n == 0) (let z : (3 * j + 0) % 3 ≡ 0 = omega arith in z) in
-    let d : (3 * j + 0) / 3 ≡ j = omega arith in
-    rw (a, d)
-kind_event Finish w j =
-    let a : ((3 * j + 1) % 3 == 0) ≡ false = eq_false ((3 * j + 1) % 3) 0 (omega arith) in
-    let b : ((3 * j + 1) % 3 == 1) ≡ true = ap (λ n. n == 1) (let z : (3 * j + 1) % 3 ≡ 1 = omega arith in z) in
-    let d : (3 * j + 1) / 3 ≡ j = omega arith in
-    rw (a, b, d)
-kind_event Abandon w j =
-    let a : ((3 * j + 2) % 3 == 0) ≡ false = eq_false ((3 * j + 2) % 3) 0 (omega arith) in
-    let b : ((3 * j + 2) % 3 == 1) ≡ false = eq_false ((3 * j + 2) % 3) 1 (omega arith) in
-    let d : (3 * j + 2) / 3 ≡ j = omega arith in
-    rw (a, b, d)
-
+-- the events of a journal's codes are those of its entries
 pub events_are : (es : List Entry) → map event_for (map pair_of es) ≡ map event_of es
 events_are [] = refl
-events_are (e ∷ es) = λ i. kind_event e.event e.worker (code_of e.job) i ∷ events_are es i
+events_are (e ∷ es) = λ i. event_told e i ∷ events_are es i

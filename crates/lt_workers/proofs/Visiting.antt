@@ -1,7 +1,7 @@
 -- What a seat knows after a visit to the circuit.
-use Rattle.std.proofs.Common.{◌≡◌, ◌≢◌, ℕ, ◌<◌, ◌≤◌, List, Option, Some, None, refl, sym, ap, ◌∙◌, subst}
+use Rattle.std.proofs.Common.{◌≡◌, ◌≢◌, ℕ, ◌<◌, ◌≤◌, List, Option, Some, None, sym, ap, ◌∙◌, subst}
 use Rattle.lt_model.specs.declared.mark.Mark.{Mark}
-use Rattle.lt_net.specs.Net.{State, Claim as Held}
+use Rattle.lt_net.specs.Net.{Claim as Held}
 use Rattle.lt_circuit.specs.declared.claim.Claim.{Claim}
 use Rattle.lt_circuit.specs.declared.claim.Claim.TheVariants.{Job, Busy, Settled, NoMemory}
 use Rattle.lt_circuit.specs.Circuit.{CircuitView, state, IsReplay}

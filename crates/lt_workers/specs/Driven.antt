@@ -1,7 +1,7 @@
 -- What a seat knows once its workers have ended.
-use Rattle.std.specs.Prelude.{◌≡◌, ◌≢◌, ℕ, ◌<◌, ◌≤◌, List, ◌++◌, Option, Some, None, IfSome}
+use Rattle.std.specs.Prelude.{◌≡◌, ◌≢◌, ℕ, ◌<◌, ◌≤◌, List, ◌++◌, Option, None, IfSome}
 use Rattle.lt_model.specs.declared.mark.Mark.{Mark}
-use Rattle.lt_net.specs.Net.{State, Claim, IsSettled}
+use Rattle.lt_net.specs.Net.{State, IsSettled}
 use Rattle.lt_turn.specs.declared.view.View.{View}
 use Rattle.lt_workers.specs.declared.held.Basis.{Basis}
 use Rattle.lt_workers.specs.declared.driving.Ended.{Ended}

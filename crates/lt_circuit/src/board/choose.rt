@@ -7,7 +7,7 @@
 ghost use Rattle.std.specs.Prelude.{◌≡◌, ◌≢◌, ℕ, true, false, ◌<◌, ◌^◌, None, IfSome};
 ghost use Rattle.lt_net.specs.declared.job.JobState.TheVariants.{Pending};
 ghost use Rattle.lt_net.specs.declared.job.JobName.TheVariants.{Leaf};
-ghost use Rattle.lt_net.specs.Tree.{code_of};
+ghost use Rattle.lt_net.specs.Codes.{code_of};
 ghost use Rattle.lt_circuit.specs.Board.{state_of};
 
 use super::Board;

@@ -5,7 +5,8 @@ ghost use Rattle.std.specs.Prelude.{◌≡◌, ℕ, ◌+◌, ◌*◌, ◌-◌, �
 ghost use Rattle.lt_model.specs.declared.mark.Mark.{Mark as MarkType};
 ghost use Rattle.lt_model.specs.Marks.{and_then};
 ghost use Rattle.lt_net.specs.Net.{Claim, Correction, finished};
-ghost use Rattle.lt_net.specs.Tree.{circuit_net, tree_of, right_in, code_of};
+ghost use Rattle.lt_net.specs.Tree.{circuit_net, tree_of, right_in};
+ghost use Rattle.lt_net.specs.Codes.{code_of};
 ghost use Rattle.lt_net.specs.declared.job.JobName.TheVariants.{Leaf, Merge, Correct};
 ghost use Rattle.lt_net.specs.declared.job.JobState.TheVariants.{Running};
 ghost use Rattle.lt_circuit.specs.Board.{state_of};

@@ -2,7 +2,8 @@
 ghost use Rattle.std.specs.Prelude.{◌≡◌, ◌≢◌, ◌+◌, ◌*◌, ◌<◌, [], None, IfOk};
 ghost use Rattle.lt_net.specs.declared.job.JobName.TheVariants.{Leaf, Merge, Correct};
 ghost use Rattle.lt_net.specs.Net.{read};
-ghost use Rattle.lt_net.specs.Tree.{code_of, inputs_of, right_in, tree_of};
+ghost use Rattle.lt_net.specs.Tree.{inputs_of, right_in, tree_of};
+ghost use Rattle.lt_net.specs.Codes.{code_of};
 ghost use Rattle.lt_circuit.specs.Board.{inputs_list, state_of};
 
 use super::Board;

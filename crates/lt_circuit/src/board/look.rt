@@ -1,8 +1,8 @@
 //! What the tables tell.
 #![tactic(auto)]
 
-ghost use Rattle.std.specs.Prelude.{◌≡◌, true, ◌*◌, ◌-◌, ◌<◌, ◌≤◌, ◌^◌, IsTrue, ◌↔◌, max};
-ghost use Rattle.lt_net.specs.Tree.{code_of};
+ghost use Rattle.std.specs.Prelude.{◌≡◌, true, ◌<◌, ◌≤◌, ◌^◌, IsTrue, ◌↔◌, max};
+ghost use Rattle.lt_net.specs.Codes.{code_of, codes_over, nodes_over};
 ghost use Rattle.lt_net.specs.Net.{Effect, Correction};
 ghost use Rattle.lt_circuit.specs.Board.{standing, state_of};
 ghost use Rattle.lt_net.specs.declared.job.JobState.TheVariants.{Pending, Running};
@@ -29,7 +29,7 @@ impl Board {
 
     /// Whether a worker does the job, on inputs that stand now.
     pub fn is_running(&self, job: JobName) -> bool
-        requires { code_of job < 3 * (2 * self.now.leaves - 1) }
+        requires { code_of job < codes_over self.now.leaves }
         ensures { result ≡ true → (state_of self.now).status (code_of job) ≡ Running }
     {
         let _leaves = self.leaves;
@@ -46,7 +46,7 @@ impl Board {
 
     /// The effect of a node.
     pub fn effect(&self, node: u32) -> &Marks
-        requires { node < max (2 * self.now.leaves - 1) 1 }
+        requires { node < max (nodes_over self.now.leaves) 1 }
         ensures { result.now ≡ (state_of self.now).value (Effect node) }
     {
         self.nodes.effect(node)
@@ -54,7 +54,7 @@ impl Board {
 
     /// The correction of a node.
     pub fn correction(&self, node: u32) -> &Marks
-        requires { node < max (2 * self.now.leaves - 1) 1 }
+        requires { node < max (nodes_over self.now.leaves) 1 }
         ensures { result.now ≡ (state_of self.now).value (Correction node) }
     {
         self.nodes.correction(node)

@@ -1,5 +1,5 @@
 //! The opening of a circuit.
-ghost use Rattle.std.specs.Prelude.{◌≡◌, ◌*◌, ◌-◌, ◌≤◌, ℕ, List, None, IfOk, max};
+ghost use Rattle.std.specs.Prelude.{◌≡◌, ◌≤◌, ℕ, List, None, IfOk, max};
 ghost use Rattle.lt_model.specs.declared.mark.Mark.{Mark as MarkType};
 ghost use Rattle.lt_net.specs.Net.{opening};
 ghost use Rattle.lt_net.specs.Tree.{circuit_net, tree_of};
@@ -10,15 +10,8 @@ use crate::holders::{Holders, nones};
 use crate::jobs::Jobs;
 use crate::nodes::Nodes;
 use lt_face::NoMemory;
+use lt_net::nodes_over;
 use std::alloc::Global;
-
-/// How many nodes the tree over so many leaves has.
-fn nodes_over(leaves: u32) -> u32
-    requires { leaves ≤ 256 }
-    ensures { result ≡ 2 * leaves - 1 }
-{
-    if leaves == 0 { 0 } else { 2 * leaves - 1 }
-}
 
 fn at_least_one(n: u32) -> u32
     ensures { result ≡ max n 1 }
@@ -35,9 +28,8 @@ impl Board {
         ensures free { IfOk result (λ board. standing board.claims ≡ 0) }
         ensures state { IfOk result (λ board. (effect : ℕ → List MarkType → List MarkType) → state_of board ≡ opening (circuit_net effect (tree_of leaves))) }
     {
-        let count = nodes_over(leaves);
-        let nodes = Nodes::bare(alloc, at_least_one(count))?;
-        let jobs = Jobs::start(alloc, leaves, 3 * count)?;
+        let nodes = Nodes::bare(alloc, at_least_one(nodes_over(leaves)))?;
+        let jobs = Jobs::start(alloc, leaves)?;
         let done = nones(alloc, leaves as usize)?;
         let holders = Holders::none(alloc)?;
         Ok(Board {

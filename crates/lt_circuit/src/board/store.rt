@@ -1,10 +1,11 @@
 //! The steps of a finish.
 #![tactic(auto)]
 
-ghost use Rattle.std.specs.Prelude.{◌≡◌, ◌≢◌, ℕ, true, false, ◌+◌, ◌*◌, ◌-◌, ◌<◌, ◌≤◌, List, Some, None, slice_set, if◌then◌else◌};
+ghost use Rattle.std.specs.Prelude.{◌≡◌, ◌≢◌, ℕ, true, false, ◌+◌, ◌*◌, ◌<◌, ◌≤◌, List, Some, None, slice_set, if◌then◌else◌};
 ghost use Rattle.lt_model.specs.declared.mark.Mark.{Mark as MarkType};
 ghost use Rattle.lt_net.specs.Net.{Claim, Effect, Correction, update, woken, ended};
-ghost use Rattle.lt_net.specs.Tree.{circuit_net, code_of, tree_of, halved_tree};
+ghost use Rattle.lt_net.specs.Tree.{circuit_net, tree_of, halved_tree};
+ghost use Rattle.lt_net.specs.Codes.{code_of, codes_over};
 ghost use Rattle.lt_net.specs.declared.job.JobName.TheVariants.{Leaf};
 ghost use Rattle.lt_circuit.specs.Store.{closed, stored, kept_leaf, readers_of};
 ghost use Rattle.lt_circuit.specs.Board.{state_of, waked, waked_all};
@@ -49,7 +50,7 @@ fn is_change(old: &Marks, new: &Marks) -> bool
 impl Board {
     /// One of the job's inputs has changed.
     fn wake(&mut self, job: JobName)
-        requires { code_of job < 3 * (2 * self.old.leaves - 1) }
+        requires { code_of job < codes_over self.old.leaves }
         ensures { self.new ≡ waked self.old (code_of job) }
     {
         let _leaves = self.leaves;
@@ -140,7 +141,7 @@ impl Board {
     /// The job's claim ends, and where an input changed since, the job is to be done again. It answers what the worker held.
     pub(crate) fn close(&mut self, worker: u32, job: JobName) -> Option<Held>
         requires worker { worker < 16 }
-        requires job { code_of job < 3 * (2 * self.old.leaves - 1) }
+        requires job { code_of job < codes_over self.old.leaves }
         ensures leaves { self.new.leaves ≡ self.old.leaves }
         ensures claims { self.new.claims ≡ slice_set self.old.claims worker None }
         ensures state { (claim : Claim) → claim.job ≡ code_of job → state_of self.new ≡ closed (state_of self.old) worker claim }

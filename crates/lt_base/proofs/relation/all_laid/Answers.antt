@@ -1,19 +1,20 @@
-use Rattle.std.proofs.Common.{◌≡◌, map, arith, sym, ap, subst, ◌∙◌}
+use Rattle.std.proofs.Common.{◌≡◌, List, map, arith, sym, ap, subst, ◌∙◌}
 use Rattle.std.specs.List.{AllByRecursion}
 use Rattle.std.proofs.lemmas.List.{take_all}
-use Rattle.lt_face.specs.Rows.{IsRow}
+use Rattle.lt_face.specs.Rows.{IsRow, IsRowSet}
+use Rattle.lt_face.specs.State.{Row}
 use Rattle.lt_face.proofs.RowLemmas.{each_at}
 use Rattle.lt_model.specs.declared.mark.Mark.{Mark}
 use Rattle.lt_base.specs.declared.index.Index.{Index}
-use Rattle.lt_base.specs.Columns.{IsPermOf}
+use Rattle.lt_delta.specs.Columns.{IsPermuted}
 use Rattle.lt_base.specs.Indexed.{index_laid}
 use Rattle.lt_base.proofs.Grown.{grown}
 use Rattle.lt_base.proofs.relation.all_laid.Goals as goal
 
-pub laid-requires-clause-perm : goal.laid-requires-clause-perm
-laid-requires-clause-perm c =
-    subst (λ (i : Index). IsPermOf i.rows.width i.columns) (sym c.index-item.is)
-    (each_at (λ (i : Index). IsPermOf i.rows.width i.columns) c.deref-index-items.result.now c.loop-index.index-index c.index-item.result (rw c.deref-index-items.ensures.value c.requires.perms) c.loop-index-test.true)
+pub laid-requires-clause-indexed : goal.laid-requires-clause-indexed
+laid-requires-clause-indexed c =
+    subst (λ (i : Index). (table : List Row) × IsRowSet i.rows.width table × IsPermuted i.rows.width i.columns table i.rows.rows) (sym c.index-item.is)
+    (each_at (λ (i : Index). (table : List Row) × IsRowSet i.rows.width table × IsPermuted i.rows.width i.columns table i.rows.rows) c.deref-index-items.result.now c.loop-index.index-index c.index-item.result (rw c.deref-index-items.ensures.value c.requires.indexed) c.loop-index-test.true)
 
 pub laid-requires-clause-fit : goal.laid-requires-clause-fit
 laid-requires-clause-fit c =

@@ -7,7 +7,7 @@ use Rattle.lt_face.specs.Rows.{IsRow}
 use Rattle.lt_face.proofs.RowLemmas.{each_at}
 use Rattle.lt_model.specs.declared.mark.Mark.{Mark}
 use Rattle.lt_base.specs.declared.index.Index.{Index}
-use Rattle.lt_base.specs.Columns.{IsPermOf}
+use Rattle.lt_delta.specs.Columns.{IsPermOf}
 use Rattle.lt_base.specs.Indexed.{index_laid}
 use Rattle.lt_base.proofs.relation.lay_all.Goals as goal
 

@@ -1,5 +1,6 @@
 use Rattle.std.proofs.Common.{rules, ◌∙◌, [], ◌∷◌, ap, sym, subst, arith}
-use Rattle.lt_net.specs.Tree.{code_of, inputs_of, tree_of}
+use Rattle.lt_net.specs.Tree.{inputs_of, tree_of}
+use Rattle.lt_net.specs.Codes.{code_of}
 use Rattle.lt_net.proofs.Inside.{leaf_inside, merge_inside, correct_inside, correct_inner, correct_reads}
 use Rattle.lt_net.specs.Net.{first_of, read}
 use Rattle.lt_circuit.specs.Board.{state_of}

@@ -42,4 +42,4 @@ returns c =
     let over : (length c.args.first.now ≤ c.both.i) ⊎ (length c.args.second.now ≤ c.both.j) =
     elim c.both-test.branch [ then-both-test+else-j-second w ↦ inr (omega arith) | else-both-test w ↦ inl (omega arith) ] in
     owners_finished arc_value c.args.first.now c.args.second.now c.both.marks.items c.both.i c.both.j c.requires.second c.both.invariant.done
-    c.append.new.marks.items c.append-2.new.marks.items over c.in_ok-append.ensures c.in_ok-append-2.ensures
+    c.append.new.list.items c.append-2.new.list.items over c.in_ok-append.ensures c.in_ok-append-2.ensures

@@ -11,4 +11,4 @@ returns c =
     let last = step_last c.args.row.now c.args.prefix.now c.args.bound c.requires in
     let all : is_lt (row_cmp c.args.row.now (c.args.prefix.now ++ c.args.bound ∷ [])) ≡ is_lt (row_cmp (drop n c.args.row.now) (drop n c.args.prefix.now ++ c.args.bound ∷ [])) =
     subst (λ i. is_lt (row_cmp c.args.row.now (c.args.prefix.now ++ c.args.bound ∷ [])) ≡ is_lt (row_cmp (drop i c.args.row.now) (drop i c.args.prefix.now ++ c.args.bound ∷ []))) at c.loop-i.invariant in
-    rw c.cell.ensures (sym (all ∙ last))
+    rw c.cells-cells.ensures.cells (sym (all ∙ last))

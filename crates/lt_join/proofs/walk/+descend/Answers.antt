@@ -1,20 +1,31 @@
 use Rattle.std.proofs.Common.{◌≡◌, ℕ, ◌+◌, ◌-◌, ◌<◌, ◌≤◌, List, length, Some, slice_get, [], ◌∷◌, ◌++◌, sym, refl, ◌∙◌, ap, arith, subst, drop}
 use Rattle.lt_join.specs.Walked.{IsReached, IsExploredBelow, HitsAbove, at}
 use Rattle.lt_join.specs.Cost.{cost_from, LevelGains}
-use Rattle.lt_join.specs.Holders.{IsOpen, IsUsable, IsJoined, left_of, atoms_at}
+use Rattle.std.specs.List.{AllZip}
+use Rattle.lt_join.specs.Holders.{IsOpen, IsTrieOf, IsUsable, IsJoined, left_of, atoms_at}
 use Rattle.lt_join.proofs.Costs.{IsPaid-begun, IsPaid-more, cost-all, cost-stopped, cost-opened, IsCredited-begun, IsCredited-more, GainsFewer-below}
-use Rattle.lt_join.proofs.Steps.{IsUnderWay-begun, IsUnderWay-more, IsExploredBelow-all, IsReached-child, leaf_with, leaf_without, length_push, slice_get_is, popped, witnesses_grow, FoundGrows-chain}
+use Rattle.lt_join.proofs.Steps.{IsUnderWay-begun, IsUnderWay-more, IsExploredBelow-all, IsReached-child, length_push, slice_get_is, popped, witnesses_grow, FoundGrows-chain}
+use Rattle.lt_join.proofs.Entering.{left_iters}
 use Rattle.lt_join.proofs.Usable.{walkable_all, usable_at, next_iters, hits_before}
 use Rattle.lt_join.proofs.walk.+descend.Goals as goal
 
 pub open_level-requires-clause-walkable : goal.open_level-requires-clause-walkable
 open_level-requires-clause-walkable g t c = walkable_all c.args.body.now c.args.plan.now c.requires.of_body
 
-pub deeper-requires-clause-walkable : goal.deeper-requires-clause-walkable
-deeper-requires-clause-walkable g t c = walkable_all c.args.body.now c.args.plan.now c.requires.of_body
+pub enter-requires-clause-walkable : goal.enter-requires-clause-walkable
+enter-requires-clause-walkable g t c = walkable_all c.args.body.now c.args.plan.now c.requires.of_body
 
 pub add_hits-requires-clause-walkable : goal.add_hits-requires-clause-walkable
 add_hits-requires-clause-walkable g t c = walkable_all c.args.body.now c.args.plan.now c.requires.of_body
+
+pub leave-requires-clause-walkable : goal.leave-requires-clause-walkable
+leave-requires-clause-walkable g t c = walkable_all c.args.body.now c.args.plan.now c.requires.of_body
+
+pub leave-requires-clause-iters : goal.leave-requires-clause-iters
+leave-requires-clause-iters g t c =
+    let pushed : c.push.new.self ≡ c.args.keys.now ++ c.loop-joined.joined.key ∷ [] = c.in_ok-push.ensures.ok ∙ ap (λ ks. ks ++ c.loop-joined.joined.key ∷ []) c.loop-joined.invariant.way.same in
+    let back : c.pop.new.self ≡ c.args.keys.now = popped c.args.keys.now c.loop-joined.joined.key c.descend.new.keys c.pop.new.self (c.in_ok-stopped.ensures.back ∙ pushed) c.pop.ensures in
+    left_iters (g.I.Indexes.state c.args.tables.now) c.args.plan.now.guides c.args.keys.now c.pop.new.self c.push.new.self c.loop-joined.joined.key c.descend.new.iters.items back pushed c.in_ok-stopped.ensures.iters
 
 pub open_level-requires-clause-usable : goal.open_level-requires-clause-usable
 open_level-requires-clause-usable g t c =
@@ -32,12 +43,13 @@ loop-joined-init g t c = record {
   unfound = λ h. refl;
   rises = c.open_level.ensures.moves;
   is_open = c.in_ok-joined.ensures.stands.is_open;
+  iters = c.requires.iters;
 }
 
 pub add_hits-requires-clause-iters : goal.add_hits-requires-clause-iters
 add_hits-requires-clause-iters g t c =
     let pushed : c.push.new.self ≡ c.args.keys.now ++ c.loop-joined.joined.key ∷ [] = c.in_ok-push.ensures.ok ∙ ap (λ ks. ks ++ c.loop-joined.joined.key ∷ []) c.loop-joined.invariant.way.same in
-    next_iters (g.I.Indexes.state c.args.tables.now) c.args.plan.now.guides c.args.keys.now c.loop-joined.keys c.push.new.self c.loop-joined.joined.key c.in_ok-next.next.items c.deref.result.now c.loop-joined.invariant.way.same pushed c.deref.ensures.value c.in_ok-next.ensures
+    next_iters (g.I.Indexes.state c.args.tables.now) c.args.plan.now.guides c.args.keys.now c.loop-joined.keys c.push.new.self c.loop-joined.joined.key c.enter.new.iters.items c.deref-in-loop-joined.result.now c.loop-joined.invariant.way.same pushed c.deref-in-loop-joined.ensures.value c.enter.ensures
 
 pub add_hits-requires-clause-hits : goal.add_hits-requires-clause-hits
 add_hits-requires-clause-hits g t c =
@@ -80,6 +92,7 @@ loop-joined-preserved g t c =
       unfound = λ h. c.in_ok-stopped.ensures.unfound h c.if-stopped.false ∙ inv.unfound h;
       rises = omega (arith, inv.rises, c.descend.ensures.moves, c.next_key.ensures.moves);
       is_open = next.is_open;
+      iters = subst (λ (ks : List ℕ). AllZip (IsTrieOf (g.I.Indexes.state c.args.tables.now) (length ks) (at ks)) c.args.plan.now.guides c.leave.new.iters.items) back c.leave.ensures;
     }
 
 pub returns-clause-explored : goal.returns-clause-explored
@@ -128,14 +141,6 @@ returns-in_err-next_key-clause-cost g t c =
     let below = subst (λ ks. c.descend.new.moves ≤ c.loop-joined.moves + cost_from (g.I.Indexes.state c.args.tables.now) c.args.plan.now.guides (drop (length ks) c.args.plan.now.levels) (length ks) (at ks)) pushed c.descend.ensures.cost in
     cost-stopped c.args.plan.now (g.I.Indexes.state c.args.tables.now) c.args.keys.now c.index-as_slice-depth.result c.args.moves.now c.loop-joined.moves (left_of c.loop-joined.joined.leap) c.loop-joined.joined.key c.next_key.new.moves here (omega arith) c.loop-joined.invariant.paid (omega (arith, below, c.next_key.ensures.within))
 
-pub returns-in_err-next-clause-cost : goal.returns-in_err-next-clause-cost
-returns-in_err-next-clause-cost g t c =
-    let apart : length c.args.keys.now ≡ length c.args.plan.now.levels → ⊥ = λ e. c.if-depth-len.false (c.len-depth.ensures ∙ e ∙ sym c.len.ensures) in
-    let deeper : length c.args.keys.now < length c.args.plan.now.levels = omega (arith, c.requires.reached.within) in
-    let here : slice_get c.args.plan.now.levels (length c.args.keys.now) ≡ Some c.index-as_slice-depth.result =
-    slice_get_is c.args.plan.now.levels (length c.args.keys.now) c.index-as_slice-depth.result deeper (rw (c.as_slice.ensures, c.len-depth.ensures) at c.index-as_slice-depth.is) in
-    cost-all c.args.plan.now (g.I.Indexes.state c.args.tables.now) c.args.keys.now c.index-as_slice-depth.result c.args.moves.now c.loop-joined.moves (left_of c.loop-joined.joined.leap) c.loop-joined.joined.key here c.loop-joined.invariant.paid
-
 pub returns-in_err-push-clause-cost : goal.returns-in_err-push-clause-cost
 returns-in_err-push-clause-cost g t c =
     let apart : length c.args.keys.now ≡ length c.args.plan.now.levels → ⊥ = λ e. c.if-depth-len.false (c.len-depth.ensures ∙ e ∙ sym c.len.ensures) in
@@ -173,7 +178,7 @@ descend-requires g t c =
     let here : slice_get c.args.plan.now.levels (length c.args.keys.now) ≡ Some c.index-as_slice-depth.result =
     slice_get_is c.args.plan.now.levels (length c.args.keys.now) c.index-as_slice-depth.result deeper (rw (c.as_slice.ensures, c.len-depth.ensures) at c.index-as_slice-depth.is) in
     let longer : length c.push.new.self ≡ length c.args.keys.now + 1 = ap length pushed ∙ length_push c.args.keys.now c.loop-joined.joined.key in
-    let iters = next_iters (g.I.Indexes.state c.args.tables.now) c.args.plan.now.guides c.args.keys.now c.loop-joined.keys c.push.new.self c.loop-joined.joined.key c.in_ok-next.next.items c.deref-in-loop-joined.result.now c.loop-joined.invariant.way.same pushed c.deref-in-loop-joined.ensures.value c.in_ok-next.ensures in
+    let iters = next_iters (g.I.Indexes.state c.args.tables.now) c.args.plan.now.guides c.args.keys.now c.loop-joined.keys c.push.new.self c.loop-joined.joined.key c.enter.new.iters.items c.enter.new.iters.items c.loop-joined.invariant.way.same pushed refl c.enter.ensures in
     let key = c.loop-joined.invariant.way.at_key (omega arith) in λ κs lives. (
       omega (arith, longer, deeper),
       (
@@ -210,3 +215,12 @@ returns-then-stopped-clause-gains g t c =
     let few = subst (λ n. length c.add_hits.new.sense.hits ≤ length c.loop-joined.found.sense.hits + length (atoms_at c.args.plan.now.guides n)) last c.in_ok-add_hits.ensures.few in
     GainsFewer-below (length (atoms_at c.args.plan.now.guides (length c.args.keys.now))) c.args.found.now.sense c.loop-joined.found.sense c.add_hits.new.sense c.descend.new.found.sense c.args.moves.now c.loop-joined.moves c.descend.new.moves c.loop-joined.joined.key
     c.loop-joined.invariant.credited (omega arith) c.in_ok-add_hits.ensures.gaps few c.in_ok-stopped.ensures.gains
+
+pub returns-then-stopped-clause-iters : goal.returns-then-stopped-clause-iters
+returns-then-stopped-clause-iters g t c =
+    let pushed : c.push.new.self ≡ c.args.keys.now ++ c.loop-joined.joined.key ∷ [] = c.in_ok-push.ensures.ok ∙ ap (λ ks. ks ++ c.loop-joined.joined.key ∷ []) c.loop-joined.invariant.way.same in
+    let back : c.pop.new.self ≡ c.args.keys.now = popped c.args.keys.now c.loop-joined.joined.key c.descend.new.keys c.pop.new.self (c.in_ok-stopped.ensures.back ∙ pushed) c.pop.ensures in
+    subst (λ (ks : List ℕ). AllZip (IsTrieOf (g.I.Indexes.state c.args.tables.now) (length ks) (at ks)) c.args.plan.now.guides c.leave.new.iters.items) back c.leave.ensures
+
+pub returns-clause-iters : goal.returns-clause-iters
+returns-clause-iters g t c = c.loop-joined.invariant.iters

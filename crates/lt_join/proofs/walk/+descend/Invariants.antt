@@ -1,5 +1,7 @@
 use Rattle.std.proofs.Common.{◌≡◌, ◌-◌, ◌^◌, ◌≤◌, length, true}
-use Rattle.lt_join.specs.Holders.{IsOpen, left_of, atoms_at}
+use Rattle.std.specs.List.{AllZip}
+use Rattle.lt_join.specs.Walked.{at}
+use Rattle.lt_join.specs.Holders.{IsOpen, IsTrieOf, left_of, atoms_at}
 use Rattle.lt_join.proofs.Steps.{IsUnderWay}
 use Rattle.lt_join.proofs.Costs.{IsPaid, IsCredited}
 use Rattle.lt_join.proofs.walk.+descend.Given as goal
@@ -15,6 +17,7 @@ invariant-loop-joined g l = record {
   unfound : l.fn.first ≡ true → l.found.rows ≡ l.fn.found.rows;
   rises : l.fn.moves ≤ l.moves;
   is_open : IsOpen l.fn.plan (g.I.Indexes.state l.fn.tables) l.fn.keys l.level l.joined.leap l.joined.key;
+  iters : AllZip (IsTrieOf (g.I.Indexes.state l.fn.tables) (length l.fn.keys) (at l.fn.keys)) l.fn.plan.guides l.iters.items;
 }
 
 abbrev pub decreases-loop-joined : goal.decreases-loop-joined

@@ -30,7 +30,7 @@ returns-clause-moved g c =
 pub returns-clause-ring : goal.returns-clause-ring
 returns-clause-ring g c =
     let l = length-map c.args.iters.now.items g.I.KeyIter.here in
-    let a = advanced _ _ _ c.args.to _ _ c.requires.ring (λ i lt. c.requires.ahead i (omega arith)) c.requires.bound (returns-clause-moved g c) c.rotate_left.ensures.items in
+    let a = advanced _ _ _ c.args.to _ _ c.requires.ring (λ i lt. c.requires.ahead i (omega arith)) c.requires.bound (returns-clause-moved g c) c.put_last.ensures in
     rw (returns-clause-keys g c) a.is_ring
 
 pub returns-clause-is_move : goal.returns-clause-is_move

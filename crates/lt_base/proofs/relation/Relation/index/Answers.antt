@@ -1,6 +1,6 @@
 use Rattle.std.proofs.Common.{◌≡◌, ◌∙◌, sym, ap, true}
 use Rattle.lt_face.specs.State.{row_eq}
-use Rattle.lt_base.specs.Columns.{numbers}
+use Rattle.lt_delta.specs.Columns.{numbers}
 use Rattle.lt_base.proofs.OwnOrder.{own_index}
 use Rattle.lt_base.proofs.Finds.{other_index}
 use Rattle.lt_base.proofs.relation.Relation.index.Goals as goal

@@ -1,31 +1,29 @@
-use Rattle.std.proofs.Common.{◌≡◌, ℕ, true, false, sym, ◌∙◌, subst, refl}
+use Rattle.std.proofs.Common.{◌≡◌, ℕ, List, ap, sym, ◌∙◌, subst, refl}
 use Rattle.std.specs.List.{AllByRecursion}
-use Rattle.lt_face.specs.Rows.{IsRow}
+use Rattle.lt_face.specs.Rows.{IsRow, IsRowSet}
+use Rattle.lt_face.specs.State.{Row}
 use Rattle.lt_face.proofs.RowLemmas.{each_weaker}
 use Rattle.lt_model.specs.declared.mark.Mark.{Mark}
 use Rattle.lt_delta.specs.Laying.{rows_laid}
 use Rattle.lt_base.specs.declared.index.Index.{Index}
-use Rattle.lt_base.specs.Columns.{IsPermOf}
+use Rattle.lt_delta.specs.Columns.{IsPermuted, numbers}
 use Rattle.lt_base.specs.Indexed.{IsIndexed}
 use Rattle.lt_base.specs.Tables.{Table}
-use Rattle.lt_base.proofs.Edited.{IsRowSet-marked, laid_by_own}
+use Rattle.lt_base.proofs.Layered.{own_exact, own_order, own_permuted}
 use Rattle.lt_base.proofs.Kept.{indexes_laid, same_columns}
 use Rattle.lt_base.proofs.relation.Relation.laid.Goals as goal
 
-pub laid-requires-clause-gone : goal.laid-requires-clause-gone
-laid-requires-clause-gone c =
-    let fits = subst (λ (t : Table). AllByRecursion (λ (m : Mark). m.relation ≡ c.args.number → IsRow t.width m.row) c.args.marks.now) (sym c.self.view_is) c.requires in
-    rw c.in_ok-edits.ensures.gone (IsRowSet-marked c.self.inside.first.width c.args.number false c.args.marks.now c.edits.ensures.ascending fits)
+pub rows_with-requires-clause-perm : goal.rows_with-requires-clause-perm
+rows_with-requires-clause-perm c = own_order c.self.inside.first.width c.in_ok-own.own (c.in_ok-own.ensures ∙ ap (numbers 0) c.width.ensures.value)
 
-pub laid-requires-clause-come : goal.laid-requires-clause-come
-laid-requires-clause-come c =
-    let fits = subst (λ (t : Table). AllByRecursion (λ (m : Mark). m.relation ≡ c.args.number → IsRow t.width m.row) c.args.marks.now) (sym c.self.view_is) c.requires in
-    rw c.in_ok-edits.ensures.come (IsRowSet-marked c.self.inside.first.width c.args.number true c.args.marks.now c.edits.ensures.ascending fits)
+pub rows_with-requires-clause-fit : goal.rows_with-requires-clause-fit
+rows_with-requires-clause-fit c = subst (λ (t : Table). AllByRecursion (λ (m : Mark). m.relation ≡ c.args.number → IsRow t.width m.row) c.args.marks.now) (sym c.self.view_is) c.requires
 
-pub all_laid-requires-clause-perms : goal.all_laid-requires-clause-perms
-all_laid-requires-clause-perms c =
-    each_weaker (IsIndexed c.self.inside.first.width c.self.inside.first.rows) (λ (i : Index). IsPermOf i.rows.width i.columns)
-    (λ i is. subst (λ (n : ℕ). IsPermOf n i.columns) (sym is.wide) is.same.perm) c.self.inside.others.items c.self.invariant.1
+pub all_laid-requires-clause-indexed : goal.all_laid-requires-clause-indexed
+all_laid-requires-clause-indexed c =
+    each_weaker (IsIndexed c.self.inside.first.width c.self.inside.first.rows) (λ (i : Index). (table : List Row) × IsRowSet i.rows.width table × IsPermuted i.rows.width i.columns table i.rows.rows)
+    (λ i is. (c.self.inside.first.rows, subst (λ (n : ℕ). IsRowSet n c.self.inside.first.rows) (sym is.wide) c.width.ensures.is_set, subst (λ (n : ℕ). IsPermuted n i.columns c.self.inside.first.rows i.rows.rows) (sym is.wide) is.same))
+    c.self.inside.others.items c.self.invariant.1
 
 pub all_laid-requires-clause-fit : goal.all_laid-requires-clause-fit
 all_laid-requires-clause-fit c =
@@ -35,14 +33,21 @@ all_laid-requires-clause-fit c =
 
 pub invariant_of-result : goal.invariant_of-result
 invariant_of-result c =
+    let width = c.self.inside.first.width in
     let fits = subst (λ (t : Table). AllByRecursion (λ (m : Mark). m.relation ≡ c.args.number → IsRow t.width m.row) c.args.marks.now) (sym c.self.view_is) c.requires in
-    let kept = indexes_laid c.self.inside.first.width c.args.number c.self.inside.first.rows c.args.marks.now c.self.inside.others.items c.self.invariant.1 c.width-width.ensures.is_set.each fits in
+    let kept = indexes_laid width c.args.number c.self.inside.first.rows c.args.marks.now c.self.inside.others.items c.self.invariant.1 c.width.ensures.is_set.each fits in
+    let own : c.in_ok-own.own ≡ numbers 0 width = c.in_ok-own.ensures ∙ ap (numbers 0) c.width.ensures.value in
     let rows : c.in_ok-first.first.rows ≡ rows_laid c.args.number c.self.inside.first.rows c.args.marks.now =
-    c.in_ok-first.ensures.rows ∙ laid_by_own c.args.number c.self.inside.first.rows c.in_ok-edits.edits.gone c.in_ok-edits.edits.come c.args.marks.now c.width-width.ensures.is_set.rises c.edits.ensures.ascending c.in_ok-edits.ensures.gone c.in_ok-edits.ensures.come in
+    own_exact width c.args.number c.in_ok-own.own c.args.marks.now c.self.inside.first.rows c.in_ok-first.first.rows own c.width.ensures.is_set fits c.width-width.ensures.is_set.rises
+    (c.in_ok-first.ensures.rows c.self.inside.first.rows c.width.ensures.is_set (own_permuted width c.in_ok-own.own c.self.inside.first.rows own c.width.ensures.is_set.each)) in
     rw (c.in_ok-first.ensures.width, rows, c.in_ok-others.ensures) (c.self.invariant.0, kept)
 
 pub returns : goal.returns
 returns c =
+    let width = c.self.inside.first.width in
+    let fits = subst (λ (t : Table). AllByRecursion (λ (m : Mark). m.relation ≡ c.args.number → IsRow t.width m.row) c.args.marks.now) (sym c.self.view_is) c.requires in
+    let own : c.in_ok-own.own ≡ numbers 0 width = c.in_ok-own.ensures ∙ ap (numbers 0) c.width.ensures.value in
     let rows : c.in_ok-first.first.rows ≡ rows_laid c.args.number c.self.inside.first.rows c.args.marks.now =
-    c.in_ok-first.ensures.rows ∙ laid_by_own c.args.number c.self.inside.first.rows c.in_ok-edits.edits.gone c.in_ok-edits.edits.come c.args.marks.now c.width-width.ensures.is_set.rises c.edits.ensures.ascending c.in_ok-edits.ensures.gone c.in_ok-edits.ensures.come in
+    own_exact width c.args.number c.in_ok-own.own c.args.marks.now c.self.inside.first.rows c.in_ok-first.first.rows own c.width.ensures.is_set fits c.width-width.ensures.is_set.rises
+    (c.in_ok-first.ensures.rows c.self.inside.first.rows c.width.ensures.is_set (own_permuted width c.in_ok-own.own c.self.inside.first.rows own c.width.ensures.is_set.each)) in
     rw (← c.self.view_is, c.in_ok-first.ensures.width, rows, c.in_ok-others.ensures, same_columns c.args.number c.args.marks.now c.self.inside.others.items) refl

@@ -5,7 +5,7 @@ use Rattle.lt_face.proofs.RowLemmas.{each_weaker}
 use Rattle.lt_model.specs.declared.mark.Mark.{Mark}
 use Rattle.lt_delta.specs.Laying.{rows_laid}
 use Rattle.lt_base.specs.declared.index.Index.{Index}
-use Rattle.lt_base.specs.Columns.{IsPermOf}
+use Rattle.lt_delta.specs.Columns.{IsPermOf}
 use Rattle.lt_base.specs.Indexed.{IsIndexed}
 use Rattle.lt_base.specs.Tables.{Table}
 use Rattle.lt_base.proofs.Edited.{IsRowSet-marked, laid_by_own}

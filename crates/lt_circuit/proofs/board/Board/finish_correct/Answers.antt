@@ -1,6 +1,7 @@
 use Rattle.std.proofs.Common.{◌≡◌, ◌<◌, ◌+◌, ◌∙◌, ap, sym, refl, [], Some, None, arith}
 use Rattle.lt_net.specs.Net.{Claim, Correction, State}
-use Rattle.lt_net.specs.Tree.{circuit_net, code_of, tree_of, halved_tree, right_in, right_of}
+use Rattle.lt_net.specs.Tree.{circuit_net, tree_of, halved_tree, right_in, right_of}
+use Rattle.lt_net.specs.Codes.{code_of}
 use Rattle.lt_net.specs.declared.job.JobName.TheVariants.{Correct}
 use Rattle.lt_circuit.specs.Store.{stored}
 use Rattle.lt_circuit.specs.Board.{state_of, BoardView}

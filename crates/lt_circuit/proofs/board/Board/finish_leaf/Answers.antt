@@ -1,7 +1,8 @@
 use Rattle.std.proofs.Common.{◌≡◌, ◌∙◌, ap, sym}
 use Rattle.lt_net.specs.Net.{Effect}
 use Rattle.lt_net.specs.declared.job.JobName.TheVariants.{Leaf}
-use Rattle.lt_net.specs.Tree.{code_of, circuit_net, tree_of, node_of, node_in, halved_tree}
+use Rattle.lt_net.specs.Tree.{circuit_net, tree_of, node_of, node_in, halved_tree}
+use Rattle.lt_net.specs.Codes.{code_of}
 use Rattle.lt_circuit.specs.Store.{stored, kept_leaf}
 use Rattle.lt_circuit.specs.Board.{state_of, BoardView}
 use Rattle.lt_circuit.proofs.Finishes.{leaf_is_finished}

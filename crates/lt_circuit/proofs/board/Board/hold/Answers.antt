@@ -1,5 +1,6 @@
 use Rattle.std.proofs.Common.{◌<◌, length, arith}
-use Rattle.lt_net.specs.Tree.{circuit_net, code_of, tree_of}
+use Rattle.lt_net.specs.Tree.{circuit_net, tree_of}
+use Rattle.lt_net.specs.Codes.{code_of}
 use Rattle.lt_circuit.specs.declared.cells.Held.{Held}
 use Rattle.lt_circuit.proofs.Tables.{hold_is}
 use Rattle.lt_circuit.proofs.board.Board.hold.Goals as goal

@@ -1,9 +1,10 @@
 use Rattle.std.proofs.Common.{◌<◌, ◌∙◌, ap, sym, length, None, arith}
 use Rattle.std.proofs.lemmas.List.{get_or_default}
 use Rattle.lt_net.specs.declared.job.JobName.TheVariants.{Leaf}
-use Rattle.lt_net.specs.Tree.{code_of, job_of, inputs_of, tree_of}
+use Rattle.lt_net.specs.Tree.{inputs_of, tree_of}
+use Rattle.lt_net.specs.Codes.{code_of, job_of}
 use Rattle.lt_net.proofs.Inside.{leaf_inside}
-use Rattle.lt_net.proofs.Jobs.{job_of-code}
+use Rattle.lt_net.proofs.Codes.{job_of-code}
 use Rattle.lt_circuit.specs.Board.{done_of}
 use Rattle.lt_circuit.proofs.board.Board.prior.Goals as goal
 

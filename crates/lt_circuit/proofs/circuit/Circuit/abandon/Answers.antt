@@ -1,7 +1,7 @@
 use Rattle.std.proofs.Common.{ap, sym, ◌∙◌, arith, None}
 use Rattle.lt_net.specs.Net.{State}
 use Rattle.lt_circuit.specs.Board.{state_of}
-use Rattle.lt_net.specs.Tree.{code_of}
+use Rattle.lt_net.specs.Codes.{code_of}
 use Rattle.lt_circuit.specs.Job.{task_name}
 use Rattle.lt_circuit.proofs.Steps.{other_claim, claim_of_task, abandon_circuit, task_busy, is_inside, leaf_there, end_fits}
 use Rattle.lt_circuit.proofs.circuit.Circuit.abandon.Goals as goal

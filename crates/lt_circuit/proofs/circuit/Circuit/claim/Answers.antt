@@ -1,5 +1,5 @@
 use Rattle.std.proofs.Common.{ap, arith}
-use Rattle.lt_net.specs.Tree.{code_of}
+use Rattle.lt_net.specs.Codes.{code_of}
 use Rattle.lt_circuit.proofs.circuit.Circuit.claim.Goals as goal
 
 pub returns-in-Ok-clause-coded : goal.returns-in-Ok-clause-coded

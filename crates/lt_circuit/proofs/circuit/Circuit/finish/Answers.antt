@@ -2,7 +2,7 @@ use Rattle.std.proofs.Common.{ap, ◌∙◌, refl, None}
 use Rattle.lt_net.specs.Net.{State, read}
 use Rattle.lt_circuit.specs.Board.{state_of}
 use Rattle.lt_net.specs.Tree.{inputs_of, tree_of}
-use Rattle.lt_net.proofs.Jobs.{job_of-code}
+use Rattle.lt_net.proofs.Codes.{job_of-code}
 use Rattle.lt_circuit.specs.Job.{done_name}
 use Rattle.lt_circuit.proofs.Steps.{other_claim, claim_of_done, finish_circuit, done_busy, is_there, kept, end_fits}
 use Rattle.lt_circuit.proofs.circuit.Circuit.finish.Goals as goal

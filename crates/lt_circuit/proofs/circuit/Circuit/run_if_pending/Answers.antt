@@ -1,5 +1,5 @@
 use Rattle.std.proofs.Common.{refl, ◌∙◌}
-use Rattle.lt_net.specs.Tree.{code_of}
+use Rattle.lt_net.specs.Codes.{code_of}
 use Rattle.lt_circuit.specs.declared.entry.Event.TheVariants.{Claim, Finish, Abandon}
 use Rattle.lt_circuit.specs.Circuit.{state}
 use Rattle.lt_circuit.specs.Job.{claim_of_job, claim_of_output, name_of_job, name_of_output}

@@ -5,7 +5,8 @@ use Rattle.std.specs.List.{AllByRecursion}
 use Rattle.lt_net.specs.declared.job.JobState.TheVariants.{Pending}
 use Rattle.lt_circuit.specs.declared.entry.Event.TheVariants.{Claim}
 use Rattle.lt_net.specs.Net.{read}
-use Rattle.lt_net.specs.Tree.{code_of, inputs_of, tree_of}
+use Rattle.lt_net.specs.Tree.{inputs_of, tree_of}
+use Rattle.lt_net.specs.Codes.{code_of}
 use Rattle.lt_circuit.specs.Board.{inputs_list, standing, state_of}
 use Rattle.lt_net.proofs.Fitting.{all_read}
 use Rattle.lt_circuit.proofs.Steps.{all_fit, claim_circuit, is_inside, is_there, leaf_there, pending_busy, roomier}

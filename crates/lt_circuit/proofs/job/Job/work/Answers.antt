@@ -13,5 +13,5 @@ returns-in-Err-clause-moves g c = search rules
 pub invariant_of-result-in-Ok-and_then : goal.invariant_of-result-in-Ok-and_then
 invariant_of-result-in-Ok-and_then g c = search rules
 
-pub invariant_of-result-in-Ok-and_then-2 : goal.invariant_of-result-in-Ok-and_then-2
-invariant_of-result-in-Ok-and_then-2 g c = search rules
+pub invariant_of-result-in-Ok-stacked : goal.invariant_of-result-in-Ok-stacked
+invariant_of-result-in-Ok-stacked g c = search rules

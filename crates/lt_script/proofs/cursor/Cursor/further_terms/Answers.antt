@@ -8,7 +8,7 @@ use Rattle.lt_script.proofs.cursor.Cursor.further_terms.Goals as goal
 
 pub terms-preserved : goal.terms-preserved
 terms-preserved c =
-    listing_next term_of starts_term term_at 7 c.args.self.now terms_shrink c.args.first c.terms.terms.items c.push-in-terms.new.self.items c.terms.self c.next_term.new.self c.in_ok-term.term (sym c.terms-test.ensures) c.in_ok-term.ensures c.in_ok-push-2.ensures.items (omega arith) c.terms.invariant
+    listing_next term_of starts_term term_at 7 c.args.self.now terms_shrink c.args.first c.terms.terms.items c.push-in-terms.new.self.items c.terms.self c.next_term.new.self c.in_ok-term.term (sym c.terms-test.ensures) c.in_ok-term.ensures c.in_ok-push-2.ensures.ok (omega arith) c.terms.invariant
 
 pub returns-clause-read : goal.returns-clause-read
 returns-clause-read c = listing_ends term_of starts_term term_at 7 c.args.self.now c.args.first c.terms.terms.items c.terms.self (sym c.terms-test.ensures) c.terms.invariant

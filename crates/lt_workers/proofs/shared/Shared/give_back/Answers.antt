@@ -1,6 +1,6 @@
 use Rattle.std.proofs.Common.{rules, ◌≡◌, Some}
 use Rattle.lt_circuit.specs.Circuit.{state}
-use Rattle.lt_workers.specs.Seen.{basis_of, pairs_of, Knows}
+use Rattle.lt_workers.specs.Seen.{basis_of, pairs_of}
 use Rattle.lt_workers.proofs.Knowing.{reached_as, claims_of}
 use Rattle.lt_workers.proofs.shared.Shared.give_back.Goals as goal
 

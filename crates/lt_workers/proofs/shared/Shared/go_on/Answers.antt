@@ -1,6 +1,5 @@
-use Rattle.std.proofs.Common.{◌≡◌, None, subst}
+use Rattle.std.proofs.Common.{None, subst}
 use Rattle.lt_circuit.specs.Circuit.{state}
-use Rattle.lt_circuit.specs.declared.claim.Claim.TheVariants.{Settled}
 use Rattle.lt_workers.specs.Seen.{Claims}
 use Rattle.lt_workers.specs.Visit.{Answers, HasAnswer}
 use Rattle.lt_workers.proofs.Continuing.{others_free, continues_idle, continues_from, settled_answer}

@@ -1,5 +1,3 @@
-use Rattle.std.proofs.Common.{rules, ◌≡◌, ◌<◌, ◌^◌}
-use Rattle.lt_net.specs.Tree.{code_of}
 use Rattle.lt_circuit.specs.Circuit.{state}
 use Rattle.lt_workers.proofs.Continuing.{continues_end}
 use Rattle.lt_workers.proofs.shared.Shared.work_on.Goals as goal

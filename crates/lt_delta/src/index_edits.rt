@@ -1,0 +1,83 @@
+//! `IndexEdits`: what marks do to an index.
+ghost use Rattle.std.specs.Prelude.{◌≡◌, [], ◌∷◌, map, IfOk};
+ghost use Rattle.std.specs.Arc.{arc_value};
+ghost use Rattle.lt_model.specs.Marks.{Marks, AreMarks, and_then};
+ghost use Rattle.lt_delta.specs.IndexEdits.{AreLayersOf, AreWide, IsEditsOf};
+
+use crate::sharing::append;
+use lt_face::items::Perm;
+use lt_face::memory::NoMemory;
+use lt_over::Layer;
+use std::sync::Arc;
+
+/// What marks do to an index of a relation, as layers of edits, the first laid first. The index has the relation's columns in
+/// this order; the relation's own order is an index like the others, with the columns 0, 1 and so on.
+#[derive(Drop)]
+pub struct IndexEdits {
+    pub relation: u32,
+    pub columns: Perm,
+    pub layers: Vec<Arc<Layer>>,
+}
+
+impl IndexEdits {
+    /// The edits of one layer. They are what marks do to the index where the layer is.
+    pub fn of_layer(relation: u32, columns: Perm, layer: Layer) -> Result<IndexEdits, NoMemory>
+        ensures relation { IfOk result (λ edits. edits.relation ≡ relation) }
+        ensures columns { IfOk result (λ edits. edits.columns ≡ columns) }
+        ensures layers { IfOk result (λ edits. map arc_value edits.layers.items ≡ layer ∷ []) }
+        ensures edits { IfOk result (λ edits. (marks : Marks) → AreLayersOf relation columns marks (layer ∷ []) → IsEditsOf marks edits) }
+    {
+        let alloc = columns.allocator();
+        let layer = Arc::new(alloc, layer)?;
+        let mut layers = Vec::with_capacity(alloc, 1)?;
+        layers.push(layer)?;
+        Ok(IndexEdits {
+            relation,
+            columns,
+            layers,
+        })
+    }
+
+    /// The edits of an index and then others of the same index, the layers of both one after another.
+    pub(crate) fn listed(first: &IndexEdits, second: &IndexEdits) -> Result<IndexEdits, NoMemory>
+        requires relation { second.now.relation ≡ first.now.relation }
+        requires columns { second.now.columns ≡ first.now.columns }
+        ensures relation { IfOk result (λ edits. edits.relation ≡ first.now.relation) }
+        ensures columns { IfOk result (λ edits. edits.columns ≡ first.now.columns) }
+        ensures both { IfOk result (λ edits. (a b : Marks) → AreMarks a → IsEditsOf a first.now → IsEditsOf b second.now → IsEditsOf (and_then a b) edits) }
+    {
+        let columns = first.columns.copy()?;
+        let length = first.layers.len().saturating_add(second.layers.len());
+        let mut layers = Vec::with_capacity(columns.allocator(), length)?;
+        append(&mut layers, &first.layers)?;
+        append(&mut layers, &second.layers)?;
+        Ok(IndexEdits {
+            relation: first.relation,
+            columns,
+            layers,
+        })
+    }
+
+    /// The edits of an index and then others of the same index: one layer, where each has one, else as `listed`.
+    pub(crate) fn merged(first: &IndexEdits, second: &IndexEdits) -> Result<IndexEdits, NoMemory>
+        requires relation { second.now.relation ≡ first.now.relation }
+        requires columns { second.now.columns ≡ first.now.columns }
+        requires first { AreWide first.now }
+        requires second { AreWide second.now }
+        ensures relation { IfOk result (λ edits. edits.relation ≡ first.now.relation) }
+        ensures columns { IfOk result (λ edits. edits.columns ≡ first.now.columns) }
+        ensures both { IfOk result (λ edits. (a b : Marks) → AreMarks a → IsEditsOf a first.now → IsEditsOf b second.now → IsEditsOf (and_then a b) edits) }
+    {
+        if first.layers.len() != 1 {
+            return IndexEdits::listed(first, second);
+        }
+        if second.layers.len() != 1 {
+            return IndexEdits::listed(first, second);
+        }
+        let columns = first.columns.copy()?;
+        let layer = Layer::and_then(&first.layers[0], &second.layers[0])?;
+        let _width = layer.width();
+        let edits = IndexEdits::of_layer(first.relation, columns, layer)?;
+        Ok(edits)
+    }
+}

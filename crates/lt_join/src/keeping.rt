@@ -1,0 +1,113 @@
+//! The gaps that the moves of a level noted are kept.
+ghost use Rattle.std.specs.Prelude.{◌≡◌, length, map, OnOk};
+ghost use Rattle.std.specs.List.{AllByRecursion, AllZip};
+ghost use Rattle.lt_sense.specs.Sense.{IsTight};
+ghost use Rattle.lt_leap.specs.Search.{IsGapOf};
+ghost use Rattle.lt_join.specs.Walked.{at};
+ghost use Rattle.lt_join.specs.Holders.{IsSeatOf, AreKept, holders_at};
+ghost use Rattle.lt_join.specs.Seat.{seat_keys};
+
+use crate::noted::NotedGaps;
+use crate::seat::Seat;
+use lt_face::indexes::Indexes;
+use lt_face::items::Items;
+use lt_face::key::Key;
+use lt_face::memory::NoMemory;
+use lt_leap::Leap;
+use lt_query::{Level, Plan};
+use lt_sense::Sense;
+
+/// So many gaps are kept one by one, and more by their iterators.
+const FEW: usize = 4;
+
+/// Keeps the gaps one after another.
+fn keep_each<'a, I: Indexes>(
+    _tables: &'a I,
+    leap: &Leap<Seat<'a, I::Rows>>,
+    noted: &NotedGaps,
+    plan: &Plan,
+    _level: &Level,
+    _keys: &Items<Key>,
+    sense: &mut Sense,
+) -> Result<(), NoMemory>
+    requires seats { AllZip (IsSeatOf plan.now (I.state _tables.now) (length _keys.now) (at _keys.now)) (holders_at plan.now.guides _level.now (length _keys.now) (at _keys.now)) leap.now.iters }
+    requires gaps { AllByRecursion (IsGapOf (map seat_keys leap.now.iters)) noted.now.gaps.items }
+    requires tight { IsTight sense.old (I.state _tables.now) }
+    ensures { OnOk result (AreKept plan.now (I.state _tables.now) _keys.now _level.now sense.old sense.new noted.now.gaps.items) }
+{
+    let guides = plan.guides.as_slice();
+    for item in &noted.gaps {
+        let (place, passed) = *item;
+        match leap.iter(place as usize) {
+            Seat::Walks(walk) => {
+                let guide = &guides[walk.guide];
+                sense.add_gap(
+                    guide.relation,
+                    &guide.columns,
+                    walk.trie.prefix(),
+                    passed.lo,
+                    passed.hi,
+                )?;
+            }
+            Seat::Single(_) => {}
+        }
+    }
+    Ok(())
+}
+
+/// Keeps the gaps iterator by iterator, so that each one's prefix is looked for once.
+fn keep_by_seat<'a, I: Indexes>(
+    _tables: &'a I,
+    leap: &Leap<Seat<'a, I::Rows>>,
+    noted: &NotedGaps,
+    plan: &Plan,
+    _level: &Level,
+    _keys: &Items<Key>,
+    sense: &mut Sense,
+) -> Result<(), NoMemory>
+    requires seats { AllZip (IsSeatOf plan.now (I.state _tables.now) (length _keys.now) (at _keys.now)) (holders_at plan.now.guides _level.now (length _keys.now) (at _keys.now)) leap.now.iters }
+    requires gaps { AllByRecursion (IsGapOf (map seat_keys leap.now.iters)) noted.now.gaps.items }
+    requires tight { IsTight sense.old (I.state _tables.now) }
+    ensures { OnOk result (AreKept plan.now (I.state _tables.now) _keys.now _level.now sense.old sense.new noted.now.gaps.items) }
+{
+    let guides = plan.guides.as_slice();
+    for seat in 0..leap.len() {
+        match leap.iter(seat) {
+            Seat::Walks(walk) => {
+                let guide = &guides[walk.guide];
+                sense.add_gaps(
+                    guide.relation,
+                    &guide.columns,
+                    walk.trie.prefix(),
+                    seat,
+                    &noted.gaps,
+                )?;
+            }
+            Seat::Single(_) => {}
+        }
+    }
+    Ok(())
+}
+
+/// Keeps the gaps that the atoms' iterators of a level noted.
+pub(crate) fn keep_gaps<'a, I: Indexes>(
+    _tables: &'a I,
+    leap: &Leap<Seat<'a, I::Rows>>,
+    noted: &NotedGaps,
+    plan: &Plan,
+    _level: &Level,
+    _keys: &Items<Key>,
+    sense: &mut Sense,
+) -> Result<(), NoMemory>
+    requires seats { AllZip (IsSeatOf plan.now (I.state _tables.now) (length _keys.now) (at _keys.now)) (holders_at plan.now.guides _level.now (length _keys.now) (at _keys.now)) leap.now.iters }
+    requires gaps { AllByRecursion (IsGapOf (map seat_keys leap.now.iters)) noted.now.gaps.items }
+    requires tight { IsTight sense.old (I.state _tables.now) }
+    ensures { OnOk result (AreKept plan.now (I.state _tables.now) _keys.now _level.now sense.old sense.new noted.now.gaps.items) }
+{
+    if noted.gaps.len() <= FEW {
+        keep_each(_tables, leap, noted, plan, _level, _keys, sense)?;
+        return Ok(());
+    }
+    keep_by_seat(_tables, leap, noted, plan, _level, _keys, sense)?;
+    Ok(())
+}

@@ -1,0 +1,12 @@
+use Rattle.std.proofs.Common.{◌≡◌, ◌≤◌, ◌+◌, length, ap, arith}
+use Rattle.lt_face.specs.State.{Relation}
+use Rattle.lt_over.specs.Overlaid.{overlaid}
+use Rattle.lt_over.proofs.Stacks.{length-overlaid}
+use Rattle.lt_over.proofs.over.Over.most.Goals as goal
+
+pub returns : goal.returns
+returns g c =
+    let base = g.B.RowReads.rows c.self.inside.base in
+    let all = length-overlaid base c.self.inside.minus.rows c.self.inside.plus.rows in
+    let seen : length (overlaid base c.self.inside.minus.rows c.self.inside.plus.rows) ≡ length c.args.self.now.rows = ap (λ (v : Relation). length v.rows) c.self.view_is in
+    omega (arith, all, seen, c.len.ensures, c.self.invariant.3)

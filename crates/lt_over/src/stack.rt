@@ -1,0 +1,331 @@
+//! `Stack`: a set of rows under layers of edits that sets share.
+ghost use Rattle.std.specs.Prelude.{◌≡◌, ◌+◌, ◌<◌, ◌≤◌, ◌^◌, ◌++◌, ◌∷◌, [], true, length, map, slice_get, IfOk, OnOk, OnErr};
+ghost use Rattle.std.specs.Arc.{arc_value};
+ghost use Rattle.std.specs.List.{AllByRecursion};
+ghost use Rattle.std.specs.Option.{option_copied};
+ghost use Rattle.lt_face.specs.Rows.{IsRow, first_above, has_row};
+ghost use Rattle.lt_over.specs.Layers.{IsLayer, stacked, under};
+
+use crate::candidate::{candidate_above, candidate_from, candidate_near, find_staying};
+use crate::edits::has_room;
+use crate::layer::Layer;
+use crate::over::Over;
+use lt_face::{Items, Key, Near, NoMemory, Row, RowList, RowReads, RowSet};
+use std::alloc::Global;
+use std::marker::Model;
+use std::sync::Arc;
+
+/// A set of rows with layers of edits laid over it, one after another. Sets share the base and the layers, and no row is
+/// copied to lay one more. A search looks into the base and into each layer.
+#[derive(Drop)]
+pub(crate) struct Stack<B: RowSet> {
+    base: B,
+    layers: Vec<Arc<Layer>>,
+    most: usize,
+}
+
+impl<B: RowSet> Model for Stack<B> {
+    ghost use Rattle.std.specs.Prelude.{◌≤◌, length, map};
+    ghost use Rattle.std.specs.Arc.{arc_value};
+    ghost use Rattle.std.specs.List.{AllByRecursion};
+    ghost use Rattle.lt_face.specs.State.{Relation};
+    ghost use Rattle.lt_over.specs.Layers.{IsLayer, stacked};
+
+    ghost Value = { Relation };
+
+    ghost view = { λ s. record { width = B.width_of s.base; rows = stacked (B.rows s.base) (map arc_value s.layers.items) } };
+
+    ghost invariant = { λ s.
+        AllByRecursion (IsLayer (B.width_of s.base)) (map arc_value s.layers.items)
+        × (length (stacked (B.rows s.base) (map arc_value s.layers.items)) ≤ s.most) };
+}
+
+/// Second owners of the layers.
+fn shared(alloc: Global, layers: &[Arc<Layer>]) -> Result<Vec<Arc<Layer>>, NoMemory>
+    ensures { IfOk result (λ list. map arc_value list.items ≡ map arc_value layers.now) }
+{
+    let mut list = Vec::with_capacity(alloc, layers.len())?;
+    for layer in layers {
+        let layer = layer.clone()?;
+        list.push(layer)?;
+    }
+    Ok(list)
+}
+
+/// One more layer, where there are at most so many rows. Answers how many there are then at most. Want of memory changes nothing.
+fn push_layer(
+    layers: &mut Vec<Arc<Layer>>,
+    most: usize,
+    layer: Arc<Layer>,
+) -> Result<usize, NoMemory>
+    ensures ok { OnOk result (layers.new.items ≡ layers.old.items ++ layer ∷ []) }
+    ensures err { OnErr result (layers.new.items ≡ layers.old.items) }
+    ensures most { IfOk result (λ more. most + length (arc_value layer).come ≤ more) }
+{
+    let _width = layer.width();
+    let more = layer.come().len();
+    if !has_room(most, more) {
+        return Err(NoMemory);
+    }
+    layers.push(layer)?;
+    Ok(most + more)
+}
+
+/// The layer that puts one row in.
+fn put_one(alloc: Global, width: usize, row: Row) -> Result<Arc<Layer>, NoMemory>
+    requires narrow { width ≤ 8 }
+    requires row { IsRow width row }
+    ensures { IfOk result (λ layer. arc_value layer ≡ record { width = width; gone = []; come = row ∷ [] }) }
+{
+    let mut come = Items::new(alloc);
+    come.push(row)?;
+    let layer = Layer::new(width, Items::new(alloc), come)?;
+    let layer = Arc::new(alloc, layer)?;
+    Ok(layer)
+}
+
+/// The layer that takes one row out.
+fn take_one(alloc: Global, width: usize, row: &Row) -> Result<Arc<Layer>, NoMemory>
+    requires narrow { width ≤ 8 }
+    requires row { IsRow width row.now }
+    ensures { IfOk result (λ layer. arc_value layer ≡ record { width = width; gone = row.now ∷ []; come = [] }) }
+{
+    let mut gone = Items::new(alloc);
+    gone.push(row.copy_row())?;
+    let layer = Layer::new(width, gone, Items::new(alloc))?;
+    let layer = Arc::new(alloc, layer)?;
+    Ok(layer)
+}
+
+/// Whether the row is there with the layers laid over the base: what the last layer that tells of it says.
+fn has_stacked<B: RowReads>(base: &B, layers: &[Arc<Layer>], row: &Row) -> bool
+    ensures { result ≡ has_row (stacked (B.rows base.now) (map arc_value layers.now)) row.now }
+{
+    let mut left = layers.len();
+    while left > 0 {
+        let layer: &Layer = &layers[left - 1];
+        if layer.come().has(row) {
+            return true;
+        }
+        if layer.gone().has(row) {
+            return false;
+        }
+        left -= 1;
+    }
+    base.has(row)
+}
+
+/// The row of the stack behind one of its rows.
+fn row_behind<'a, B: RowReads>(
+    base: &'a B,
+    layers: &'a [Arc<Layer>],
+    near: &mut Near,
+    row: &Row,
+) -> Option<&'a Row>
+    requires layers { AllByRecursion (IsLayer (B.width_of base.now)) (map arc_value layers.now) }
+    requires there { has_row (stacked (B.rows base.now) (map arc_value layers.now)) row.now ≡ true }
+    ensures { option_copied result ≡ first_above (stacked (B.rows base.now) (map arc_value layers.now)) row.now }
+{
+    let _width = base.width();
+    let first = candidate_above(base, layers, near, row);
+    find_staying(base, layers, near, first)
+}
+
+/// How many rows the stack has, of at most so many, where its first is known: one search for each.
+fn count_rows<'a, B: RowReads>(
+    base: &'a B,
+    layers: &'a [Arc<Layer>],
+    first: Option<&'a Row>,
+    most: usize,
+) -> usize
+    requires layers { AllByRecursion (IsLayer (B.width_of base.now)) (map arc_value layers.now) }
+    requires first { option_copied first ≡ slice_get (stacked (B.rows base.now) (map arc_value layers.now)) 0 }
+    requires most { length (stacked (B.rows base.now) (map arc_value layers.now)) ≤ most }
+    ensures { result ≡ length (stacked (B.rows base.now) (map arc_value layers.now)) }
+{
+    let _width = base.width();
+    let mut near = Near::start();
+    let mut next = first;
+    let mut count = 0;
+    while let Some(row) = next {
+        next = row_behind(base, layers, &mut near, row);
+        count += 1;
+    }
+    count
+}
+
+impl<B: RowSet> Stack<B> {
+    /// The set of at most so many rows, with no layer over it.
+    pub(crate) fn on(alloc: Global, base: B, most: usize) -> Stack<B>
+        requires { length (B.rows base) ≤ most }
+        ensures rows { result.rows ≡ B.rows base }
+        ensures width { result.width ≡ B.width_of base }
+    {
+        Stack {
+            base,
+            layers: Vec::new(alloc),
+            most,
+        }
+    }
+
+    /// Lays one more layer over the rows. Want of memory leaves them as they were.
+    pub(crate) fn push(&mut self, layer: Arc<Layer>) -> Result<(), NoMemory>
+        requires { (arc_value layer).width ≡ self.old.width }
+        ensures ok { OnOk result (self.new.rows ≡ under self.old.rows (arc_value layer)) }
+        ensures err { OnErr result (self.new.rows ≡ self.old.rows) }
+        ensures width { self.new.width ≡ self.old.width }
+    {
+        let _width = self.base.width();
+        let _width = layer.width();
+        self.most = push_layer(&mut self.layers, self.most, layer)?;
+        Ok(())
+    }
+
+    /// The set with more layers laid over it.
+    pub(crate) fn pushed(&self, more: &[Arc<Layer>]) -> Result<Stack<B>, NoMemory>
+        requires { AllByRecursion (λ layer. layer.width ≡ self.now.width) (map arc_value more.now) }
+        ensures rows { IfOk result (λ stack. stack.rows ≡ stacked self.now.rows (map arc_value more.now)) }
+        ensures width { IfOk result (λ stack. stack.width ≡ self.now.width) }
+    {
+        let mut stack = self.share()?;
+        for layer in more {
+            let layer = layer.clone()?;
+            stack.push(layer)?;
+        }
+        Ok(stack)
+    }
+
+    /// A number that the rows don't pass.
+    pub(crate) fn most(&self) -> usize
+        ensures { length self.now.rows ≤ result }
+    {
+        self.most
+    }
+
+    /// Where the layers' memory comes from.
+    pub(crate) fn allocator(&self) -> Global {
+        *self.layers.allocator()
+    }
+
+    /// Whether there is a layer.
+    pub(crate) fn is_layered(&self) -> bool {
+        !self.layers.is_empty()
+    }
+}
+
+/// The set with the layers among its edits.
+fn laid_all<B: RowSet>(base: &Over<B>, layers: &[Arc<Layer>]) -> Result<Over<B>, NoMemory>
+    requires { AllByRecursion (IsLayer base.now.width) (map arc_value layers.now) }
+    ensures rows { IfOk result (λ set. set.rows ≡ stacked base.now.rows (map arc_value layers.now)) }
+    ensures width { IfOk result (λ set. set.width ≡ base.now.width) }
+{
+    let mut set = base.share()?;
+    for layer in layers {
+        set = set.laid_by(layer.gone(), layer.come())?;
+    }
+    Ok(set)
+}
+
+impl<B: RowSet> Stack<Over<B>> {
+    /// The same rows, with all layers among the edits of the base.
+    pub(crate) fn lowered(&self) -> Result<Over<B>, NoMemory>
+        ensures { IfOk result (λ set. set ≡ self.now) }
+    {
+        let set = laid_all(&self.base, &self.layers)?;
+        Ok(set)
+    }
+}
+
+impl<B: RowSet> RowReads for Stack<B> {
+    ghost rows = { λ s. s.rows };
+
+    ghost width_of = { λ s. s.width };
+
+    fn width(&self) -> usize {
+        self.base.width()
+    }
+
+    /// Takes a search for each row where there is a layer.
+    fn len(&self) -> usize {
+        let _width = self.base.width();
+        if self.layers.is_empty() {
+            return self.base.len();
+        }
+        let layers: &[Arc<Layer>] = &self.layers;
+        let start = Row::from_cells(*self.layers.allocator(), &[]);
+        let first = candidate_from(&self.base, layers, &start);
+        let mut near = Near::start();
+        let first = find_staying(&self.base, layers, &mut near, first);
+        count_rows(&self.base, layers, first, self.most)
+    }
+
+    fn has(&self, row: &Row) -> bool {
+        has_stacked(&self.base, &self.layers, row)
+    }
+
+    fn row_at_least(&self, from: &Row) -> Option<&Row> {
+        let first = candidate_from(&self.base, &self.layers, from);
+        let mut near = Near::start();
+        find_staying(&self.base, &self.layers, &mut near, first)
+    }
+
+    fn row_near(&self, near: &mut Near, prefix: &Row, bound: Key) -> Option<&Row> {
+        if self.layers.is_empty() {
+            return self.base.row_near(near, prefix, bound);
+        }
+        let first = candidate_near(&self.base, &self.layers, near, prefix, bound);
+        find_staying(&self.base, &self.layers, near, first)
+    }
+}
+
+impl<B: RowSet> RowSet for Stack<B> {
+    fn empty(alloc: Global, width: usize) -> Result<Stack<B>, NoMemory> {
+        let base = B::empty(alloc, width)?;
+        Ok(Stack {
+            base,
+            layers: Vec::new(alloc),
+            most: 0,
+        })
+    }
+
+    fn from_sorted(width: usize, rows: RowList) -> Result<Stack<B>, NoMemory> {
+        let alloc = rows.allocator();
+        let most = rows.len();
+        let base = B::from_sorted(width, rows)?;
+        Ok(Stack {
+            base,
+            layers: Vec::new(alloc),
+            most,
+        })
+    }
+
+    fn insert(&mut self, row: Row) -> Result<bool, NoMemory> {
+        let width = self.base.width();
+        if has_stacked(&self.base, &self.layers, &row) {
+            return Ok(false);
+        }
+        let layer = put_one(*self.layers.allocator(), width, row)?;
+        self.most = push_layer(&mut self.layers, self.most, layer)?;
+        Ok(true)
+    }
+
+    fn remove(&mut self, row: &Row) -> Result<bool, NoMemory> {
+        let width = self.base.width();
+        if !has_stacked(&self.base, &self.layers, row) {
+            return Ok(false);
+        }
+        let layer = take_one(*self.layers.allocator(), width, row)?;
+        self.most = push_layer(&mut self.layers, self.most, layer)?;
+        Ok(true)
+    }
+
+    fn share(&self) -> Result<Stack<B>, NoMemory> {
+        let base = self.base.share()?;
+        let layers = shared(*self.layers.allocator(), &self.layers)?;
+        Ok(Stack {
+            base,
+            layers,
+            most: self.most,
+        })
+    }
+}
