@@ -22,13 +22,14 @@ use lt_face::items::Perm;
 use lt_face::memory::NoMemory;
 use lt_face::row::Row;
 use lt_face::row_set::RowReads;
-use lt_over::FlatOver;
+use lt_over::SharedOver;
 use std::alloc::Global;
 use std::marker::Model;
 use std::sync::Arc;
+use std::thread::Threads;
 
 /// The rows of a relation, or of an index.
-pub type Rows = FlatOver;
+pub type Rows = SharedOver;
 
 /// Relations by number, from 0 on. Databases share the relations in which they don't differ.
 #[derive(Drop)]
@@ -248,9 +249,14 @@ impl Database {
         }
     }
 
-    /// The same relations, one of them with an index on its columns in this order, made by one sort. A database that
-    /// has the index already is shared.
-    pub fn with_index(&self, relation: u32, perm: &Perm) -> Result<Database, NoMemory>
+    /// The same relations, one of them with an index on its columns in this order, made by one sort, in threads where the
+    /// rows are many. A database that has the index already is shared.
+    pub fn with_index<R: Threads + Sync>(
+        &self,
+        rt: &R,
+        relation: u32,
+        perm: &Perm,
+    ) -> Result<Database, NoMemory>
         requires there { relation < length (state_of self.now) }
         requires perm { (width : ℕ) → IsWide (state_of self.now) relation width → IsPermOf width perm.now }
         ensures state { IfOk result (λ db. state_of db ≡ state_of self.now) }
@@ -265,7 +271,7 @@ impl Database {
         let place = relation as usize;
         let alloc = *self.relations.allocator();
         let mut relations = shared(&self.relations)?;
-        let indexed = relations[place].with_index(perm)?;
+        let indexed = relations[place].with_index(rt, perm)?;
         let indexed = Arc::new(alloc, indexed)?;
         relations[place] = indexed;
         Ok(Database { relations })

@@ -12,12 +12,14 @@ ghost use Rattle.lt_base.specs.Indexed.{IsIndexed, AreEditsIn, index_laid};
 
 use crate::columns::permuted_row;
 use crate::database::Rows;
+use crate::sorting::sort_rows;
 use crate::walk::permuted_rows;
 use lt_delta::{Edits, IndexEdits, Marks};
 use lt_face::items::{Items, Perm, RowList};
 use lt_face::memory::NoMemory;
 use lt_face::row_set::{RowReads, RowSet};
 use lt_over::Layer;
+use std::thread::Threads;
 
 /// Rows with their cells in the order of the columns.
 #[derive(Drop)]
@@ -98,8 +100,8 @@ pub(crate) fn rows_with(
 }
 
 impl Index {
-    /// The index of these rows on these columns.
-    pub(crate) fn on(rows: &Rows, perm: &Perm) -> Result<Index, NoMemory>
+    /// The index of these rows on these columns, made by one sort, in threads where the rows are many.
+    pub(crate) fn on<R: Threads + Sync>(rt: &R, rows: &Rows, perm: &Perm) -> Result<Index, NoMemory>
         requires some { 1 ≤ rows.now.width }
         requires perm { IsPermOf rows.now.width perm.now }
         ensures columns { IfOk result (λ index. index.columns ≡ perm.now) }
@@ -107,7 +109,7 @@ impl Index {
     {
         let columns = perm.copy()?;
         let mut list = permuted_rows(perm.allocator(), rows, perm.as_slice())?;
-        list.sort_unstable();
+        sort_rows(rt, &mut list);
         let rows = Rows::from_sorted(rows.width(), Items::from_vec(list))?;
         Ok(Index { columns, rows })
     }

@@ -6,6 +6,7 @@ mod columns;
 mod database;
 mod index;
 mod relation;
+mod sorting;
 mod walk;
 
 pub use changes::differing;

@@ -22,6 +22,7 @@ use lt_face::row_set::{RowReads, RowSet};
 use std::alloc::Global;
 use std::marker::Model;
 use std::sync::Arc;
+use std::thread::Threads;
 
 /// The rows with their cells in the order of the columns, and the same rows in other orders.
 #[derive(Drop)]
@@ -179,13 +180,17 @@ impl Relation {
     }
 
     /// The relation with one more index.
-    pub(crate) fn with_index(&self, perm: &Perm) -> Result<Relation, NoMemory>
-        requires { IsPermOf self.now.width perm.now }
+    pub(crate) fn with_index<R: Threads + Sync>(
+        &self,
+        rt: &R,
+        perm: &Perm,
+    ) -> Result<Relation, NoMemory>
+        requires perm { IsPermOf self.now.width perm.now }
         ensures { IfOk result (λ relation. relation ≡ record self.now { others = self.now.others ++ perm.now ∷ [] }) }
     {
         let first = self.first.share()?;
         let mut others = all_shared(&self.others)?;
-        let index = Index::on(&first, perm)?;
+        let index = Index::on(rt, &first, perm)?;
         others.push(index)?;
         Ok(Relation { first, others })
     }

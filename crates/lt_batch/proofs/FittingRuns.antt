@@ -12,7 +12,7 @@ use Rattle.lt_model.specs.Laws.{Rises}
 use Rattle.lt_delta.proofs.Kept.{IsState-laid}
 use Rattle.lt_program.proofs.FittingRuns.{IsGoodEnd, run_fits}
 use Rattle.lt_batch.specs.Work.{IsSnapshot, AreRunnable}
-use Rattle.lt_batch.proofs.Widths.{as_wide-laid, widths-laid, program_fits, marks_fit}
+use Rattle.lt_batch.proofs.Widths.{as_wide-laid, program_fits, marks_fit}
 
 pub rises : (state : State) → IsState state → Rises state
 rises [] all = tt
@@ -22,7 +22,7 @@ pub run_fits_snapshot : {programs : List (List Stmt)} (snapshot : State) (progra
     → IsGoodEnd snapshot (run program (laid snapshot correction))
 run_fits_snapshot snapshot program correction can fits marks =
     let now = laid snapshot correction in
-    let good = run_fits now program (IsState-laid snapshot correction can.snapshot.is_state marks) (widths-laid (λ w. w ≤ 8) snapshot correction can.snapshot.narrow) (program_fits snapshot now (λ r. sym (as_wide-laid snapshot correction r)) program fits) in
+    let good = run_fits now program (IsState-laid snapshot correction can.snapshot.is_state marks) (program_fits snapshot now (λ r. sym (as_wide-laid snapshot correction r)) program fits) in
     (marks_fit now snapshot (as_wide-laid snapshot correction) (run program now).1 good.0, good.1)
 
 -- ---- what a database tells of its relations

@@ -44,7 +44,7 @@ fn settled<R: Threads + Wait + Sync, G: Gate>(
     ensures leaves { IfOk result (λ out. out.1.board.leaves ≡ length progs.now) }
     ensures journal { IfOk result (λ out. IsReplay (does_at (map arc_value progs.now) (state_of db.now)) out.1.board out.1.journal) }
 {
-    let work = BatchWork::new(alloc, db, progs)?;
+    let work = BatchWork::new(rt, alloc, db, progs)?;
     let work = Arc::new(alloc, work)?;
     let leaves = progs.len() as u32;
     let circuit = Circuit::start(alloc, work.clone()?, leaves)?;

@@ -8,6 +8,7 @@ ghost use Rattle.lt_model.specs.Marks.{Marks as MarksView, laid};
 ghost use Rattle.lt_model.specs.Run.{run as run_of};
 ghost use Rattle.lt_base.specs.Tables.{state_of, has_index};
 ghost use Rattle.lt_program.specs.Tally.{HasIndexes, IsRun, ends_at, has_ended};
+ghost use Rattle.lt_query.specs.Planned.{HaveWidths};
 ghost use Rattle.lt_restate.specs.Touches.{cost_again};
 ghost use Rattle.lt_batch.specs.LeafRun.{StandsFor};
 ghost use Rattle.lt_batch.specs.Priors.{IsPriorOf, IsRestated, run_bound, leaf_bound};
@@ -22,16 +23,19 @@ use lt_face::memory::NoMemory;
 use lt_face::moves::Moves;
 use lt_model::normal::Prog;
 use lt_program::{Tally, reads, run};
+use lt_query::laws::plans_of_bodies;
+use lt_query::{Planned, plan_all};
 use lt_restate::restate_marks;
 use std::alloc::Global;
 use std::marker::Model;
 use std::sync::Arc;
+use std::thread::Threads;
 
 /// The programs of a batch, and the snapshot that each of them starts on, with the indexes that they need.
 #[derive(Drop)]
 pub struct BatchWork {
     snapshot: Database,
-    programs: Vec<Arc<Prog>>,
+    programs: Vec<Arc<Planned>>,
     is_reading: bool,
 }
 
@@ -45,18 +49,6 @@ impl Model for BatchWork {
     ghost view = { λ w. record { snapshot = w.snapshot; programs = map arc_value w.programs.items } };
 
     ghost invariant = { λ w. IsBatch w.snapshot (map arc_value w.programs.items) };
-}
-
-/// The same programs, with second owners.
-fn shared(alloc: Global, progs: &[Arc<Prog>]) -> Result<Vec<Arc<Prog>>, NoMemory>
-    ensures { IfOk result (λ shared. map arc_value shared.items ≡ map arc_value progs.now) }
-{
-    let mut shared = Vec::new(alloc);
-    for prog in progs {
-        let prog = prog.clone()?;
-        shared.push(prog)?;
-    }
-    Ok(shared)
 }
 
 /// Whether one of the programs reads a relation.
@@ -83,24 +75,26 @@ fn effect_of(snapshot: &Database, marks: &Marks, is_reading: bool) -> Result<Mar
     }
 }
 
-/// The programs can run on the database: its relations are sets of rows.
+/// The programs can run on the database: its relations are sets of rows. Each of their atoms has 1 to 8 terms.
 fn look_over(db: &Database, progs: &[Arc<Prog>])
     requires { AllByRecursion (Fits (state_of db.now)) (map arc_value progs.now) }
-    ensures { AreRunnable (state_of db.now) (map arc_value progs.now) }
+    ensures runnable { AreRunnable (state_of db.now) (map arc_value progs.now) }
+    ensures widths { AllByRecursion HaveWidths (map arc_value progs.now) }
 {
+    plans_of_bodies();
     db.look_over();
 }
 
 /// The database that a program with this correction runs on: the snapshot with the correction laid on it, or the snapshot
 /// itself where the program reads no relation, since it does the same there.
-fn corrected(snapshot: &Database, prog: &Prog, correction: &Marks) -> Result<Database, NoMemory>
+fn corrected(snapshot: &Database, prog: &Planned, correction: &Marks) -> Result<Database, NoMemory>
     requires { FitMarks (state_of snapshot.now) correction.now }
     ensures base { IfOk result (λ db. state_of db ≡ base_on prog.now (state_of snapshot.now) correction.now) }
     ensures fits { IfOk result (λ db. Fits (state_of snapshot.now) prog.now → Fits (state_of db) prog.now) }
     ensures indexes { IfOk result (λ db. (relation : ℕ) (columns : List ℕ) → has_index db relation columns ≡ has_index snapshot.now relation columns) }
     ensures run { IfOk result (λ db. run_of prog.now (state_of db) ≡ run_of prog.now (laid (state_of snapshot.now) correction.now)) }
 {
-    if reads(prog.as_slice()) {
+    if reads(prog.statements()) {
         let laid = snapshot.laid(correction)?;
         Ok(laid)
     } else {
@@ -111,7 +105,7 @@ fn corrected(snapshot: &Database, prog: &Prog, correction: &Marks) -> Result<Dat
 
 /// The run of a program on another state than that of an old tally.
 fn restated<L>(
-    _prog: &Arc<Prog>,
+    _prog: &Arc<Planned>,
     base: &Database,
     old: &LeafTally,
     correction: &Marks,
@@ -136,7 +130,7 @@ fn restated<L>(
 
 /// The run of a program on a state, by an old tally of it where there is one.
 fn run_on<L>(
-    prog: &Arc<Prog>,
+    prog: &Arc<Planned>,
     base: &Database,
     prior: Option<&LeafTally>,
     correction: &Marks,
@@ -169,7 +163,12 @@ fn run_on<L>(
 
 impl BatchWork {
     /// The work of these programs on this snapshot. It makes the indexes that they need and the snapshot lacks.
-    pub fn new(alloc: Global, db: &Database, progs: &[Arc<Prog>]) -> Result<BatchWork, NoMemory>
+    pub fn new<R: Threads + Sync>(
+        rt: &R,
+        alloc: Global,
+        db: &Database,
+        progs: &[Arc<Prog>],
+    ) -> Result<BatchWork, NoMemory>
         requires { AllByRecursion (Fits (state_of db.now)) (map arc_value progs.now) }
         ensures programs { IfOk result (λ work. work.programs ≡ map arc_value progs.now) }
         ensures snapshot { IfOk result (λ work. state_of work.snapshot ≡ state_of db.now) }
@@ -177,8 +176,8 @@ impl BatchWork {
         ensures leaves { IfOk result (λ work. (i : ℕ) → i < length progs.now → IsLeaf work i) }
     {
         look_over(db, progs);
-        let snapshot = all_indexed(db, progs)?;
-        let programs = shared(alloc, progs)?;
+        let programs = plan_all(alloc, progs)?;
+        let snapshot = all_indexed(rt, db, programs.as_slice())?;
         let is_reading = reads_any(progs);
         Ok(BatchWork {
             snapshot,

@@ -28,7 +28,8 @@ pub(crate) fn place_from(rows: &[Row], from: &Row) -> usize
 }
 
 /// Whether the row comes before the prefix and then the bound.
-fn is_below(row: &Row, prefix: &[Key], bound: Key) -> bool
+#[inline]
+pub fn is_below(row: &Row, prefix: &[Key], bound: Key) -> bool
     requires { length prefix.now < length row.now }
     ensures { result ≡ is_lt (row_cmp row.now (prefix.now ++ bound ∷ [])) }
 {
@@ -82,7 +83,7 @@ fn place_before(rows: &[Row], high: usize, prefix: &[Key], bound: Key) -> usize
 }
 
 /// The place of the first row that is at least the prefix and then the bound, sought from a place on by strides that double.
-pub(crate) fn place_near(rows: &[Row], near: usize, prefix: &[Key], bound: Key) -> usize
+pub fn place_near(rows: &[Row], near: usize, prefix: &[Key], bound: Key) -> usize
     requires rises { IsAscending rows.now }
     requires wide { AllByRecursion (λ row. length prefix.now < length row) rows.now }
     ensures { first_from rows.now (prefix.now ++ bound ∷ []) ≡ slice_get rows.now result }

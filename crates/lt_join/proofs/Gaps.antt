@@ -16,7 +16,7 @@ use Rattle.lt_trie.specs.Under.{next_cell}
 use Rattle.lt_face.proofs.Membership.{IsIn-filter_map}
 
 -- cells in a gap go on with a key of it
-next_in : (prefix : Row) (lo hi : ℕ) (cells : Row) → lies_in prefix lo hi cells ≡ true → (y : ℕ) × (next_cell prefix cells ≡ Some y) × (lo ≤ y) × (y < hi)
+pub next_in : (prefix : Row) (lo hi : ℕ) (cells : Row) → lies_in prefix lo hi cells ≡ true → (y : ℕ) × (next_cell prefix cells ≡ Some y) × (lo ≤ y) × (y < hi)
 next_in prefix lo hi [] h = cc
 next_in [] lo hi (x ∷ xs) h = let both = and_parts (nat_le lo x) (nat_lt x hi) h in (x, refl, leb-true lo x both.0, ltb-true x hi both.1)
 next_in (p ∷ ps) lo hi (x ∷ xs) h =

@@ -3,7 +3,9 @@ use Rattle.std.specs.Prelude.{◌≡◌, ℕ, zero, suc, ◌+◌, ◌<◌, ◌�
 use Rattle.std.specs.List.{AllByRecursion, AllZip}
 use Rattle.std.proofs.Common.{refl, sym, ap, ◌∙◌, subst, inl, inr, cond, arith, get_or}
 use Rattle.std.proofs.lemmas.Bool.{ne_eqb, eqb-true, true≢false, eq-eqb, or_left, and_parts, ltb-true, lt-ltb, cases_lt, cases_Bool}
+use Rattle.lt_face.specs.Lists.{IsIn}
 use Rattle.lt_face.specs.State.{State}
+use Rattle.lt_face.proofs.Membership.{IsIn-append_cases, IsIn-map_from}
 use Rattle.lt_face.specs.declared.key.Gap.{Gap}
 use Rattle.lt_trie.specs.Trie.{TrieView}
 use Rattle.lt_trie.specs.Under.{keys_under}
@@ -25,9 +27,9 @@ use Rattle.lt_join.specs.Lone.{LoneView}
 use Rattle.lt_join.specs.Seat.{seat_keys}
 use Rattle.lt_join.specs.Explored.{prefix_at}
 use Rattle.lt_join.specs.Walked.{at, Grows}
-use Rattle.lt_join.specs.Holders.{Holder, OfAtom, OfKey, IsOver, IsSeatOf, IsKept, IsNotedKept, AreKept, holders_at}
+use Rattle.lt_join.specs.Holders.{Holder, OfAtom, OfKey, IsOver, IsSeatOf, IsKept, IsNotedKept, AreUnder, AreKept, holders_at}
 use Rattle.lt_join.proofs.Steps.{Grows-chain}
-use Rattle.lt_join.proofs.Opening.{AddsGap, GapAdded, gap_added, Grows-none, IsKept-grows}
+use Rattle.lt_join.proofs.Opening.{AddsGap, GapAdded, gap_added, Grows-none, IsKept-grows, under_none, under_chain}
 use Rattle.lt_join.proofs.Noting.{seat_at, atom_of, get_same, keys_at-map, keys_opened, key_of_alone}
 
 -- ---- counts
@@ -125,6 +127,16 @@ module _ (state : State) (l : ℕ) (keys : Keys) (guide : Guide) (t : TrieView) 
       its_is : (n : ℕ × Gap) → n.0 ≡ s → n.1.lo < n.1.hi → is_its s n ≡ true
       its_is n e lt = rw (eq-eqb n.0 s e, lt-ltb n.1.lo n.1.hi lt) refl
 
+under_gathered : (keys : List ℕ) (guide : Guide) (s : ℕ) (ns : List (ℕ × Gap)) (mid new : Sense) → new.gaps ≡ mid.gaps ++ gathered guide.relation guide.columns (prefix_at guide (length keys) (at keys)) s ns → AreUnder keys mid new
+under_gathered keys guide s ns mid new are gap there =
+    let more = gathered guide.relation guide.columns (prefix_at guide (length keys) (at keys)) s ns in
+    elim (IsIn-append_cases gap mid.gaps more (subst (IsIn gap) are there)) [
+      | inl before ↦ inl before
+      | inr later ↦
+          let f = IsIn-map_from (gap_under guide.relation guide.columns (prefix_at guide (length keys) (at keys))) gap (filter (is_its s) ns) later in
+          inr (guide, ap (λ (g : KeptGap). g.prefix) (sym f.2))
+    ]
+
 -- ---- seat by seat
 
 -- the gaps that iterators below this one noted are kept
@@ -132,6 +144,7 @@ pub record AreKeptBelow (plan : Plan) (state : State) (keys : List ℕ) (level :
   pub grows : Grows old new
   pub tight : IsTight new state
   pub kept : AllByRecursion (λ (n : ℕ × Gap). n.0 < s → IsNotedKept new (length keys) (at keys) (holders_at plan.guides level (length keys) (at keys)) n) ns
+  pub under : AreUnder keys old new
   pub few : length new.gaps ≤ length old.gaps + below s ns
   pub hits : new.hits ≡ old.hits
 
@@ -144,7 +157,7 @@ module _ {R : Type 0} (plan : Plan) (state : State) (keys : List ℕ) (level : L
   none_below new (n ∷ ns) = ((λ lt. absurd (omega arith)), none_below new ns)
 
   pub kept_below_none : (s : Sense) (ns : List (ℕ × Gap)) → IsTight s state → AreKeptBelow plan state keys level 0 s s ns
-  kept_below_none s ns tight = record { grows = Grows-none s; tight = tight; kept = none_below s ns; few = omega arith; hits = refl }
+  kept_below_none s ns tight = record { grows = Grows-none s; tight = tight; kept = none_below s ns; under = under_none keys s; few = omega arith; hits = refl }
 
   all_below : (s : ℕ) (new : Sense) (ns : List (ℕ × Gap)) → AllByRecursion (IsGapOf (map seat_keys seats)) ns → length seats ≤ s → AllByRecursion (λ (n : ℕ × Gap). n.0 < s → IsNotedKept new (length keys) (at keys) hs n) ns → AllByRecursion (IsNotedKept new (length keys) (at keys) hs) ns
   all_below s new [] are le h = tt
@@ -155,6 +168,7 @@ module _ {R : Type 0} (plan : Plan) (state : State) (keys : List ℕ) (level : L
     grows = so.grows;
     tight = so.tight;
     kept = all_below s new ns are le so.kept;
+    under = so.under;
     few = (let a = so.few in let b = below_most s ns in omega arith);
     hits = so.hits;
   }
@@ -194,6 +208,7 @@ module _ {R : Type 0} (plan : Plan) (state : State) (keys : List ℕ) (level : L
         grows = Grows-chain old mid new so.grows g.grows;
         tight = g.tight;
         kept = merged s mid new g.grows ns so.kept (at_seat s (OfAtom a.0) new (h.1 ∙ ap Some a.1) ns g.kept);
+        under = under_chain keys old mid new so.under (under_gathered keys a.0 s ns mid new more);
         few = (let p = so.few in let q = below_more s ns in let n = ap length more ∙ length_both mid.gaps (gathered a.0.relation a.0.columns (prefix_at a.0 l (at keys)) s ns) in let m = length_map (gap_under a.0.relation a.0.columns (prefix_at a.0 l (at keys))) (filter (is_its s) ns) in omega arith);
         hits = hits ∙ so.hits;
       }
@@ -212,6 +227,7 @@ module _ {R : Type 0} (plan : Plan) (state : State) (keys : List ℕ) (level : L
         grows = so.grows;
         tight = so.tight;
         kept = merged s mid mid (Grows-none mid) ns so.kept (at_seat s (OfKey lone.key) mid (h.1 ∙ ap Some k) ns (lone_all s mid lone.key ns (free_at s (lone.key ∷ []) keys_are ns are)));
+        under = so.under;
         few = (let p = so.few in let q = below_more s ns in omega arith);
         hits = so.hits;
       }

@@ -157,7 +157,7 @@ module _ (body : Body) (plan : Plan) (of_body : IsPlanOf body plan) where
       ap (λ o. unwrap_or o 0) (last.told v known)
 
   -- the term of a level has the level's key
-  term_fits : (keys : Keys) → FitFrom 0 plan.levels keys → (l : ℕ) → l < length plan.levels → cell_of (leaf_assignment body plan.levels keys) (term_at plan.levels l) ≡ keys l
+  pub term_fits : (keys : Keys) → FitFrom 0 plan.levels keys → (l : ℕ) → l < length plan.levels → cell_of (leaf_assignment body plan.levels keys) (term_at plan.levels l) ≡ keys l
   term_fits keys fit l lt =
       let found = fit_at body plan.levels keys plan.levels 0 of_body.levels fit l (omega arith) (omega arith) in
       elim (term_at plan.levels l) as (λ t. term_at plan.levels l ≡ t → cell_of (leaf_assignment body plan.levels keys) t ≡ keys l) [
@@ -192,7 +192,7 @@ module _ (body : Body) (plan : Plan) (of_body : IsPlanOf body plan) where
   pub holds_at_leaf : (keys : Keys) → FitFrom 0 plan.levels keys → ((l : ℕ) → l < length plan.levels → is_cell (keys l) ≡ true) → list_all (passes (leaf_assignment body plan.levels keys)) body.tests ≡ holds (leaf_assignment body plan.levels keys) body
   holds_at_leaf keys fit cells = sym (ap (λ b. b && list_all (passes (leaf_assignment body plan.levels keys)) body.tests) (rows_at keys fit cells body.atoms plan.guides of_body.guides))
 
-  stands_at : (keys : Keys) (state : State) → FitFrom 0 plan.levels keys → (atoms : List Atom) (guides : List Guide) → AllZip (IsGuideOf plan.levels) atoms guides → AllByRecursion (λ (guide : Guide). Has state guide.relation (map keys guide.places)) guides → Stands (leaf_assignment body plan.levels keys) atoms state
+  pub stands_at : (keys : Keys) (state : State) → FitFrom 0 plan.levels keys → (atoms : List Atom) (guides : List Guide) → AllZip (IsGuideOf plan.levels) atoms guides → AllByRecursion (λ (guide : Guide). Has state guide.relation (map keys guide.places)) guides → Stands (leaf_assignment body plan.levels keys) atoms state
   stands_at keys state fit [] [] z h = tt
   stands_at keys state fit [] (guide ∷ guides) z h = absurd z
   stands_at keys state fit (atom ∷ atoms) [] z h = absurd z
@@ -225,18 +225,23 @@ module _ (body : Body) (plan : Plan) (of_body : IsPlanOf body plan) where
   IsWitness-at_leaf terms state sense tight keys fit hits held =
       (leaf_assignment body plan.levels keys, held, met_at keys state sense tight fit body.atoms plan.guides of_body.guides hits, refl)
 
+  -- each answer of an assignment with the keys above these levels was collected
+  pub collected_below : (terms : List Term) (state : State) (found : Found) (levels : List Level) (l : ℕ) (keys : Keys) → AreTestsBound body → are_bound body terms ≡ true → IsTight found.sense state → Explored found.sense plan.guides (IsCollected body plan terms found) levels l keys → AreLevelsFrom body plan.levels l levels → l + length levels ≡ length plan.levels
+      → (a : Assignment) → holds a body ≡ true → Stands a body.atoms state → AgreeBelow l keys (keys_under a plan.levels) → IsIn (cells_of a terms) found.rows
+  collected_below terms state found levels l keys whole heads tight explored are e a holds_body stands agree =
+      elim (followed body plan found.sense state tight a holds_body of_body (IsCollected body plan terms found) levels l keys explored are agree e) [
+        | inl missed ↦ absurd (not_missed found.sense state a body.atoms stands missed)
+        | inr leaf ↦
+            let tests : list_all (passes a) body.tests ≡ true = (and_parts (list_all (λ row. list_all is_cell row) (rows_under a body.atoms)) (list_all (passes a) body.tests) holds_body).1 in
+            let same : (v : ℕ) → is_bound body v ≡ true → leaf_assignment body plan.levels leaf.0 v ≡ a v = leaf_same a leaf.0 tests leaf.2 in
+            let held : holds (leaf_assignment body plan.levels leaf.0) body ≡ true = holds_same body a (leaf_assignment body plan.levels leaf.0) whole same ∙ holds_body in
+            subst (λ r. IsIn r found.rows) (cells_same (is_bound body) a (leaf_assignment body plan.levels leaf.0) same terms heads) (leaf.1.answer held)
+      ]
+
   -- each answer was collected
   pub collected : (terms : List Term) (state : State) (found : Found) (keys : Keys) → AreTestsBound body → are_bound body terms ≡ true → IsTight found.sense state → Explored found.sense plan.guides (IsCollected body plan terms found) plan.levels 0 keys → (row : Row) → IsAnswer terms body state row → IsIn row found.rows
   collected terms state found keys whole heads tight explored row answer =
-      let a : Assignment = answer.0 in
-      elim (followed body plan found.sense state tight a answer.1 of_body (IsCollected body plan terms found) plan.levels 0 keys explored of_body.levels (λ m lt. absurd (omega arith)) (omega arith)) [
-        | inl missed ↦ absurd (not_missed found.sense state a body.atoms answer.2 missed)
-        | inr leaf ↦
-            let tests : list_all (passes a) body.tests ≡ true = (and_parts (list_all (λ row. list_all is_cell row) (rows_under a body.atoms)) (list_all (passes a) body.tests) answer.1).1 in
-            let same : (v : ℕ) → is_bound body v ≡ true → leaf_assignment body plan.levels leaf.0 v ≡ a v = leaf_same a leaf.0 tests leaf.2 in
-            let held : holds (leaf_assignment body plan.levels leaf.0) body ≡ true = holds_same body a (leaf_assignment body plan.levels leaf.0) whole same ∙ answer.1 in
-            subst (λ r. IsIn r found.rows) (cells_same (is_bound body) a (leaf_assignment body plan.levels leaf.0) same terms heads ∙ answer.3) (leaf.1.answer held)
-      ]
+      subst (λ r. IsIn r found.rows) answer.3 (collected_below terms state found plan.levels 0 keys whole heads tight explored of_body.levels (omega arith) answer.0 answer.1 answer.2 (λ m lt. absurd (omega arith)))
 
   -- what was collected, sorted and without repeats, is the answers
   pub answers_are : (terms : List Term) (state : State) (found : Found) (keys : Keys) → AreTestsBound body → are_bound body terms ≡ true → IsTight found.sense state → Explored found.sense plan.guides (IsCollected body plan terms found) plan.levels 0 keys → ((row : Row) → IsIn row found.rows → IsAnswer terms body state row) → ascending found.rows ≡ answers terms body state

@@ -23,3 +23,8 @@ pub mod SortedRows
 pub mod KnownValues
 pub mod Prepared
 pub mod Within
+pub mod Pinned
+pub mod SliceLaws
+pub mod KeyByKey
+pub mod MendedGaps
+pub mod MendLaws

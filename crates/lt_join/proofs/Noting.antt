@@ -25,7 +25,7 @@ use Rattle.lt_leap.specs.Common.{has_key}
 use Rattle.lt_join.specs.Walked.{at, Grows}
 use Rattle.lt_join.specs.Holders.{Holder, OfAtom, OfKey, IsOpenedOf, IsSeatOf, IsNotedKept, AreKept, holders_at}
 use Rattle.lt_join.proofs.Steps.{Grows-chain}
-use Rattle.lt_join.proofs.Opening.{AddsGap, one_gap, gap_added, Grows-none, IsKept-grows, All_more}
+use Rattle.lt_join.proofs.Opening.{AddsGap, one_gap, gap_added, Grows-none, IsKept-grows, All_more, under_none, under_added}
 
 pub some_is : {X : Type 0} (x y : X) → Some x ≡ Some y → x ≡ y
 some_is x y e = cc
@@ -87,7 +87,7 @@ module _ {R : Type 0} (plan : Plan) (state : State) (keys : List ℕ) (level : L
   hs = holders_at plan.guides level (length keys) (at keys)
 
   pub kept_none : (s : Sense) → IsTight s state → AreKept plan state keys level s s []
-  kept_none s tight = record { grows = Grows-none s; tight = tight; kept = tt; few = omega arith; hits = refl }
+  kept_none s tight = record { grows = Grows-none s; tight = tight; kept = tt; under = under_none keys s; few = omega arith; hits = refl }
 
   still_kept : (mid new : Sense) → Grows mid new → (gs : List (ℕ × Gap)) → AllByRecursion (IsNotedKept mid (length keys) (at keys) hs) gs → AllByRecursion (IsNotedKept new (length keys) (at keys) hs) gs
   still_kept mid new grows [] h = tt
@@ -109,6 +109,7 @@ module _ {R : Type 0} (plan : Plan) (state : State) (keys : List ℕ) (level : L
         tight = added.tight;
         kept = All_more (IsNotedKept new l (at keys) hs) gs g (still_kept mid new added.grows gs kept.kept)
             (λ lt. let k = added.kept (omega arith) in (f.0, f.1, rw a.1 (k.0, k.1, k.2, k.3, k.4, k.5 ∙ lo, k.6 ∙ hi)));
+        under = under_added keys a.0 old mid new gap (prefix ∙ a.3.prefix) adds kept.under;
         few = (let p = kept.few in let q = one_gap mid new gap adds in let e = length_more gs g in omega arith);
         hits = adds.hits ∙ kept.hits;
       }
@@ -125,6 +126,7 @@ module _ {R : Type 0} (plan : Plan) (state : State) (keys : List ℕ) (level : L
         tight = kept.tight;
         kept = All_more (IsNotedKept mid l (at keys) hs) gs g kept.kept
             (λ lt. (f.0, f.1, rw h (λ from below. true≢false (sym here ∙ (ap (λ ks. has_key ks lone.key) (sym keys_are) ∙ free.1 lone.key from below)))));
+        under = kept.under;
         few = (let p = kept.few in let e = length_more gs g in omega arith);
         hits = kept.hits;
       }

@@ -6,7 +6,7 @@ use Rattle.std.proofs.lemmas.Bool.{eqb-true, eq-eqb, ne_eqb, ltb-true, or_cases,
 use Rattle.lt_face.specs.Keys.{least_from}
 use Rattle.lt_face.specs.Lists.{IsIn}
 use Rattle.lt_face.specs.State.{Row, State, Has, permuted}
-use Rattle.lt_face.proofs.Membership.{IsIn-append_left, IsIn-append_right}
+use Rattle.lt_face.proofs.Membership.{IsIn-append_left, IsIn-append_right, IsIn-append_cases}
 use Rattle.lt_trie.specs.Trie.{TrieView, keys_of}
 use Rattle.lt_trie.specs.Under.{keys_under}
 use Rattle.lt_trie.proofs.Cells.{keys_rise}
@@ -23,7 +23,7 @@ use Rattle.lt_join.specs.Seat.{seat_keys, seat_here}
 use Rattle.lt_join.specs.Explored.{prefix_at, before}
 use Rattle.lt_leap.specs.Common.{has_key}
 use Rattle.lt_join.specs.Walked.{at, Grows}
-use Rattle.lt_join.specs.Holders.{Holder, OfAtom, OfKey, IsWalkable, IsKept, IsOver, IsTrieOf, IsOpenedOf, IsSeatOf, IsOpenKept, atoms_at, AreOpened, path_of}
+use Rattle.lt_join.specs.Holders.{Holder, OfAtom, OfKey, IsWalkable, IsKept, IsOver, IsTrieOf, IsOpenedOf, IsSeatOf, IsOpenKept, atoms_at, AreUnder, AreOpened, path_of}
 use Rattle.lt_join.proofs.Gaps.{tight_gap}
 use Rattle.lt_join.proofs.Steps.{Grows-chain}
 use Rattle.lt_join.proofs.Under.{has_key-of, key_of_iterator}
@@ -120,10 +120,28 @@ gap_added state old new l keys guide gap t relation columns prefix over none tig
           }
     ]
 
+-- ---- under which prefixes gaps were added
+
+pub under_none : (keys : List ℕ) (s : Sense) → AreUnder keys s s
+under_none keys s gap there = inl there
+
+pub under_chain : (keys : List ℕ) (s t u : Sense) → AreUnder keys s t → AreUnder keys t u → AreUnder keys s u
+under_chain keys s t u first then_more gap there = elim (then_more gap there) [ inl before ↦ first gap before | inr new ↦ inr new ]
+
+pub under_added : (keys : List ℕ) (guide : Guide) (old mid new : Sense) (gap : KeptGap) → gap.prefix ≡ prefix_at guide (length keys) (at keys) → AddsGap mid new gap → AreUnder keys old mid → AreUnder keys old new
+under_added keys guide old mid new gap prefix adds so other there =
+    elim (cases_lt gap.lo gap.hi) [
+      | inl some ↦ elim (IsIn-append_cases other mid.gaps (gap ∷ []) (subst (IsIn other) (adds.kept some) there)) [
+        | inl old_one ↦ so other old_one
+        | inr last ↦ elim last [ inl same ↦ inr (guide, ap (λ (g : KeptGap). g.prefix) (sym same) ∙ prefix) | inr none ↦ absurd none ]
+      ]
+      | inr none_there ↦ so other (subst (IsIn other) (adds.empty none_there) there)
+    ]
+
 -- ---- the iterators of a level
 
 pub opened_none : {R : Type 0} (plan : Plan) (state : State) (keys : List ℕ) (s : Sense) (m : ℕ) → IsTight s state → AreOpened {R = R} plan state keys [] s s [] m m
-opened_none plan state keys s m tight = record { grows = Grows-none s; tight = tight; seats = tt; first = tt; kept = tt; moves = omega arith; few = omega arith; hits = refl }
+opened_none plan state keys s m tight = record { grows = Grows-none s; tight = tight; seats = tt; first = tt; kept = tt; moves = omega arith; under = under_none keys s; few = omega arith; hits = refl }
 
 pub opened_skip : {R : Type 0} (plan : Plan) (state : State) (keys : List ℕ) (guides : List Guide) (guide : Guide) (old new : Sense) (seats : List (Seat R)) (begun now : ℕ) → has_key (levels_of guide) (length keys) ≡ false
     → AreOpened plan state keys guides old new seats begun now → AreOpened plan state keys (guides ++ guide ∷ []) old new seats begun now
@@ -136,6 +154,7 @@ opened_skip plan state keys guides guide old new seats begun now holds opened =
       first = opened.first;
       kept = rw same (opened.kept);
       moves = opened.moves;
+      under = opened.under;
       few = opened.few;
       hits = opened.hits;
     }
@@ -180,6 +199,7 @@ opened_more plan state keys guides guide i old mid new seats begun now t u gap h
           (AllZip-weaker (IsOpenKept mid l (at keys)) (IsOpenKept new l (at keys)) (λ h s k lt. IsKept-grows mid new added.grows l (at keys) 0 (seat_here s) h (k lt)) (atoms_at guides l) seats opened.kept)
           (λ lt. let k = added.kept (omega arith) in (k.0, k.1, k.2, k.3, k.4, k.5 ∙ lo, k.6 ∙ hi)));
       moves = (let m = opened.moves in let e = long_more seats (Walks (record { guide = i; trie = u })) in omega arith);
+      under = under_added keys guide old mid new gap (prefix ∙ at_first.prefix) adds opened.under;
       few = (let f = opened.few in let g = one_gap mid new gap adds in let e = long_more seats (Walks (record { guide = i; trie = u })) in omega arith);
       hits = adds.hits ∙ opened.hits;
     }

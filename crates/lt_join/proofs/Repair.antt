@@ -119,7 +119,7 @@ gap_row_covered sense gap row h inside =
     or_left _ (list_any (λ hit. hit_covers hit gap.relation row) sense.hits)
     (list_any_of (λ (other : KeptGap). gap_covers other gap.relation row) gap sense.gaps h (and_from _ _ (eq-eqb gap.relation gap.relation refl) inside))
 
-All_of : {X : Type 0} (P : X → Type 0) (xs : List X) → ((x : X) → IsIn x xs → P x) → AllByRecursion P xs
+pub All_of : {X : Type 0} (P : X → Type 0) (xs : List X) → ((x : X) → IsIn x xs → P x) → AllByRecursion P xs
 All_of P [] f = tt
 All_of P (x ∷ xs) f = (f x (inl refl), All_of P xs (λ y h. f y (inr h)))
 

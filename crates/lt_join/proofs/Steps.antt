@@ -2,10 +2,10 @@
 use Rattle.std.specs.Prelude.{◌≡◌, ℕ, zero, suc, ◌+◌, ◌-◌, ◌^◌, ◌<◌, ◌≤◌, Bool, true, false, ◌==◌, List, [], ◌∷◌, ◌++◌, map, length, slice_get, take, drop, ◌⊎◌, Some, None, nat_lt, if◌then◌else◌}
 use Rattle.std.specs.List.{AllByRecursion, AllZip, list_any, list_all}
 use Rattle.lt_model.specs.declared.normal.Atom.{Atom}
-use Rattle.lt_face.proofs.Membership.{IsIn-append_left, IsIn-append_right}
+use Rattle.lt_face.proofs.Membership.{IsIn-append_left, IsIn-append_right, IsIn-append_cases}
 use Rattle.lt_sense.specs.declared.covering.KeptGap.{KeptGap}
 use Rattle.lt_join.proofs.Repair.{All_at, list_any_from, list_any_of}
-use Rattle.lt_join.proofs.Leaves.{holds_at_leaf, IsWitness-at_leaf, IsAnswer-from_witness, answers_are}
+use Rattle.lt_join.proofs.Leaves.{holds_at_leaf, term_fits, stands_at, IsWitness-at_leaf, IsAnswer-from_witness, answers_are}
 use Rattle.lt_join.proofs.Walks.{Certifies-from_explored}
 use Rattle.lt_query.specs.Answering.{AreTestsBound}
 use Rattle.lt_model.specs.Bound.{are_bound}
@@ -29,7 +29,7 @@ use Rattle.lt_sense.specs.Sense.{IsTight, covers, gap_covers, hit_covers}
 use Rattle.lt_face.specs.Lists.{AnyByRecursion}
 use Rattle.lt_query.specs.Plan.{Keys, IsPlanOf, AreLevelsFrom, IsLevelOf, IsGuideOf, term_at}
 use Rattle.lt_join.specs.Explored.{Fits, FitFrom, IsPassed, with_key, Explored, hit_of, AreHits}
-use Rattle.lt_join.specs.Walked.{at, leaf_assignment, IsCollected, Grows, FoundGrows, IsRight, HitsAbove, IsReached, IsExploredBelow, IsSkipped, StandsAt}
+use Rattle.lt_join.specs.Walked.{at, leaf_assignment, IsCollected, Grows, FoundGrows, IsRight, HitsAbove, IsReached, IsExploredBelow, IsAnswerUnder, AreFoundUnder, IsSkipped, StandsAt}
 
 passed_grows : (s t : Sense) → Grows s t → (l : ℕ) (keys : Keys) (k : ℕ) (guides : List Guide) → AnyByRecursion (IsPassed s l keys k) guides → AnyByRecursion (IsPassed t l keys k) guides
 passed_grows s t grows l keys k [] h = h
@@ -67,7 +67,7 @@ Grows-chain s t u g h = record { gaps = λ gap k. h.gaps gap (g.gaps gap k); hit
 pub FoundGrows-chain : (s t u : Found) → FoundGrows s t → FoundGrows t u → FoundGrows s u
 FoundGrows-chain s t u g h = record { sense = Grows-chain s.sense t.sense u.sense g.sense h.sense; rows = λ row k. h.rows row (g.rows row k) }
 
-covers_grows : (s t : Sense) → Grows s t → (relation : ℕ) (row : Row) → covers s relation row ≡ true → covers t relation row ≡ true
+pub covers_grows : (s t : Sense) → Grows s t → (relation : ℕ) (row : Row) → covers s relation row ≡ true → covers t relation row ≡ true
 covers_grows s t grows relation row h =
     elim (or_cases (list_any (λ gap. gap_covers gap relation row) s.gaps) (list_any (λ hit. hit_covers hit relation row) s.hits) h) [
       | inl g ↦ let f = list_any_from (λ (gap : KeptGap). gap_covers gap relation row) s.gaps g in
@@ -76,7 +76,7 @@ covers_grows s t grows relation row h =
           or_right (list_any (λ gap. gap_covers gap relation row) t.gaps) _ (list_any_of (λ (hit : Hit). hit_covers hit relation row) f.0 t.hits (grows.hits f.0 f.1) f.2)
     ]
 
-met_grows : (s t : Sense) → Grows s t → (state : State) (a : Assignment) (atoms : List Atom) → AllByRecursion (IsMet s state a) atoms → AllByRecursion (IsMet t state a) atoms
+pub met_grows : (s t : Sense) → Grows s t → (state : State) (a : Assignment) (atoms : List Atom) → AllByRecursion (IsMet s state a) atoms → AllByRecursion (IsMet t state a) atoms
 met_grows s t grows state a [] h = tt
 met_grows s t grows state a (atom ∷ atoms) h = ((h.0.0, covers_grows s t grows atom.relation (cells_of a atom.terms) h.0.1), met_grows s t grows state a atoms h.1)
 
@@ -103,7 +103,7 @@ pub record IsUnderWay (body : Body) (plan : Plan) (terms : List Term) (state : S
   pub done : (k : ℕ) → is_cell k ≡ true → k < key → IsSkipped plan found.sense keys0 level k ⊎ IsDone body plan terms found keys0 k
   pub at_key : key < 2 ^ 128 - 1 → (is_cell key ≡ true) × Fits level (at keys0) key
 
-at_push_below : (keys : List ℕ) (k m : ℕ) → m < length keys → at (keys ++ k ∷ []) m ≡ at keys m
+pub at_push_below : (keys : List ℕ) (k m : ℕ) → m < length keys → at (keys ++ k ∷ []) m ≡ at keys m
 at_push_below [] k m h = absurd (omega arith)
 at_push_below (x ∷ keys) k zero h = refl
 at_push_below (x ∷ keys) k (suc m) h = at_push_below keys k m (omega arith)
@@ -234,7 +234,7 @@ fit_from (level ∷ rest) l keys f = (
   fit_from rest (l + 1) keys (λ i lv e. subst (λ n. Fits lv keys (keys n)) (let s : l + suc i ≡ (l + 1) + i = omega arith in s) (f (suc i) lv e)),
 )
 
-slice_get_below : {X : Type 0} (xs : List X) (i : ℕ) (x : X) → slice_get xs i ≡ Some x → i < length xs
+pub slice_get_below : {X : Type 0} (xs : List X) (i : ℕ) (x : X) → slice_get xs i ≡ Some x → i < length xs
 slice_get_below [] i x e = cc
 slice_get_below (y ∷ xs) zero x e = omega arith
 slice_get_below (y ∷ xs) (suc i) x e = let h = slice_get_below xs i x e in omega arith
@@ -300,6 +300,35 @@ module _ (body : Body) (plan : Plan) (terms : List Term) (state : State) (keys :
         leaf_collected (record { sense = found.sense; rows = rows }) reached (λ held. rw (is, parts.1) (IsIn-append_right row found.rows (row ∷ []) (inl refl))),
       )
 
+  -- the row that was collected is an answer under the keys
+  pub leaf_under : (found : Found) (row : Row) (rows : List Row) → IsReached plan found.sense keys → IsRight body terms state found → Some row ≡ (if list_all (passes (leaf_assignment body plan.levels (at keys))) body.tests then Some (cells_of (leaf_assignment body plan.levels (at keys)) terms) else None) → rows ≡ found.rows ++ row ∷ [] → AreFoundUnder terms body plan state keys found (record { sense = found.sense; rows = rows })
+  leaf_under found row rows reached right e is r there =
+      let leaf = leaf_assignment body plan.levels (at keys) in
+      let parts = some_when (list_all (passes leaf) body.tests) (cells_of leaf terms) row e in
+      let held : holds leaf body ≡ true = sym (leaf_holds found.sense reached) ∙ parts.0 in
+      let fit : FitFrom 0 plan.levels (at keys) = leaf_fits found.sense reached in
+      let hits = leaf_hits plan.levels found.sense keys full body.atoms plan.guides of_body.guides reached.hits in
+      let stands = stands_at body plan of_body (at keys) state fit body.atoms plan.guides of_body.guides (hits_there state found.sense right.tight (at keys) plan.guides hits) in
+      let answer : IsAnswerUnder terms body plan state keys row = (leaf, held, stands, parts.1, λ l lt. term_fits body plan of_body (at keys) fit l (omega (arith, full))) in
+      elim (IsIn-append_cases r found.rows (row ∷ []) (subst (IsIn r) is there)) [
+        | inl old ↦ inl old
+        | inr new ↦ elim new [ inl same ↦ inr (subst (IsAnswerUnder terms body plan state keys) same answer) | inr none ↦ absurd none ]
+      ]
+
+-- ---- under the keys
+
+pub under_shorter : (terms : List Term) (body : Body) (plan : Plan) (state : State) (keys : List ℕ) (k : ℕ) (row : Row) → IsAnswerUnder terms body plan state (keys ++ k ∷ []) row → IsAnswerUnder terms body plan state keys row
+under_shorter terms body plan state keys k row u =
+    (u.0, u.1, u.2, u.3, λ l lt. u.4 l (let n = length_push keys k in omega arith) ∙ at_push_below keys k l lt)
+
+-- one key was explored
+pub under_more : (terms : List Term) (body : Body) (plan : Plan) (state : State) (keys pushed : List ℕ) (k : ℕ) (begun f g : Found) → pushed ≡ keys ++ k ∷ [] → AreFoundUnder terms body plan state keys begun f → AreFoundUnder terms body plan state pushed f g → AreFoundUnder terms body plan state keys begun g
+under_more terms body plan state keys pushed k begun f g is first second row there =
+    elim (second row there) [
+      | inl old ↦ first row old
+      | inr new ↦ inr (under_shorter terms body plan state keys k row (subst (λ ks. IsAnswerUnder terms body plan state ks row) is new))
+    ]
+
 pub slice_get_is : {X : Type 0} (xs : List X) (i : ℕ) (x : X) → i < length xs → x ≡ get_or xs i x → slice_get xs i ≡ Some x
 slice_get_is [] i x lt e = absurd (omega arith)
 slice_get_is (y ∷ xs) zero x lt e = ap Some (sym e)
@@ -315,7 +344,7 @@ popped keys k full rest e f =
     let n : length full - 1 ≡ length keys = let l = ap length e ∙ length_push keys k in omega arith in
     f ∙ (ap (λ m. take m full) n ∙ (ap (take (length keys)) e ∙ take_front keys k))
 
-no_hits : (sense : Sense) (guides : List Guide) → AllByRecursion (λ (guide : Guide). 0 < length guide.places) guides → HitsAbove sense guides []
+pub no_hits : (sense : Sense) (guides : List Guide) → AllByRecursion (λ (guide : Guide). 0 < length guide.places) guides → HitsAbove sense guides []
 no_hits sense [] h = tt
 no_hits sense (guide ∷ guides) h = ((λ above. absurd (none_above guide.places h.0 above)), no_hits sense guides h.1)
   where

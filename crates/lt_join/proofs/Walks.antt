@@ -23,9 +23,9 @@ use Rattle.lt_face.specs.Lists.{AnyByRecursion}
 use Rattle.lt_query.specs.declared.plans.Level.{Level}
 use Rattle.lt_query.specs.declared.plans.Guide.{Guide}
 use Rattle.lt_query.specs.declared.plans.Plan.{Plan}
-use Rattle.lt_query.specs.Plan.{Keys, term_at, keys_under, levels_of, IsGuideOf, IsPinOf, AreLevelsFrom, IsPlanOf}
+use Rattle.lt_query.specs.Plan.{Keys, term_at, keys_under, levels_of, IsGuideOf, IsPinOf, IsLevelOf, AreLevelsFrom, IsPlanOf}
 use Rattle.lt_query.specs.Lists.{IsRising}
-use Rattle.lt_join.specs.Explored.{before, IsPassed, with_key, Explored, hit_of, AreHits}
+use Rattle.lt_join.specs.Explored.{Fits, before, IsPassed, with_key, Explored, hit_of, AreHits}
 use Rattle.lt_join.proofs.Repair.{All_at, gap_row_covered, hit_row_covered, GapIsTight}
 
 -- keys that are the same below a level
@@ -148,6 +148,22 @@ module _ (body : Body) (plan : Plan) (sense : Sense) (state : State) (tight : Is
         | inr r ↦ key_is_cell l guide at atoms guides z.1 both.1 r
       ]
 
+  -- where one level went for this assignment: past some atom's gap, or on under its key
+  pub followed_at : (of_body : IsPlanOf body plan) (l : ℕ) (level : Level) (keys : Keys) → l < length plan.levels → IsLevelOf body plan.levels l level → AgreeBelow l keys (keys_under a plan.levels)
+      → (On : ℕ → Type 0) → ((k : ℕ) → is_cell k ≡ true → AnyByRecursion (IsPassed sense l keys k) plan.guides ⊎ ((Fits level keys k → ⊥) ⊎ On k)) → AnyByRecursion (IsMissed sense state a) body.atoms ⊎ On (keys_under a plan.levels l)
+  followed_at of_body l level keys in_range is_level agree On each =
+      let k : ℕ = keys_under a plan.levels l in
+      let holder = of_body.held l in_range in
+      let cell : is_cell k ≡ true = key_is_cell l holder.0 holder.2 body.atoms plan.guides of_body.guides (and_parts (list_all (λ row. list_all is_cell row) (rows_under a body.atoms)) (list_all (passes a) body.tests) held).0 holder.1 in
+      let term : cell_of a level.term ≡ k = ap (cell_of a) (sym is_level.term) in
+      elim (each k cell) [
+        | inl passed ↦ inl (missed_some l keys agree body.atoms plan.guides of_body.guides passed)
+        | inr other ↦ elim other [
+          | inl unfit ↦ absurd (unfit (pins_fit level.term level.pins k term is_level.pins, ties_fit l keys level.term level.ties k agree term is_level.ties))
+          | inr on ↦ inr on
+        ]
+      ]
+
   module _ (of_body : IsPlanOf body plan) (Leaf : Keys → Type 0) where
     with_key_agrees : (l : ℕ) (keys : Keys) → AgreeBelow l keys (keys_under a plan.levels) → AgreeBelow (l + 1) (with_key keys l (keys_under a plan.levels l)) (keys_under a plan.levels)
     with_key_agrees l keys agree m lt =
@@ -160,23 +176,21 @@ module _ (body : Body) (plan : Plan) (sense : Sense) (state : State) (tight : Is
     pub followed : (levels : List Level) (l : ℕ) (keys : Keys) → Explored sense plan.guides Leaf levels l keys → AreLevelsFrom body plan.levels l levels → AgreeBelow l keys (keys_under a plan.levels) → l + length levels ≡ length plan.levels → AnyByRecursion (IsMissed sense state a) body.atoms ⊎ ((leaf : Keys) × Leaf leaf × AgreeBelow (length plan.levels) leaf (keys_under a plan.levels))
     followed [] l keys explored are agree e = inr (keys, explored, subst (λ n. AgreeBelow n keys (keys_under a plan.levels)) (let k : l ≡ length plan.levels = omega arith in k) agree)
     followed (level ∷ levels) l keys explored are agree e =
-        let k : ℕ = keys_under a plan.levels l in
-        let in_range : l < length plan.levels = omega arith in
-        let holder = of_body.held l in_range in
-        let cell : is_cell k ≡ true = key_is_cell l holder.0 holder.2 body.atoms plan.guides of_body.guides (and_parts (list_all (λ row. list_all is_cell row) (rows_under a body.atoms)) (list_all (passes a) body.tests) held).0 holder.1 in
-        let term : cell_of a level.term ≡ k = ap (cell_of a) (sym are.0.term) in
-        elim (explored k cell) [
-          | inl passed ↦ inl (missed_some l keys agree body.atoms plan.guides of_body.guides passed)
-          | inr other ↦ elim other [
-            | inl unfit ↦ absurd (unfit (pins_fit level.term level.pins k term are.0.pins, ties_fit l keys level.term level.ties k agree term are.0.ties))
-            | inr deeper ↦ followed levels (l + 1) (with_key keys l k) deeper are.1 (with_key_agrees l keys agree) (omega arith)
-          ]
+        elim (followed_at of_body l level keys (omega arith) are.0 agree (λ k. Explored sense plan.guides Leaf levels (l + 1) (with_key keys l k)) explored) [
+          | inl missed ↦ inl missed
+          | inr deeper ↦ followed levels (l + 1) (with_key keys l (keys_under a plan.levels l)) deeper are.1 (with_key_agrees l keys agree) (omega arith)
         ]
+
+-- a walk over the levels below some keys certifies the assignments with these keys
+pub certified_below : (body : Body) (plan : Plan) (sense : Sense) (state : State) (levels : List Level) (l : ℕ) (keys : Keys) → IsPlanOf body plan → IsTight sense state → Explored sense plan.guides (AreHits sense plan.guides) levels l keys → AreLevelsFrom body plan.levels l levels → l + length levels ≡ length plan.levels
+    → (a : Assignment) → holds a body ≡ true → AgreeBelow l keys (keys_under a plan.levels) → AllByRecursion (IsMet sense state a) body.atoms ⊎ AnyByRecursion (IsMissed sense state a) body.atoms
+certified_below body plan sense state levels l keys of_body tight explored are e a held agree =
+    elim (followed body plan sense state tight a held of_body (AreHits sense plan.guides) levels l keys explored are agree e) [
+      | inl missed ↦ inr missed
+      | inr leaf ↦ inl (all_met body plan sense state tight a held leaf.0 leaf.2 body.atoms plan.guides of_body.guides leaf.1)
+    ]
 
 -- a walk over all levels certifies the body
 pub Certifies-from_explored : (body : Body) (plan : Plan) (sense : Sense) (state : State) (keys : Keys) → IsPlanOf body plan → IsTight sense state → Explored sense plan.guides (AreHits sense plan.guides) plan.levels 0 keys → Certifies sense body state
 Certifies-from_explored body plan sense state keys of_body tight explored a held =
-    elim (followed body plan sense state tight a held of_body (AreHits sense plan.guides) plan.levels 0 keys explored of_body.levels (λ m lt. absurd (omega arith)) (omega arith)) [
-      | inl missed ↦ inr missed
-      | inr leaf ↦ inl (all_met body plan sense state tight a held leaf.0 leaf.2 body.atoms plan.guides of_body.guides leaf.1)
-    ]
+    certified_below body plan sense state plan.levels 0 keys of_body tight explored of_body.levels (omega arith) a held (λ m lt. absurd (omega arith))

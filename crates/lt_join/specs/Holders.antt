@@ -1,5 +1,5 @@
 -- Who holds a level: atoms, pins and ties; and the iterators that sit there for them.
-use Rattle.std.specs.Prelude.{◌≡◌, ◌≢◌, ℕ, suc, nat_lt, ◌+◌, ◌^◌, ◌<◌, ◌≤◌, ◌==◌, if◌then◌else◌, List, [], ◌∷◌, ◌++◌, map, filter, length, slice_get, Some}
+use Rattle.std.specs.Prelude.{◌≡◌, ◌≢◌, ℕ, suc, nat_lt, ◌+◌, ◌^◌, ◌<◌, ◌≤◌, ◌==◌, if◌then◌else◌, List, [], ◌∷◌, ◌++◌, map, filter, length, slice_get, Some, ◌⊎◌}
 use Rattle.std.specs.List.{AllByRecursion, AllZip}
 use Rattle.lt_face.specs.Keys.{end_key, least_from}
 use Rattle.lt_face.specs.Rows.{IsRowSet}
@@ -90,6 +90,10 @@ IsOpenKept sense l keys holder seat = 0 < seat_here seat → IsKept sense l keys
 abbrev pub atoms_at : List Guide → ℕ → List Holder
 atoms_at guides l = map OfAtom (filter (λ guide. has_key (levels_of guide) l) guides)
 
+-- each gap is an old one, or lies under the cells that an atom has above the level
+abbrev pub AreUnder : List ℕ → Sense → Sense → Type 0
+AreUnder keys old new = (gap : KeptGap) → IsIn gap new.gaps → IsIn gap old.gaps ⊎ ((guide : Guide) × (gap.prefix ≡ prefix_at guide (length keys) (at keys)))
+
 -- the iterators of these atoms that hold the level below the keys are open, each at its first key
 pub record AreOpened {R : Type 0} (plan : Plan) (state : State) (keys : List ℕ) (guides : List Guide) (old new : Sense) (opened : List (Seat R)) (begun now : ℕ) : Type 0 where
   pub grows : Grows old new
@@ -98,6 +102,7 @@ pub record AreOpened {R : Type 0} (plan : Plan) (state : State) (keys : List ℕ
   pub first : AllByRecursion (λ seat. seat_here seat ≡ least_from (seat_keys seat) 0) opened
   pub kept : AllZip (IsOpenKept new (length keys) (at keys)) (atoms_at guides (length keys)) opened
   pub moves : now ≡ begun + length opened
+  pub under : AreUnder keys old new
   pub few : length new.gaps ≤ length old.gaps + length opened
   pub hits : new.hits ≡ old.hits
 
@@ -126,6 +131,7 @@ pub record AreKept (plan : Plan) (state : State) (keys : List ℕ) (level : Leve
   pub grows : Grows old new
   pub tight : IsTight new state
   pub kept : AllByRecursion (IsNotedKept new (length keys) (at keys) (holders_at plan.guides level (length keys) (at keys))) noted
+  pub under : AreUnder keys old new
   pub few : length new.gaps ≤ length old.gaps + length noted
   pub hits : new.hits ≡ old.hits
 

@@ -3,6 +3,8 @@ pub mod Cost
 pub mod Explored
 pub mod Holders
 pub mod Lone
+pub mod Mended
 pub mod Seat
+pub mod Sliced
 pub mod Values
 pub mod Walked

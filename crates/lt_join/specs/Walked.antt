@@ -12,13 +12,14 @@ use Rattle.lt_sense.specs.Kept.{Sense}
 use Rattle.lt_join.specs.declared.Found.{Found}
 use Rattle.lt_face.specs.Lists.{IsIn}
 use Rattle.lt_face.specs.State.{Row, State}
-use Rattle.lt_model.specs.Answers.{Assignment, Values, cells_of, holds, give_all}
+use Rattle.lt_model.specs.Answers.{Assignment, Values, cell_of, cells_of, holds, give_all}
 use Rattle.lt_model.specs.Cells.{is_cell}
 use Rattle.lt_model.specs.Bound.{is_var}
 use Rattle.lt_sense.specs.Sense.{IsTight}
 use Rattle.lt_join.specs.Certify.{IsWitness}
 use Rattle.lt_face.specs.Lists.{AnyByRecursion}
-use Rattle.lt_query.specs.Plan.{Keys}
+use Rattle.lt_query.specs.Plan.{Keys, term_at}
+use Rattle.lt_query.specs.Answering.{Stands}
 use Rattle.lt_leap.specs.Common.{common_keys}
 use Rattle.lt_join.specs.Cost.{iterators_at}
 use Rattle.lt_join.specs.Explored.{Fits, IsPassed, Explored, hit_of, AreHits}
@@ -53,6 +54,15 @@ pub record FoundGrows (old new : Found) : Type 0 where
 pub record IsRight (body : Body) (terms : List Term) (state : State) (found : Found) : Type 0 where
   pub tight : IsTight found.sense state
   pub answers : AllByRecursion (IsWitness found.sense terms body state) found.rows
+
+-- the terms' cells under an assignment that holds, whose rows the state has and whose cells at the first levels are the keys
+abbrev pub IsAnswerUnder : List Term → Body → Plan → State → List ℕ → Row → Type 0
+IsAnswerUnder terms body plan state keys row =
+    (a : Assignment) × (holds a body ≡ true) × Stands a body.atoms state × (cells_of a terms ≡ row) × ((l : ℕ) → l < length keys → cell_of a (term_at plan.levels l) ≡ at keys l)
+
+-- each row that was found was there before, or is an answer under the keys
+abbrev pub AreFoundUnder : List Term → Body → Plan → State → List ℕ → Found → Found → Type 0
+AreFoundUnder terms body plan state keys old new = (row : Row) → IsIn row new.rows → IsIn row old.rows ⊎ IsAnswerUnder terms body plan state keys row
 
 -- the atoms whose columns are all above the level have their rows among the hits
 abbrev pub HitsAbove : Sense → List Guide → List ℕ → Type 0

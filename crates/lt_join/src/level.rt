@@ -7,7 +7,7 @@ ghost use Rattle.lt_leap.specs.Common.{has_key};
 ghost use Rattle.lt_leap.specs.Potential.{join_cost};
 ghost use Rattle.lt_join.specs.Cost.{iterators_at, LevelGains};
 ghost use Rattle.lt_join.specs.Walked.{at};
-ghost use Rattle.lt_join.specs.Holders.{IsUsable, IsOpen, IsJoined, left_of, IsWalkable, IsTrieOf, AreOpened, atoms_at, alone};
+ghost use Rattle.lt_join.specs.Holders.{IsUsable, IsOpen, IsJoined, left_of, IsWalkable, IsTrieOf, AreUnder, AreOpened, atoms_at, alone};
 
 use crate::keeping::keep_gaps;
 use crate::noted::NotedGaps;
@@ -117,6 +117,7 @@ pub(crate) fn open_level<'a, I: Indexes, L>(
     ensures gains { IfOk result (λ joined. LevelGains (length (atoms_at plan.now.guides (length keys.now))) sense.old sense.new moves.old moves.new joined.key) }
     ensures stands { IfOk result (λ joined. IsJoined plan.now (I.state tables.now) sense.old sense.new keys.now level.now 0
         (moves.old + join_cost (iterators_at (I.state tables.now) plan.now.guides level.now (length keys.now) (at keys.now))) moves.new joined.leap joined.key) }
+    ensures under { IfOk result (λ _. AreUnder keys.now sense.old sense.new) }
     // also where memory is refused
     ensures within { moves.new ≤ moves.old + join_cost (iterators_at (I.state tables.now) plan.now.guides level.now (length keys.now) (at keys.now)) }
     ensures moves { moves.old ≤ moves.new }
@@ -149,6 +150,7 @@ pub(crate) fn next_key<'a, I: Indexes, L>(
     ensures stands { OnOk result (IsJoined plan.now (I.state tables.now) sense.old sense.new keys.now level.now (joined.old.key + 1) (moves.old + left_of joined.old.leap) moves.new joined.new.leap joined.new.key) }
     ensures rises { OnOk result (joined.old.key < joined.new.key) }
     ensures ends { OnOk result (0 < length level.now.pins + length level.now.ties → (joined.new.key ≡ end_key) × (moves.new ≡ moves.old)) }
+    ensures under { OnOk result (AreUnder keys.now sense.old sense.new) }
     // also where memory is refused
     ensures within { moves.new ≤ moves.old + left_of joined.old.leap }
     ensures moves { moves.old ≤ moves.new }

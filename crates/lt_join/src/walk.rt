@@ -5,7 +5,7 @@ ghost use Rattle.lt_sense.specs.Sense.{IsTight};
 ghost use Rattle.lt_join.specs.Explored.{with_key};
 ghost use Rattle.lt_query.specs.Plan.{IsPlanOf};
 ghost use Rattle.lt_join.specs.Cost.{cost_from, GainsFewer};
-ghost use Rattle.lt_join.specs.Walked.{at, Grows, HitsAbove, FoundGrows, IsRight, IsReached, IsExploredBelow};
+ghost use Rattle.lt_join.specs.Walked.{at, Grows, HitsAbove, FoundGrows, IsRight, IsReached, IsExploredBelow, AreFoundUnder};
 ghost use Rattle.lt_join.specs.Holders.{IsPrepared, IsWalkable, IsTrieOf, IsOpen, atoms_at};
 
 use crate::Found;
@@ -25,7 +25,7 @@ use lt_trie::TrieIter;
 use std::alloc::Global;
 
 /// Brings the iterators of the atoms that sit at the level to its key. The others stay.
-fn enter<'a, I: Indexes>(
+pub(crate) fn enter<'a, I: Indexes>(
     _tables: &'a I,
     iters: &mut Vec<TrieIter<'a, I::Rows>>,
     joined: &Joined<'a, I::Rows>,
@@ -54,7 +54,7 @@ fn enter<'a, I: Indexes>(
 }
 
 /// Brings the iterators of the atoms that sit at the level back up from its key. The others stay.
-fn leave<'a, I: Indexes>(
+pub(crate) fn leave<'a, I: Indexes>(
     _tables: &'a I,
     iters: &mut Vec<TrieIter<'a, I::Rows>>,
     plan: &Plan,
@@ -88,7 +88,7 @@ fn row_of(alloc: Global, guide: &Guide, keys: &Items<Key>) -> Row
 }
 
 /// Makes hits of the rows of the atoms that end at the last key.
-fn add_hits<'a, I: Indexes>(
+pub(crate) fn add_hits<'a, I: Indexes>(
     alloc: Global,
     _tables: &'a I,
     iters: &[TrieIter<'a, I::Rows>],
@@ -156,6 +156,7 @@ fn at_leaf<I: Indexes>(
     ensures sense { IfOk result (λ _. found.new.sense ≡ found.old.sense) }
     ensures grows { IfOk result (λ _. FoundGrows found.old found.new) }
     ensures right { IfOk result (λ _. IsRight body.now terms.now (I.state _tables.now) found.new) }
+    ensures under { IfOk result (λ _. AreFoundUnder terms.now body.now plan.now (I.state _tables.now) keys.now found.old found.new) }
     ensures explored { IfOk result (λ _. IsExploredBelow body.now plan.now terms.now found.new keys.now) }
     ensures stopped { IfOk result (λ stopped. stopped ≡ true → 0 < length found.new.rows) }
     ensures asked { IfOk result (λ stopped. stopped ≡ true → first ≡ true) }
@@ -195,6 +196,7 @@ pub(crate) fn descend<'a, I: Indexes, L>(
     ensures iters { IfOk result (λ _. AllZip (IsTrieOf (I.state tables.now) (length keys.old) (at keys.old)) plan.now.guides iters.new.items) }
     ensures grows { IfOk result (λ _. FoundGrows found.old found.new) }
     ensures right { IfOk result (λ _. IsRight body.now terms.now (I.state tables.now) found.new) }
+    ensures under { IfOk result (λ _. AreFoundUnder terms.now body.now plan.now (I.state tables.now) keys.old found.old found.new) }
     // it stops only at an answer, and only where the first suffices
     ensures explored { IfOk result (λ stopped. stopped ≡ false → IsExploredBelow body.now plan.now terms.now found.new keys.old) }
     ensures stopped { IfOk result (λ stopped. stopped ≡ true → 0 < length found.new.rows) }

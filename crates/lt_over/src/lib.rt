@@ -4,13 +4,12 @@
 mod candidate;
 mod counting;
 mod edits;
-mod flat_over;
 mod layer;
-mod listing;
 mod over;
 mod search;
+mod shared_over;
 mod stack;
 
-pub use flat_over::FlatOver;
 pub use layer::Layer;
 pub use over::Over;
+pub use shared_over::SharedOver;

@@ -1,6 +1,7 @@
 //! `Over`, and what it does as a set of rows.
 ghost use Rattle.std.specs.Prelude.{◌≡◌, ◌≤◌, length, IfOk, OnOk, OnErr};
 ghost use Rattle.lt_face.specs.Rows.{IsRow, IsRowSet, with_row, without_row};
+ghost use Rattle.lt_shared.specs.Shared.{root_rows};
 ghost use Rattle.lt_over.specs.Overlaid.{overlaid};
 
 use crate::counting::{count_lacked, count_staying};
@@ -10,6 +11,7 @@ use crate::search::{are_bare, least_from};
 use crate::stack::Stack;
 use lt_face::{Key, Near, NoMemory, Row, RowList, RowReads, RowSet};
 use lt_flat::FlatRows;
+use lt_shared::SharedRows;
 use std::alloc::Global;
 use std::marker::Model;
 use std::sync::Arc;
@@ -159,6 +161,20 @@ impl<B: RowSet> Over<Stack<B>> {
     }
 }
 
+impl Over<SharedRows> {
+    /// The same rows in pages: those on which no edit is laid are shared with the base.
+    pub(crate) fn settled(&self) -> Result<SharedRows, NoMemory>
+        ensures rows { IfOk result (λ set. root_rows set.nodes ≡ self.now.rows) }
+        ensures width { IfOk result (λ set. set.width ≡ self.now.width) }
+    {
+        let _width = self.base.width();
+        let gone = self.minus.as_slice();
+        let come = self.plus.as_slice();
+        let set = self.base.bulk(gone, come)?;
+        Ok(set)
+    }
+}
+
 impl<B: RowSet> RowReads for Over<B> {
     ghost rows = { λ s. s.rows };
 
@@ -190,6 +206,7 @@ impl<B: RowSet> RowReads for Over<B> {
         least_from(&self.base, &self.minus, &mut near, first, more)
     }
 
+    #[inline(always)]
     fn row_near(&self, near: &mut Near, prefix: &Row, bound: Key) -> Option<&Row> {
         let _width = self.base.width();
         let _width = self.plus.width();

@@ -269,6 +269,7 @@ impl<B: RowSet> RowReads for Stack<B> {
         find_staying(&self.base, &self.layers, &mut near, first)
     }
 
+    #[inline(always)]
     fn row_near(&self, near: &mut Near, prefix: &Row, bound: Key) -> Option<&Row> {
         if self.layers.is_empty() {
             return self.base.row_near(near, prefix, bound);

@@ -16,19 +16,15 @@ use Rattle.lt_model.specs.declared.normal.Stmt.{Stmt}
 use Rattle.lt_model.specs.declared.normal.Stmt.TheVariants.{Insert, Delete, Replace, Need, Print}
 use Rattle.lt_model.specs.Answers.{assignment_of, cells_of, cell_of, fits_pick, picks, answer_of, ascending, answers, some_answer}
 use Rattle.lt_model.specs.Effect.{Effect, Writes, Needs, Prints, marks_of, effect}
-use Rattle.lt_model.specs.Fits.{IsWide, IsBodyOf, IsHeadOf, FitsStatement, Fits, IsMarkOf, FitMarks}
+use Rattle.lt_model.specs.Fits.{IsWide, IsBodyOf, IsHeadOf, ArePrintedOf, FitsStatement, Fits, IsMarkOf, FitMarks}
 use Rattle.lt_model.specs.Marks.{Marks, AreMarks, and_then, laid}
 use Rattle.lt_model.proofs.Composition.{AreMarks-and_then}
 use Rattle.lt_model.specs.Run.{Progress, run_on, run_from, run}
 use Rattle.lt_model.specs.State.{IsState}
-use Rattle.lt_program.specs.Effect.{IsBody, AreTerms, IsReady, HaveCells}
-use Rattle.lt_program.specs.Run.{lists, ArePrinted, AreReplied}
-use Rattle.lt_program.specs.Walk.{AreCells}
-use Rattle.lt_program.proofs.BareStates.{answers-plain}
-use Rattle.lt_program.proofs.BoundCells.{answers_cells}
+use Rattle.lt_program.specs.Effect.{HaveCells}
+use Rattle.lt_program.specs.Run.{ArePrinted, AreReplied}
+use Rattle.lt_program.proofs.BoundCells.{AreRows, answers_cells}
 use Rattle.lt_program.proofs.LaidRows.{HasCells, HasCells-laid}
-use Rattle.lt_program.proofs.Ready.{IsNarrow, statement_of}
-use Rattle.lt_program.proofs.WholePicks.{AreRows}
 
 -- ---- answers are as wide as their terms
 
@@ -57,10 +53,6 @@ pushed P (y ∷ xs) x all h = (all.0, pushed P xs x all.1 h)
 
 -- ---- marks of a head
 
-cells_in_lists : (state : State) → HasCells state → AreCells (lists state)
-cells_in_lists [] all = tt
-cells_in_lists (relation ∷ state) all = (all.0, cells_in_lists state all.1)
-
 pub IsState-cells : (state : State) → IsState state → HasCells state
 IsState-cells [] all = tt
 IsState-cells (relation ∷ state) all = (each_weaker (IsRow relation.width) (AllByRecursion IsCell) (λ row h. h.has_cells) relation.rows all.0.each, IsState-cells state all.1)
@@ -71,14 +63,11 @@ marked state relation n plus (row ∷ rows) wide widths cells =
     (record { is_wide = subst (λ k. IsWide state relation k) (sym widths.0) wide; has_cells = cells.0 }, marked state relation n plus rows wide widths.1 cells.1)
 
 -- a statement is seen on a state on which its program's earlier marks are laid
-module _ (state now : State) (narrow : IsNarrow state) (cells : HasCells now) where
-  head_fits : (plus : Bool) (head : Atom) (body : Body) → IsBodyOf state body → IsHeadOf state body head → IsReady (Insert head body) → FitMarks state (marks_of plus head body now)
-  head_fits plus head body b h ready =
-      marked state head.relation (length head.terms) plus (answers head.terms body now) h.fits.is_wide (answers_wide head.terms body now)
-      (subst AreRows (answers-plain head.terms body now) (answers_cells head.terms body (lists now) ready.0 ready.1 (cells_in_lists now cells)))
-
-  insert_fits : (plus : Bool) (head : Atom) (body : Body) → FitsStatement state (Insert head body) → FitMarks state (marks_of plus head body now)
-  insert_fits plus head body h = head_fits plus head body h.0 h.1 (statement_of state (Insert head body) narrow h)
+module _ (state now : State) (cells : HasCells now) where
+  head_fits : (plus : Bool) (head : Atom) (body : Body) → IsBodyOf state body × IsHeadOf state body head → FitMarks state (marks_of plus head body now)
+  head_fits plus head body h =
+      marked state head.relation (length head.terms) plus (answers head.terms body now) h.1.fits.is_wide (answers_wide head.terms body now)
+      (answers_cells body.vars head.terms body now h.0.tests h.1.fits.has_terms h.1.is_bound cells)
 
 have_cells : (state : State) (marks : Marks) → FitMarks state marks → HaveCells marks
 have_cells state marks fits = each_weaker (IsMarkOf state) (λ (m : Mark). AllByRecursion IsCell m.row) (λ m h. h.has_cells) marks fits
@@ -87,14 +76,13 @@ have_cells state marks fits = each_weaker (IsMarkOf state) (λ (m : Mark). AllBy
 
 -- ---- printed rows
 
-module _ (now : State) (cells : HasCells now) where
-  rows_fit : (terms : List Term) (body : Body) (n : ℕ) → length terms ≡ n → IsBody body → AreTerms body terms → AllByRecursion (IsRow n) (answers terms body now)
-  rows_fit terms body n same is_body are_terms =
-      both_each (answers terms body now) (answers_wide terms body now) (subst AreRows (answers-plain terms body now) (answers_cells terms body (lists now) is_body are_terms (cells_in_lists now cells)))
+module _ (state now : State) (cells : HasCells now) where
+  rows_fit : (terms : List Term) (body : Body) (n : ℕ) → IsBodyOf state body → ArePrintedOf body terms n → AllByRecursion (IsRow n) (answers terms body now)
+  rows_fit terms body n b h = both_each (answers terms body now) (answers_wide terms body now) (answers_cells body.vars terms body now b.tests h.has_terms h.is_bound cells)
     where
       both_each : (rows : List Row) → AllByRecursion (λ row. length row ≡ length terms) rows → AreRows rows → AllByRecursion (IsRow n) rows
       both_each [] wide cells = tt
-      both_each (row ∷ rows) wide cells = (record { is_wide = wide.0 ∙ same; has_cells = cells.0 }, both_each rows wide.1 cells.1)
+      both_each (row ∷ rows) wide cells = (record { is_wide = wide.0 ∙ h.is_wide; has_cells = cells.0 }, both_each rows wide.1 cells.1)
 
 -- ---- how far a run has come
 
@@ -106,9 +94,9 @@ abbrev pub IsGoodEnd : State → Reply × Marks → Type 0
 IsGoodEnd state out = FitMarks state out.1 × AreReplied out.0
 
 -- a statement's effect is taken in, where the run goes on well with whatever is good
-effect_fits : (state : State) → IsState state → IsNarrow state → (j : ℕ) (p : Progress) (s : Stmt) → FitsStatement state s → IsGood state p
+effect_fits : (state : State) → IsState state → (j : ℕ) (p : Progress) (s : Stmt) → FitsStatement state s → IsGood state p
     → (rest : Progress → Reply × Marks) → ((q : Progress) → IsGood state q → IsGoodEnd state (rest q)) → IsGoodEnd state (run_on j p (effect s (laid state p.marks)) rest)
-effect_fits state is narrow j p s h fits rest good = go s h
+effect_fits state is j p s h fits rest good = go s h
   where
     cells : HasCells (laid state p.marks)
     cells = HasCells-laid state p.marks (have_cells state p.marks fits.marks) (IsState-cells state is)
@@ -121,27 +109,26 @@ effect_fits state is narrow j p s h fits rest good = go s h
     needed false = (tt, tt)
 
     go : (s : Stmt) → FitsStatement state s → IsGoodEnd state (run_on j p (effect s (laid state p.marks)) rest)
-    go (Insert head body) k = more (marks_of true head body (laid state p.marks)) (insert_fits state (laid state p.marks) narrow cells true head body k)
-    go (Delete head body) k = more (marks_of false head body (laid state p.marks)) (insert_fits state (laid state p.marks) narrow cells false head body k)
+    go (Insert head body) k = more (marks_of true head body (laid state p.marks)) (head_fits state (laid state p.marks) cells true head body k)
+    go (Delete head body) k = more (marks_of false head body (laid state p.marks)) (head_fits state (laid state p.marks) cells false head body k)
     go (Replace gone come body) k =
         more (and_then (marks_of false gone body (laid state p.marks)) (marks_of true come body (laid state p.marks)))
         (each_after (IsMarkOf state) (marks_of false gone body (laid state p.marks)) (marks_of true come body (laid state p.marks))
-        (insert_fits state (laid state p.marks) narrow cells false gone body (k.0, k.1)) (insert_fits state (laid state p.marks) narrow cells true come body (k.0, k.2)))
+        (head_fits state (laid state p.marks) cells false gone body (k.0, k.1)) (head_fits state (laid state p.marks) cells true come body (k.0, k.2)))
     go (Need true body) k = needed (some_answer body (laid state p.marks))
     go (Need false body) k = needed (not (some_answer body (laid state p.marks)))
     go (Print terms kinds body) k =
-        let ready = statement_of state (Print terms kinds body) narrow k in
-        let rows = rows_fit (laid state p.marks) cells terms body (length kinds) k.1.is_wide ready.0 ready.1 in
+        let rows = rows_fit state (laid state p.marks) cells terms body (length kinds) k.0 k.1 in
         good (record p { prints = p.prints ++ record { statement = j; kinds = kinds; rows = answers terms body (laid state p.marks) } ∷ [] })
         (record { marks = fits.marks; prints = pushed ArePrinted p.prints (record { statement = j; kinds = kinds; rows = answers terms body (laid state p.marks) }) fits.prints rows })
 
-run_from_fits : (state : State) → IsState state → IsNarrow state → (j : ℕ) (program : List Stmt) (p : Progress) → AllByRecursion (FitsStatement state) program → IsGood state p → IsGoodEnd state (run_from j program state p)
-run_from_fits state is narrow j [] p each fits = (fits.marks, fits.prints)
-run_from_fits state is narrow j (s ∷ program) p each fits =
-    effect_fits state is narrow j p s each.0 fits (run_from (j + 1) program state) (λ q k. run_from_fits state is narrow (j + 1) program q each.1 k)
+run_from_fits : (state : State) → IsState state → (j : ℕ) (program : List Stmt) (p : Progress) → AllByRecursion (FitsStatement state) program → IsGood state p → IsGoodEnd state (run_from j program state p)
+run_from_fits state is j [] p each fits = (fits.marks, fits.prints)
+run_from_fits state is j (s ∷ program) p each fits =
+    effect_fits state is j p s each.0 fits (run_from (j + 1) program state) (λ q k. run_from_fits state is (j + 1) program q each.1 k)
 
-pub run_fits : (state : State) (program : List Stmt) → IsState state → IsNarrow state → Fits state program → IsGoodEnd state (run program state)
-run_fits state program is narrow fits = run_from_fits state is narrow 1 program (record { marks = []; prints = [] }) fits.each (record { marks = tt; prints = tt })
+pub run_fits : (state : State) (program : List Stmt) → IsState state → Fits state program → IsGoodEnd state (run program state)
+run_fits state program is fits = run_from_fits state is 1 program (record { marks = []; prints = [] }) fits.each (record { marks = tt; prints = tt })
 
 -- ---- the marks of a run ascend
 

@@ -18,7 +18,6 @@ use Rattle.lt_program.proofs.Recalls.{first_ascends, second_ascends, marks_recal
 use Rattle.lt_program.proofs.Sounds.{statement_fits}
 use Rattle.lt_program.proofs.Stays.{part_stays}
 use Rattle.lt_program.proofs.TallyGrows.{first_fits}
-use Rattle.lt_program.proofs.Widths.{narrow}
 
 -- the element at a place of a list that is written twice
 pub got : {X : Type 0} (xs ys : List X) (n : ℕ) (x : X) → ys ≡ xs → n < length xs → x ≡ get_or ys n x → slice_get xs n ≡ Some x
@@ -92,5 +91,5 @@ module _ (program : List Stmt) (base : List Table) (course : Course) (t : TallyV
     pub after_fits : (q : Part) (before marks : Marks) → q ≡ part → before ≡ (run_of_first n t.program (state_of t.base)).1 → marks ≡ marks_past stmt q.outcome before → FitMarks (state_of t.base) marks
     after_fits q before marks e is_before made =
         let within : n + 1 ≤ length program = omega (arith, short, sound.run.evaluated) in
-        let fit : FitMarks (state_of base) marks = subst (FitMarks (state_of base)) (sym (after q before marks e is_before made)) (first_fits (n + 1) program (state_of base) within sound.is_state (narrow (state_of base) sound.wide) sound.fits).0 in
+        let fit : FitMarks (state_of base) marks = subst (FitMarks (state_of base)) (sym (after q before marks e is_before made)) (first_fits (n + 1) program (state_of base) within sound.is_state sound.fits).0 in
         subst (λ (v : TallyView). FitMarks (state_of v.base) marks) is fit

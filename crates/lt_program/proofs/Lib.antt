@@ -1,13 +1,7 @@
-pub mod RowTerms
-pub mod Walking
-pub mod WholePicks
-pub mod Loops
 pub mod LaidRows
 pub mod MarkedRows
 pub mod BoundCells
-pub mod RunSteps
-pub mod BareStates
-pub mod Ready
+pub mod ReadingNone
 pub mod FittingRuns
 pub mod RunGrows
 pub mod TallyGrows
@@ -22,3 +16,4 @@ pub mod Recalls
 pub mod Stays
 pub mod Keeps
 pub mod LaterMarks
+pub mod TwoHeads

@@ -5,12 +5,11 @@ use Rattle.std.specs.Cmp.{tied_itself}
 use Rattle.std.specs.declared.cmp.Ordering.TheVariants.{Less, Greater}
 use Rattle.std.proofs.lemmas.Cmp.{nat_cmp_total}
 use Rattle.std.proofs.lemmas.List.{take_all}
-use Rattle.lt_face.specs.Rows.{row_cmp, by_order, IsCell, IsAscending}
+use Rattle.lt_face.specs.Rows.{row_cmp, by_order, IsAscending}
 use Rattle.lt_face.specs.State.{Row}
 use Rattle.lt_model.specs.declared.mark.Mark.{Mark}
 use Rattle.lt_model.specs.Marks.{Marks, AreMarks, mark_cmp, and_then}
 use Rattle.lt_delta.proofs.Merges.{after_none}
-use Rattle.lt_program.specs.Effect.{HaveCells}
 
 module _ (relation : ℕ) (plus : Bool) where
   abbrev mark : Row → Mark
@@ -23,10 +22,6 @@ module _ (relation : ℕ) (plus : Bool) where
   pub AreMarks-map : (rows : List Row) → IsAscending rows → AreMarks (map mark rows)
   AreMarks-map [] up = tt
   AreMarks-map (row ∷ rows) up = (above row rows up.0, AreMarks-map rows up.1)
-
-  pub HaveCells-map : (rows : List Row) → AllByRecursion (AllByRecursion IsCell) rows → HaveCells (map mark rows)
-  HaveCells-map [] all = tt
-  HaveCells-map (row ∷ rows) all = (all.0, HaveCells-map rows all.1)
 
   pub marked_all : (rows items : List Row) (i : ℕ) (list marks : Marks) → IsAscending rows → items ≡ rows → length items ≤ i → list ≡ map mark (take i items) → marks ≡ and_then [] list → marks ≡ map mark rows
   marked_all rows items i list marks up same done so_far all =

@@ -1,5 +1,5 @@
 -- The terms that a join answers.
-use Rattle.std.proofs.Common.{◌≡◌, ℕ, true, false, List, map, sym, ap, ◌∙◌, subst, arith}
+use Rattle.std.proofs.Common.{◌≡◌, ℕ, true, false, List, map, length, sym, ap, ◌∙◌, subst, arith}
 use Rattle.std.specs.Prelude.{filter_map}
 use Rattle.lt_face.specs.Rows.{IsAscending}
 use Rattle.lt_face.specs.State.{Row, State}
@@ -13,12 +13,11 @@ use Rattle.lt_model.specs.Marks.{Marks, and_then}
 use Rattle.lt_model.specs.Fits.{IsBodyOf, IsHeadOf, ArePrintedOf}
 use Rattle.lt_query.specs.Runnable.{AreWide}
 use Rattle.lt_program.specs.Planned.{ArePicked}
-use Rattle.lt_program.proofs.Ready.{head_of}
 use Rattle.lt_query.proofs.Ascending.{IsAscending-ascending}
-use Rattle.lt_program.proofs.Widths.{narrow}
+use Rattle.lt_program.proofs.Widths.{width_at}
 
 pub head_picked : (state : State) (body : Body) (head : Atom) → AreWide state → IsBodyOf state body → IsHeadOf state body head → ArePicked body head.terms
-head_picked state body head wide fits h = record { narrow = (head_of state body head (narrow state wide) fits h).narrow; within = h.fits.has_terms; bound = h.is_bound }
+head_picked state body head wide fits h = record { narrow = width_at state head.relation (length head.terms) wide h.fits.is_wide; within = h.fits.has_terms; bound = h.is_bound }
 
 pub print_picked : (body : Body) (terms : List Term) (kinds : ℕ) → ArePrintedOf body terms kinds → ArePicked body terms
 print_picked body terms kinds h = record { narrow = omega (arith, h.is_wide, h.has_few); within = h.has_terms; bound = h.is_bound }

@@ -17,14 +17,13 @@ use Rattle.lt_program.specs.Run.{AreReplied}
 use Rattle.lt_program.specs.Tally.{TallyView, HasIndexes, HasIndexesOf, IsLaid, IsRun, Grows, has_ended, state_before, statement_cost, cost_on, IsOneMore}
 use Rattle.lt_program.specs.Sound.{tally_of, IsSound}
 use Rattle.lt_program.proofs.TallyGrows.{IsRun-one_more, going_on, first_fits}
-use Rattle.lt_program.proofs.Widths.{narrow}
 
 module _ (program : List Stmt) (base : List Table) (course : Course) (sound : IsSound program base course) where
   pub sound_fits : FitMarks (state_of base) course.marks
-  sound_fits = subst (FitMarks (state_of base)) (sym sound.run.marks) (first_fits (length course.parts) program (state_of base) sound.run.evaluated sound.is_state (narrow (state_of base) sound.wide) sound.fits).0
+  sound_fits = subst (FitMarks (state_of base)) (sym sound.run.marks) (first_fits (length course.parts) program (state_of base) sound.run.evaluated sound.is_state sound.fits).0
 
   pub sound_replied : AreReplied course.reply
-  sound_replied = subst AreReplied (sym sound.run.reply) (first_fits (length course.parts) program (state_of base) sound.run.evaluated sound.is_state (narrow (state_of base) sound.wide) sound.fits).1
+  sound_replied = subst AreReplied (sym sound.run.reply) (first_fits (length course.parts) program (state_of base) sound.run.evaluated sound.is_state sound.fits).1
 
   pub sound_grown : (stmt : Stmt) (new : Course) → has_ended (tally_of program base course) ≡ false → slice_get program (length course.parts) ≡ Some stmt → Grows (length course.parts + 1) stmt (state_of base) course new → IsLaid base new.marks new.laid → IsSound program base new
   sound_grown stmt new going is grows laid_is = record {

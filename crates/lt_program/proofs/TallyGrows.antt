@@ -18,7 +18,6 @@ use Rattle.lt_program.specs.declared.part.Part.{Part}
 use Rattle.lt_program.specs.Run.{AreReplied}
 use Rattle.lt_program.specs.Tally.{TallyView, IsRun, ArePartsOf, IsPartOn, has_ended, is_refused, next, run_of_first, state_before}
 use Rattle.lt_program.proofs.FittingRuns.{run_fits}
-use Rattle.lt_program.proofs.Ready.{IsNarrow}
 use Rattle.lt_program.proofs.RunGrows.{first_more, refused_whole}
 
 -- ---- lists
@@ -123,9 +122,9 @@ each_take P zero xs all = tt
 each_take P (suc n) [] all = tt
 each_take P (suc n) (x ∷ xs) all = (all.0, each_take P n xs all.1)
 
-pub first_fits : (n : ℕ) (program : List Stmt) (state : State) → n ≤ length program → IsState state → IsNarrow state → Fits state program → FitMarks state (run_of_first n program state).1 × AreReplied (run_of_first n program state).0
-first_fits n program state le is narrow fits =
-    run_fits state (take n program) is narrow (record { each = each_take (FitsStatement state) n program fits.each; has_few = omega (arith, fits.has_few, length-take-le n program le) })
+pub first_fits : (n : ℕ) (program : List Stmt) (state : State) → n ≤ length program → IsState state → Fits state program → FitMarks state (run_of_first n program state).1 × AreReplied (run_of_first n program state).0
+first_fits n program state le is fits =
+    run_fits state (take n program) is (record { each = each_take (FitsStatement state) n program fits.each; has_few = omega (arith, fits.has_few, length-take-le n program le) })
 
 -- ---- what is told at the end
 

@@ -1,5 +1,5 @@
 -- A statement that fits a state fits it with marks laid on it.
-use Rattle.std.proofs.Common.{ℕ, zero, suc, ◌≤◌, List, [], ◌∷◌, length}
+use Rattle.std.proofs.Common.{◌≡◌, ℕ, zero, suc, ◌≤◌, List, [], ◌∷◌, length, Some, subst}
 use Rattle.lt_face.specs.State.{Row, Relation, State}
 use Rattle.lt_face.proofs.RowLemmas.{each_weaker}
 use Rattle.lt_model.specs.declared.normal.Atom.{Atom}
@@ -10,7 +10,6 @@ use Rattle.lt_model.specs.Fits.{IsWide, IsAtomOf, IsBodyOf, IsHeadOf, FitsStatem
 use Rattle.lt_model.specs.Marks.{Marks, write, change, lay, laid}
 use Rattle.lt_delta.proofs.Kept.{IsWide-change}
 use Rattle.lt_query.specs.Runnable.{IsWidth, AreWide}
-use Rattle.lt_program.proofs.Ready.{IsNarrow}
 
 IsWide-laid : (state : State) (marks : Marks) (r w : ℕ) → IsWide state r w → IsWide (laid state marks) r w
 IsWide-laid state [] r w h = h
@@ -48,5 +47,12 @@ module _ (state : State) (marks : Marks) where
   FitsStatement-laid (Need some body) h = body_laid body h
   FitsStatement-laid (Print terms kinds body) h = (body_laid body h.0, h.1)
 
-pub narrow : (state : State) → AreWide state → IsNarrow state
-narrow state wide = each_weaker (λ (r : Relation). IsWidth r.width) (λ (r : Relation). r.width ≤ 8) (λ r h. h.1) state wide
+some_is : (x y : ℕ) → Some x ≡ Some y → x ≡ y
+some_is x y e = cc
+
+-- a relation that is there has at most 8 columns
+pub width_at : (state : State) (r w : ℕ) → AreWide state → IsWide state r w → w ≤ 8
+width_at [] zero w h wide = cc
+width_at [] (suc r) w h wide = cc
+width_at (relation ∷ state) zero w h wide = subst (λ n. n ≤ 8) (some_is relation.width w wide) h.0.1
+width_at (relation ∷ state) (suc r) w h wide = width_at state r w h.1 wide

@@ -1,5 +1,3 @@
-pub mod Values
-pub mod Walk
 pub mod Effect
 pub mod Run
 pub mod Planned

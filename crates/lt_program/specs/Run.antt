@@ -1,34 +1,12 @@
--- The run of a program on lists of rows.
-use Rattle.std.specs.Prelude.{◌≡◌, ℕ, ◌≤◌, Bool, nat_lt, List, [], map, length}
+-- What a reply is, and what a statement reads.
+use Rattle.std.specs.Prelude.{Bool, nat_lt, length}
 use Rattle.std.specs.List.{AllByRecursion}
 use Rattle.lt_face.specs.Rows.{IsRow}
-use Rattle.lt_face.specs.State.{Row, Relation, State}
 use Rattle.lt_model.specs.declared.normal.Stmt.{Stmt}
 use Rattle.lt_model.specs.declared.reply.Printed.{Printed}
 use Rattle.lt_model.specs.declared.reply.Reply.{Reply}
 use Rattle.lt_model.specs.declared.reply.Reply.TheVariants.{Done, Refused}
-use Rattle.lt_model.specs.State.{IsState}
-use Rattle.lt_model.specs.Fits.{Fits}
-use Rattle.lt_model.specs.Marks.{Marks, and_then, laid}
-use Rattle.lt_model.specs.Run as model
-use Rattle.lt_program.specs.declared.effect.Effect.{Effect}
-use Rattle.lt_program.specs.declared.effect.Effect.TheVariants.{Writes, Needs, Prints}
-use Rattle.lt_program.specs.declared.progress.Progress.{Progress}
-use Rattle.lt_program.specs.Effect.{view}
 use Rattle.lt_query.specs.Needs.{body_of}
-use Rattle.lt_program.specs.Walk.{bare}
-
--- the rows of each relation
-abbrev pub lists : State → List (List Row)
-lists state = map (λ (relation : Relation). relation.rows) state
-
--- there is a state with these rows that the program fits, and none of its relations is wider than 8
-pub record IsFitting (rows : List (List Row)) (program : List Stmt) : Type 0 where
-  pub state : State
-  pub has : lists state ≡ rows
-  pub is_state : IsState state
-  pub narrow : AllByRecursion (λ (relation : Relation). relation.width ≤ 8) state
-  pub fits : Fits state program
 
 -- printed rows have as many cells as kinds
 abbrev pub ArePrinted : Printed → Type 0
@@ -41,19 +19,3 @@ AreReplied (Refused j) = Unit {0}
 -- whether a statement reads a relation
 abbrev pub reads_rows : Stmt → Bool
 reads_rows stmt = nat_lt 0 (length (body_of stmt).atoms)
-
--- the marks and the prints so far
-abbrev pub so_far : Progress → model.Progress
-so_far p = record { marks = p.marks; prints = p.prints }
-
--- what an effect writes
-abbrev pub written : Effect → Marks
-written (Writes marks) = marks
-written (Needs holds) = []
-written (Prints kinds rows) = []
-
--- a statement's effect was taken in: the run goes on from there, and the relations have its marks laid on them
-pub record Follows (number : ℕ) (effect : Effect) (before after : Progress) : Type 0 where
-  pub goes_on : (rest : model.Progress → Reply × Marks) → model.run_on number (so_far before) (view effect) rest ≡ rest (so_far after)
-  pub lays : bare after.relations.items ≡ laid (bare before.relations.items) (written effect)
-  pub marks : after.marks ≡ and_then before.marks (written effect)

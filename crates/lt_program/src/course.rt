@@ -5,6 +5,7 @@ ghost use Rattle.lt_model.specs.Fits.{FitMarks, FitsStatement};
 ghost use Rattle.lt_model.specs.Marks.{Marks as MarksView, AreMarks, and_then, laid};
 ghost use Rattle.lt_base.specs.Tables.{Table, state_of, has_index};
 ghost use Rattle.lt_query.specs.Needs.{body_of as body_in};
+ghost use Rattle.lt_query.specs.Planned.{route_of};
 ghost use Rattle.lt_query.specs.Runnable.{AreWide};
 ghost use Rattle.lt_program.specs.Effect.{view};
 ghost use Rattle.lt_program.specs.Tally.{HasIndexesOf, IsLaid, IsLaidOn, IsLaidUpTo, IsPartOn, Grows, is_refused, next, those, with_print, statement_cost};
@@ -20,7 +21,7 @@ use lt_face::memory::NoMemory;
 use lt_face::moves::Moves;
 use lt_model::normal::Stmt;
 use lt_model::reply::{Printed, Reply};
-use lt_query::body_of;
+use lt_query::{Route, body_of};
 use lt_sense::Sense;
 use std::alloc::Global;
 use std::mem;
@@ -247,8 +248,10 @@ impl Course {
         base: &Database,
         number: u32,
         stmt: &Stmt,
+        route: &Route,
         moves: &mut Moves<L>,
     ) -> Result<(), NoMemory>
+        requires route { route.now ≡ route_of (body_in stmt.now) }
         requires going { is_refused self.old.reply ≡ false }
         requires reads { (body_in stmt.now).atoms ≡ [] }
         requires wide { AreWide (state_of base.now) }
@@ -262,7 +265,7 @@ impl Course {
         ensures err { OnErr result (self.new ≡ self.old) }
     {
         let alloc = self.parts.allocator();
-        let step = evaluated(alloc, base, stmt, moves)?;
+        let step = evaluated(alloc, base, stmt, route, moves)?;
         let Step { part, effect } = step;
         let part = SharedPart::new(alloc, insensitive(alloc, part))?;
         self.accept(number, part, effect)?;
@@ -275,8 +278,10 @@ impl Course {
         base: &Database,
         number: u32,
         stmt: &Stmt,
+        route: &Route,
         moves: &mut Moves<L>,
     ) -> Result<(), NoMemory>
+        requires route { route.now ≡ route_of (body_in stmt.now) }
         requires going { is_refused self.old.reply ≡ false }
         requires wide { AreWide (state_of base.now) }
         requires indexes { HasIndexesOf base.now (body_in stmt.now) }
@@ -293,7 +298,7 @@ impl Course {
     {
         let alloc = self.parts.allocator();
         let tables = self.take_laid(base)?;
-        let step = evaluated(alloc, &tables, stmt, moves)?;
+        let step = evaluated(alloc, &tables, stmt, route, moves)?;
         let Step { part, effect } = step;
         let part = SharedPart::new(alloc, part)?;
         self.laid = Some(Laid {
@@ -332,8 +337,10 @@ impl Course {
         base: &Database,
         number: u32,
         stmt: &Stmt,
+        route: &Route,
         moves: &mut Moves<L>,
     ) -> Result<(), NoMemory>
+        requires route { route.now ≡ route_of (body_in stmt.now) }
         requires going { is_refused self.old.reply ≡ false }
         requires wide { AreWide (state_of base.now) }
         requires indexes { HasIndexesOf base.now (body_in stmt.now) }
@@ -349,9 +356,9 @@ impl Course {
         ensures marks_kept { OnErr result (self.new.marks ≡ self.old.marks) }
     {
         if body_of(stmt).atoms.len() == 0 {
-            self.evaluate_alone(base, number, stmt, moves)?;
+            self.evaluate_alone(base, number, stmt, route, moves)?;
         } else {
-            self.evaluate_laid(base, number, stmt, moves)?;
+            self.evaluate_laid(base, number, stmt, route, moves)?;
         }
         Ok(())
     }

@@ -9,28 +9,31 @@ ghost use Rattle.lt_model.specs.Marks.{and_then};
 ghost use Rattle.lt_model.specs.Fits.{IsBodyOf, IsHeadOf, FitsStatement};
 ghost use Rattle.lt_base.specs.Tables.{state_of};
 ghost use Rattle.lt_query.specs.Needs.{body_of as body_in};
+ghost use Rattle.lt_query.specs.Planned.{route_of};
 ghost use Rattle.lt_query.specs.Runnable.{AreWide};
 ghost use Rattle.lt_query.specs.Stated.{stated_plan};
 ghost use Rattle.lt_sense.specs.Sense.{IsTight};
 ghost use Rattle.lt_join.specs.Certify.{Certifies, Vouches};
 ghost use Rattle.lt_join.specs.Cost.{bound};
 ghost use Rattle.lt_program.specs.Effect.{view};
-ghost use Rattle.lt_program.specs.Planned.{IsPlanned, ArePicked};
+ghost use Rattle.lt_program.specs.Planned.{IsPlanned};
 ghost use Rattle.lt_program.specs.Tally.{HasIndexesOf, IsPartOn, statement_cost};
 
+use crate::copying::copied;
 use crate::effect::{Effect, marked};
+use crate::heads::{Pair, found, found_both};
 use crate::part::{Outcome, Part};
-use crate::plain::copied;
 use lt_base::Database;
 use lt_delta::Marks;
 use lt_face::items::RowList;
 use lt_face::memory::NoMemory;
 use lt_face::moves::Moves;
-use lt_join::{answers, some};
+use lt_join::some;
 use lt_model::kind::KindList;
 use lt_model::normal::{Atom, Body, Stmt, TermList};
 use lt_query::laws::plans_of_bodies;
-use lt_query::{Plan, plan};
+use lt_query::planning::plan_by;
+use lt_query::{Plan, Route, body_of};
 use lt_sense::Sense;
 use std::alloc::Global;
 
@@ -39,29 +42,6 @@ use std::alloc::Global;
 pub(crate) struct Step {
     pub part: Part,
     pub effect: Effect,
-}
-
-/// The terms' answers on the database.
-fn found<L>(
-    alloc: Global,
-    tables: &Database,
-    body: &Body,
-    plan: &Plan,
-    terms: &TermList,
-    moves: &mut Moves<L>,
-) -> Result<(RowList, Sense), NoMemory>
-    requires plan { IsPlanned body.now plan.now }
-    requires indexes { HasIndexesOf tables.now body.now }
-    requires fits { IsBodyOf (state_of tables.now) body.now }
-    requires terms { ArePicked body.now terms.now }
-    ensures rows { IfOk result (λ found. found.0 ≡ answers_of terms.now body.now (state_of tables.now)) }
-    ensures certified { IfOk result (λ found. Certifies found.1 body.now (state_of tables.now)) }
-    ensures tight { IfOk result (λ found. IsTight found.1 (state_of tables.now)) }
-    ensures cost { moves.new ≤ moves.old + bound (stated_plan body.now) (state_of tables.now) }
-    ensures moves { moves.old ≤ moves.new }
-{
-    let found = answers(alloc, body, plan, terms, tables, moves)?;
-    Ok(found)
 }
 
 /// Whether the body's conditions can be met on the database.
@@ -85,13 +65,14 @@ fn told<L>(
     Ok(told)
 }
 
-/// The plan of a body that fits.
-fn planned(body: &Body) -> Result<Plan, NoMemory>
-    requires { (state : State) × AreWide state × IsBodyOf state body.now }
+/// The plan of a body that fits, by its shape's route.
+fn planned(route: &Route, body: &Body) -> Result<Plan, NoMemory>
+    requires fits { (state : State) × AreWide state × IsBodyOf state body.now }
+    requires route { route.now ≡ route_of body.now }
     ensures { IfOk result (IsPlanned body.now) }
 {
     plans_of_bodies();
-    let plan = plan(body)?;
+    let plan = plan_by(route, body)?;
     Ok(plan)
 }
 
@@ -102,8 +83,10 @@ fn written<L>(
     plus: bool,
     head: &Atom,
     body: &Body,
+    plan: &Plan,
     moves: &mut Moves<L>,
 ) -> Result<Step, NoMemory>
+    requires plan { IsPlanned body.now plan.now }
     requires wide { AreWide (state_of tables.now) }
     requires indexes { HasIndexesOf tables.now body.now }
     requires fits { IsBodyOf (state_of tables.now) body.now × IsHeadOf (state_of tables.now) body.now head.now }
@@ -114,8 +97,7 @@ fn written<L>(
     ensures cost { moves.new ≤ moves.old + bound (stated_plan body.now) (state_of tables.now) }
     ensures moves { moves.old ≤ moves.new }
 {
-    let plan = planned(body)?;
-    let found = found(alloc, tables, body, &plan, &head.terms, moves)?;
+    let found = found(alloc, tables, body, plan, &head.terms, moves)?;
     let (rows, sense) = found;
     let marks = marked(alloc, head.relation, plus, &rows)?;
     Ok(Step {
@@ -152,8 +134,10 @@ fn replaced<L>(
     gone: &Atom,
     come: &Atom,
     body: &Body,
+    plan: &Plan,
     moves: &mut Moves<L>,
 ) -> Result<Step, NoMemory>
+    requires plan { IsPlanned body.now plan.now }
     requires wide { AreWide (state_of tables.now) }
     requires indexes { HasIndexesOf tables.now body.now }
     requires fits { FitsStatement (state_of tables.now) (Stmt.Replace gone.now come.now body.now) }
@@ -162,15 +146,16 @@ fn replaced<L>(
     ensures cost { moves.new ≤ moves.old + statement_cost (Stmt.Replace gone.now come.now body.now) (state_of tables.now) }
     ensures moves { moves.old ≤ moves.new }
 {
-    let plan = planned(body)?;
-    let first = found(alloc, tables, body, &plan, &gone.terms, moves)?;
-    let second = found(alloc, tables, body, &plan, &come.terms, moves)?;
-    let (old, sense) = first;
-    let (new, _) = second;
-    let marks = exchanged(alloc, gone, come, &old, &new)?;
+    let pair = found_both(alloc, tables, body, plan, &gone.terms, &come.terms, moves)?;
+    let Pair {
+        first,
+        second,
+        sense,
+    } = pair;
+    let marks = exchanged(alloc, gone, come, &first, &second)?;
     Ok(Step {
         part: Part {
-            outcome: Outcome::Both(old, new),
+            outcome: Outcome::Both(first, second),
             sense,
         },
         effect: Effect::Writes(marks),
@@ -183,8 +168,10 @@ fn required<L>(
     tables: &Database,
     some: bool,
     body: &Body,
+    plan: &Plan,
     moves: &mut Moves<L>,
 ) -> Result<Step, NoMemory>
+    requires plan { IsPlanned body.now plan.now }
     requires wide { AreWide (state_of tables.now) }
     requires indexes { HasIndexesOf tables.now body.now }
     requires fits { IsBodyOf (state_of tables.now) body.now }
@@ -193,8 +180,7 @@ fn required<L>(
     ensures cost { moves.new ≤ moves.old + bound (stated_plan body.now) (state_of tables.now) }
     ensures moves { moves.old ≤ moves.new }
 {
-    let plan = planned(body)?;
-    let told = told(alloc, tables, body, &plan, moves)?;
+    let told = told(alloc, tables, body, plan, moves)?;
     let (truth, sense) = told;
     Ok(Step {
         part: Part {
@@ -212,8 +198,10 @@ fn printed<L>(
     terms: &TermList,
     kinds: &KindList,
     body: &Body,
+    plan: &Plan,
     moves: &mut Moves<L>,
 ) -> Result<Step, NoMemory>
+    requires plan { IsPlanned body.now plan.now }
     requires wide { AreWide (state_of tables.now) }
     requires indexes { HasIndexesOf tables.now body.now }
     requires fits { FitsStatement (state_of tables.now) (Stmt.Print terms.now kinds.now body.now) }
@@ -222,8 +210,7 @@ fn printed<L>(
     ensures cost { moves.new ≤ moves.old + bound (stated_plan body.now) (state_of tables.now) }
     ensures moves { moves.old ≤ moves.new }
 {
-    let plan = planned(body)?;
-    let found = found(alloc, tables, body, &plan, terms, moves)?;
+    let found = found(alloc, tables, body, plan, terms, moves)?;
     let (rows, sense) = found;
     let shown = copied(alloc, rows.as_slice())?;
     let kinds = KindList::from_kinds(alloc, kinds.as_slice());
@@ -241,8 +228,10 @@ pub(crate) fn evaluated<L>(
     alloc: Global,
     tables: &Database,
     stmt: &Stmt,
+    route: &Route,
     moves: &mut Moves<L>,
 ) -> Result<Step, NoMemory>
+    requires route { route.now ≡ route_of (body_in stmt.now) }
     requires wide { AreWide (state_of tables.now) }
     requires indexes { HasIndexesOf tables.now (body_in stmt.now) }
     requires fits { FitsStatement (state_of tables.now) stmt.now }
@@ -251,25 +240,26 @@ pub(crate) fn evaluated<L>(
     ensures cost { moves.new ≤ moves.old + statement_cost stmt.now (state_of tables.now) }
     ensures moves { moves.old ≤ moves.new }
 {
+    let plan = planned(route, body_of(stmt))?;
     match stmt {
         Stmt::Insert { head, body } => {
-            let evaluated = written(alloc, tables, true, head, body, moves)?;
+            let evaluated = written(alloc, tables, true, head, body, &plan, moves)?;
             Ok(evaluated)
         }
         Stmt::Delete { head, body } => {
-            let evaluated = written(alloc, tables, false, head, body, moves)?;
+            let evaluated = written(alloc, tables, false, head, body, &plan, moves)?;
             Ok(evaluated)
         }
         Stmt::Replace { gone, come, body } => {
-            let evaluated = replaced(alloc, tables, gone, come, body, moves)?;
+            let evaluated = replaced(alloc, tables, gone, come, body, &plan, moves)?;
             Ok(evaluated)
         }
         Stmt::Need { some, body } => {
-            let evaluated = required(alloc, tables, *some, body, moves)?;
+            let evaluated = required(alloc, tables, *some, body, &plan, moves)?;
             Ok(evaluated)
         }
         Stmt::Print { terms, kinds, body } => {
-            let evaluated = printed(alloc, tables, terms, kinds, body, moves)?;
+            let evaluated = printed(alloc, tables, terms, kinds, body, &plan, moves)?;
             Ok(evaluated)
         }
     }

@@ -4,9 +4,9 @@ ghost use Rattle.lt_face.specs.Rows.{IsAscending};
 ghost use Rattle.lt_program.specs.Effect.{view};
 ghost use Rattle.lt_program.specs.Kept.{first_rows, second_rows, truth_in, marks_on as marks_on_rows, written_by as writes, refused_by as refuses, marks_past as marks_after, effect_by as does};
 
+use crate::copying::copied;
 use crate::effect::{Effect, marked};
 use crate::part::Outcome;
-use crate::plain::copied;
 use lt_delta::Marks;
 use lt_face::items::{Items, RowList};
 use lt_face::memory::NoMemory;

@@ -19,15 +19,16 @@ use lt_delta::Marks;
 use lt_face::memory::NoMemory;
 use lt_face::moves::Moves;
 use lt_face::row::Row;
-use lt_model::normal::{Prog, Stmt};
+use lt_model::normal::Stmt;
 use lt_model::reply::Reply;
+use lt_query::{Planned, Route};
 use std::marker::Model;
 use std::sync::Arc;
 
 /// The run of a program on a database, as far as it has come.
 #[derive(Drop)]
 pub struct Tally {
-    prog: Arc<Prog>,
+    prog: Arc<Planned>,
     base: Database,
     course: Course,
 }
@@ -64,7 +65,7 @@ fn is_over(course: &Course, count: usize) -> bool
 impl Tally {
     /// The tally of a program on a database, before its first statement. The program fits the database, which has the
     /// indexes that the program needs.
-    pub fn begin(prog: &Arc<Prog>, base: &Database) -> Result<Tally, NoMemory>
+    pub fn begin(prog: &Arc<Planned>, base: &Database) -> Result<Tally, NoMemory>
         requires fits { Fits (state_of base.now) (arc_value prog.now) }
         requires indexes { HasIndexes base.now (arc_value prog.now) }
         ensures program { IfOk result (λ t. t.program ≡ arc_value prog.now) }
@@ -88,9 +89,10 @@ impl Tally {
         ensures err { OnErr result (self.new ≡ self.old) }
     {
         let number = self.course.parts.len();
-        let stmt: &Stmt = &self.prog.as_slice()[number];
+        let stmt: &Stmt = &self.prog.statements()[number];
+        let route: &Route = &self.prog.routes()[number];
         self.course
-            .evaluate(&self.base, number as u32 + 1, stmt, moves)?;
+            .evaluate(&self.base, number as u32 + 1, stmt, route, moves)?;
         Ok(())
     }
 
@@ -106,7 +108,7 @@ impl Tally {
         ensures err { OnErr result (self.new ≡ self.old) }
     {
         let number = self.course.parts.len();
-        let stmt: &Stmt = &self.prog.as_slice()[number];
+        let stmt: &Stmt = &self.prog.statements()[number];
         let part = &old.parts()[number];
         self.course.keep(&self.base, number as u32 + 1, stmt, part)?;
         Ok(())
@@ -126,7 +128,7 @@ impl Tally {
         ensures value { IfOk result (λ marks. marks ≡ (run_of_first (place + 1) self.now.program (state_of self.now.base)).1) }
         ensures fits { IfOk result (λ marks. FitMarks (state_of self.now.base) marks) }
     {
-        let stmt: &Stmt = &self.prog.as_slice()[place];
+        let stmt: &Stmt = &self.prog.statements()[place];
         let part = &self.course.parts.as_slice()[place];
         let marks = marks_past(self.prog.allocator(), stmt, &part.part().outcome, before)?;
         Ok(marks)
@@ -141,7 +143,7 @@ impl Tally {
         ensures fits { FitMarks (state_of self.now.base) self.now.marks }
         ensures printed { AreReplied self.now.reply }
     {
-        is_over(&self.course, self.prog.len())
+        is_over(&self.course, self.prog.statements().len())
     }
 
     /// How many statements were evaluated.
@@ -161,7 +163,7 @@ impl Tally {
     }
 
     /// The program.
-    pub fn program(&self) -> &Arc<Prog>
+    pub fn program(&self) -> &Arc<Planned>
         ensures { arc_value result.now ≡ self.now.program }
     {
         &self.prog
@@ -195,7 +197,7 @@ impl Tally {
 
 /// The whole run of a program that fits the database, which has the indexes that the program needs. `moves` rises by at most
 /// what the joins of the statements up to the program's end may take, also where memory is refused, and never falls.
-pub fn run<L>(prog: &Arc<Prog>, base: &Database, moves: &mut Moves<L>) -> Result<Tally, NoMemory>
+pub fn run<L>(prog: &Arc<Planned>, base: &Database, moves: &mut Moves<L>) -> Result<Tally, NoMemory>
     requires fits { Fits (state_of base.now) (arc_value prog.now) }
     requires indexes { HasIndexes base.now (arc_value prog.now) }
     ensures program { IfOk result (λ t. t.program ≡ arc_value prog.now) }

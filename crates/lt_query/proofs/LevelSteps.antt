@@ -1,7 +1,7 @@
 -- Steps of the loops over levels and guides.
-use Rattle.std.specs.Prelude.{◌≡◌, ℕ, ◌+◌, ◌<◌, suc, true, false, ◌==◌, List, [], ◌∷◌, ◌++◌, length}
-use Rattle.std.proofs.Common.{refl, ap, ◌∙◌, cond, take, drop, get_or, length-append, append_assoc}
-use Rattle.std.proofs.lemmas.List.{take_more, at_drop_more, append-nil, length-map}
+use Rattle.std.specs.Prelude.{◌≡◌, ℕ, ◌+◌, ◌<◌, suc, true, false, ◌==◌, ◌||◌, List, [], ◌∷◌, ◌++◌, length}
+use Rattle.std.proofs.Common.{refl, sym, ap, ◌∙◌, cond, take, drop, get_or, length-append, append_assoc}
+use Rattle.std.proofs.lemmas.List.{take_more, at_drop_more, append-nil, length-map, map-append}
 use Rattle.lt_model.specs.declared.normal.Term.{Term}
 use Rattle.lt_model.specs.declared.normal.Term.TheVariants.{Var, Cell}
 use Rattle.lt_model.specs.declared.syntax.Op.TheVariants.{Eq}
@@ -9,8 +9,9 @@ use Rattle.lt_model.specs.declared.normal.Test.{Test}
 use Rattle.lt_model.specs.declared.normal.Test.TheVariants.{Cmp}
 use Rattle.lt_model.specs.declared.normal.Atom.{Atom}
 use Rattle.lt_query.specs.declared.places.Place.{Place}
-use Rattle.lt_query.specs.LevelsOf.{constants_of, pins_of, ties_of, levels_from}
-use Rattle.lt_query.specs.Order.{places_in, places_of, origin}
+use Rattle.lt_model.specs.Bound.{is_var, stands}
+use Rattle.lt_query.specs.LevelsOf.{constants_of, first_place, level_behind, level_terms, levels_from}
+use Rattle.lt_query.specs.Order.{places_in, places_of, place_at, terms_at, origin}
 use Rattle.lt_query.specs.Stated.{index_from, column_levels, guide_of, guides_from}
 use Rattle.lt_query.specs.Lists.{below}
 use Rattle.lt_query.proofs.Distinct.{length-below}
@@ -25,14 +26,43 @@ constants_of-push (other ∷ tests) test v = constants_of-push tests test v
 pub constants_more : (tests : List Test) (v i : ℕ) (d : Test) → i < length tests → constants_of (take (i + 1) tests) v ≡ constants_of (take i tests) v ++ constants_of (get_or tests i d ∷ []) v
 constants_more tests v i d h = ap (λ w. constants_of w v) (take_more tests i d h) ∙ constants_of-push (take i tests) (get_or tests i d) v
 
-levels_from-push : (tests : List Test) (seen ts : List Term) (t : Term) → levels_from tests seen (ts ++ t ∷ []) ≡ levels_from tests seen ts ++ record { term = t; pins = pins_of tests (seen ++ ts) t; ties = ties_of (seen ++ ts) t } ∷ []
+levels_from-push : (tests : List Test) (seen ts : List Term) (t : Term) → levels_from tests seen (ts ++ t ∷ []) ≡ levels_from tests seen ts ++ level_behind tests (seen ++ ts) t ∷ []
 levels_from-push tests seen [] t = rw (append-nil seen) refl
 levels_from-push tests seen (s ∷ ts) t =
-    ap (λ w. record { term = s; pins = pins_of tests seen s; ties = ties_of seen s } ∷ w)
-    (levels_from-push tests (seen ++ s ∷ []) ts t ∙ ap (λ w. levels_from tests (seen ++ s ∷ []) ts ++ record { term = t; pins = pins_of tests w t; ties = ties_of w t } ∷ []) (append_assoc seen (s ∷ []) ts))
+    ap (λ w. level_behind tests seen s ∷ w)
+    (levels_from-push tests (seen ++ s ∷ []) ts t ∙ ap (λ w. levels_from tests (seen ++ s ∷ []) ts ++ level_behind tests w t ∷ []) (append_assoc seen (s ∷ []) ts))
 
-pub levels_more : (tests : List Test) (ts : List Term) (i : ℕ) (d : Term) → i < length ts → levels_from tests [] (take (i + 1) ts) ≡ levels_from tests [] (take i ts) ++ record { term = get_or ts i d; pins = pins_of tests (take i ts) (get_or ts i d); ties = ties_of (take i ts) (get_or ts i d) } ∷ []
-levels_more tests ts i d h = ap (levels_from tests []) (take_more ts i d h) ∙ levels_from-push tests [] (take i ts) (get_or ts i d)
+level_terms-levels_from : (tests : List Test) (seen ts : List Term) → level_terms (levels_from tests seen ts) ≡ ts
+level_terms-levels_from tests seen [] = refl
+level_terms-levels_from tests seen (t ∷ ts) = ap (λ w. t ∷ w) (level_terms-levels_from tests (seen ++ t ∷ []) ts)
+
+-- the levels of some places, one more
+pub levels_more : (tests : List Test) (places : List Place) (order : List ℕ) (i d : ℕ) → i < length order → levels_from tests [] (terms_at places (take (i + 1) order)) ≡ levels_from tests [] (terms_at places (take i order)) ++ level_behind tests (level_terms (levels_from tests [] (terms_at places (take i order)))) (place_at places (get_or order i d)).term ∷ []
+levels_more tests places order i d h =
+    let before = terms_at places (take i order) in
+    let t = (place_at places (get_or order i d)).term in
+    ap (λ w. levels_from tests [] (terms_at places w)) (take_more order i d h)
+    ∙ (ap (levels_from tests []) (map-append (λ p. (place_at places p).term) (take i order) (get_or order i d ∷ []))
+    ∙ (levels_from-push tests [] before t ∙ ap (λ w. levels_from tests [] before ++ level_behind tests w t ∷ []) (sym (level_terms-levels_from tests [] before))))
+
+-- a variable stands where it has a first place
+first_place-none : (l : ℕ) (seen : List Term) (v : ℕ) → [] ≡ first_place l seen v → stands seen v ≡ false
+first_place-none l [] v h = refl
+first_place-none l (t ∷ ts) v h =
+    elim (is_var v t) as (λ b. [] ≡ cond b (l ∷ []) (first_place (l + 1) ts v) → b || stands ts v ≡ false)
+    [ true ↦ λ e. cc | false ↦ λ e. first_place-none (l + 1) ts v e ] h
+
+first_place-some : (l m : ℕ) (seen : List Term) (v : ℕ) → m ∷ [] ≡ first_place l seen v → stands seen v ≡ true
+first_place-some l m [] v h = cc
+first_place-some l m (t ∷ ts) v h =
+    elim (is_var v t) as (λ b. m ∷ [] ≡ cond b (l ∷ []) (first_place (l + 1) ts v) → b || stands ts v ≡ true)
+    [ true ↦ λ e. refl | false ↦ λ e. first_place-some (l + 1) m ts v e ] h
+
+pub first_of_variable : (tests : List Test) (seen : List Term) (v : ℕ) → [] ≡ first_place 0 seen v → record { term = Var v; pins = constants_of tests v; ties = [] } ≡ level_behind tests seen (Var v)
+first_of_variable tests seen v h = rw (first_place-none 0 seen v h, sym h) refl
+
+pub later_of_variable : (tests : List Test) (seen : List Term) (v m : ℕ) → m ∷ [] ≡ first_place 0 seen v → record { term = Var v; pins = []; ties = m ∷ [] } ≡ level_behind tests seen (Var v)
+later_of_variable tests seen v m h = rw (first_place-some 0 m seen v h, sym h) refl
 
 pub length-places_in : (before ts : List Term) → length (places_in before ts) ≡ length ts
 length-places_in before [] = refl

@@ -11,8 +11,10 @@ pub mod Picks
 pub mod PlaceSteps
 pub mod Precedence
 pub mod Running
+pub mod Shapes
 pub mod Standing
 pub mod StatedPlan
 pub mod Text
 mod NeedsExamples
 mod OrderExamples
+pub mod ByShape

@@ -76,7 +76,7 @@ in_with_names_from names (p ∷ more) x h =
       | inr r ↦ inr (inr r)
     ]
 
-with_names-append : (names more last : List IndexName) → with_names names (more ++ last) ≡ with_names (with_names names more) last
+pub with_names-append : (names more last : List IndexName) → with_names names (more ++ last) ≡ with_names (with_names names more) last
 with_names-append names [] last = refl
 with_names-append names (p ∷ more) last = with_names-append (with_name names p) more last
 

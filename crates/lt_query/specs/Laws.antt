@@ -12,7 +12,8 @@ use Rattle.lt_query.specs.Answering.{IsAnswer, IsSatisfied, AreTestsBound}
 use Rattle.lt_query.specs.declared.plans.Plan.{Plan}
 use Rattle.lt_query.specs.Plan.{IsPlanOf}
 use Rattle.lt_query.specs.Runnable.{AreWide, HasWidths, AreFew, IsRunnable}
-use Rattle.lt_query.specs.Stated.{IsStatedPlan}
+use Rattle.lt_query.specs.Shape.{shape_of, plan_of, order_of, blank_plan, filled}
+use Rattle.lt_query.specs.Stated.{stated_plan, IsStatedPlan}
 
 -- ---- plans
 
@@ -45,3 +46,13 @@ SomeIsSatisfied = (body : Body) (state : State) → AreTestsBound body → (some
 -- two ascending lists with the same rows are one
 abbrev pub OneAscending : Type 0
 OneAscending = (xs ys : List Row) → IsAscending xs → IsAscending ys → ((row : Row) → IsIn row xs ↔ IsIn row ys) → xs ≡ ys
+
+-- ---- shapes
+
+-- the plan of a shape is that of each body of it, with 0 for each constant
+abbrev pub PlanOfShape : Type 0
+PlanOfShape = (body : Body) → plan_of (shape_of body) ≡ blank_plan (stated_plan body)
+
+-- filled with the body's constants, it is the body's plan
+abbrev pub FilledIsPlan : Type 0
+FilledIsPlan = (body : Body) → filled body (order_of (shape_of body)) (plan_of (shape_of body)).guides ≡ stated_plan body

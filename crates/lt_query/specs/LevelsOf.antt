@@ -1,5 +1,5 @@
 -- The levels of an order of terms.
-use Rattle.std.specs.Prelude.{ℕ, ◌+◌, ◌==◌, List, [], ◌∷◌, ◌++◌, if◌then◌else◌}
+use Rattle.std.specs.Prelude.{ℕ, ◌+◌, ◌==◌, List, [], ◌∷◌, ◌++◌, if◌then◌else◌, map}
 use Rattle.lt_model.specs.declared.normal.Term.{Term}
 use Rattle.lt_model.specs.declared.normal.Term.TheVariants.{Var, Cell}
 use Rattle.lt_model.specs.declared.syntax.Op.TheVariants.{Eq}
@@ -29,7 +29,15 @@ abbrev pub ties_of : List Term → Term → List ℕ
 ties_of seen (Cell c) = []
 ties_of seen (Var v) = first_place 0 seen v
 
+-- the level of a term, after those seen
+abbrev pub level_behind : List Test → List Term → Term → Level
+level_behind tests seen t = record { term = t; pins = pins_of tests seen t; ties = ties_of seen t }
+
 -- the levels of terms in this order, after those seen
 abbrev pub levels_from : List Test → List Term → List Term → List Level
 levels_from tests seen [] = []
-levels_from tests seen (t ∷ ts) = record { term = t; pins = pins_of tests seen t; ties = ties_of seen t } ∷ levels_from tests (seen ++ t ∷ []) ts
+levels_from tests seen (t ∷ ts) = level_behind tests seen t ∷ levels_from tests (seen ++ t ∷ []) ts
+
+-- the terms of levels
+abbrev pub level_terms : List Level → List Term
+level_terms levels = map (λ level. level.term) levels

@@ -5,5 +5,7 @@ pub mod LevelsOf
 pub mod Needs
 pub mod Order
 pub mod Plan
+pub mod Planned
 pub mod Runnable
+pub mod Shape
 pub mod Stated

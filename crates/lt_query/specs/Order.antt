@@ -73,9 +73,13 @@ abbrev pub is_tied_to : Term → Place → Bool
 is_tied_to (Cell c) place = false
 is_tied_to (Var v) place = place.again && is_var v place.term
 
+-- the places whose variables are tied to the original with this term
+abbrev pub tied_to : List Place → Term → List ℕ
+tied_to places t = filter (λ q. is_tied_to t (place_at places q)) (below (length places))
+
 -- an original, and then its tied variables
 abbrev pub with_tied : List Place → ℕ → List ℕ
-with_tied places p = p ∷ filter (λ q. is_tied_to (place_at places p).term (place_at places q)) (below (length places))
+with_tied places p = p ∷ tied_to places (place_at places p).term
 
 -- the pinned originals, or the others, in text order, each with its tied variables
 abbrev pub originals : List Test → List Place → Bool → List ℕ

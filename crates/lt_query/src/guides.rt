@@ -36,7 +36,7 @@ fn column_levels(
     requires { from + width ≤ length places.now }
     ensures { IfOk result (λ levels. levels ≡ levels_of_columns places.now order.now from width) }
 {
-    let mut levels = Items::new(alloc);
+    let mut levels = Items::from_vec(Vec::with_capacity(alloc, width)?);
     for column in 0..width {
         levels.push(level_of(order, origin(places, from + column)))?;
     }
@@ -61,7 +61,7 @@ fn sorted_columns(alloc: Global, levels: &[usize], count: usize) -> Result<Perm,
     requires { length levels.now ≤ 8 }
     ensures { IfOk result (λ columns. columns ≡ columns_by levels.now count) }
 {
-    let mut columns = Items::new(alloc);
+    let mut columns = Items::from_vec(Vec::with_capacity(alloc, levels.len())?);
     for level in 0..count {
         add_columns_at(&mut columns, levels, level)?;
     }
@@ -100,7 +100,7 @@ pub fn guides(
     requires widths { AllByRecursion (λ (atom : AtomType). IsWidth (length atom.terms)) atoms.now }
     ensures { IfOk result (λ guides. guides ≡ guides_from places.now order.now 0 atoms.now) }
 {
-    let mut guides = Items::new(alloc);
+    let mut guides = Items::from_vec(Vec::with_capacity(alloc, atoms.len())?);
     let mut from = 0;
     for atom in atoms {
         guides.push(guide(alloc, atom, places, order, from)?)?;

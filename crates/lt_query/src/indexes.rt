@@ -1,16 +1,8 @@
-//! Which indexes the plans of a program's statements go through.
-ghost use Rattle.std.specs.Prelude.{◌≡◌, ◌↔◌, OnOk, IfOk, map};
-ghost use Rattle.std.specs.List.{AllByRecursion};
-ghost use Rattle.lt_face.specs.Lists.{IsIn};
-ghost use Rattle.lt_model.specs.declared.normal.Stmt.{Stmt as StmtType};
-ghost use Rattle.lt_query.specs.declared.plans.IndexName.{IndexName as IndexNameType};
-ghost use Rattle.lt_query.specs.Lists.{IsDistinct};
-ghost use Rattle.lt_query.specs.Needs.{body_of as body_in, index_of, same_name, has_name as has_this_name, with_names, IsNeeded, HaveNames};
-ghost use Rattle.lt_query.specs.Runnable.{HasWidths};
+//! Names of indexes, collected from guides.
+ghost use Rattle.std.specs.Prelude.{◌≡◌, OnOk, map};
+ghost use Rattle.lt_query.specs.Needs.{body_of as body_in, index_of, same_name, has_name as has_this_name, with_names};
 
-use crate::planning::plan;
-use crate::{Body, Guide, IndexName, Perms, Prog, Stmt};
-use lt_face::items::Items;
+use crate::{Body, Guide, IndexName, Perms, Stmt};
 use lt_face::memory::NoMemory;
 
 /// The statement's body.
@@ -46,7 +38,7 @@ fn has_name(names: &[IndexName], guide: &Guide) -> bool
 }
 
 /// Adds the index of each guide that isn't there yet.
-fn add_names(names: &mut Perms, guides: &[Guide]) -> Result<(), NoMemory>
+pub(crate) fn add_names(names: &mut Perms, guides: &[Guide]) -> Result<(), NoMemory>
     ensures { OnOk result (names.new ≡ with_names names.old (map index_of guides.now)) }
 {
     for guide in guides {
@@ -57,20 +49,4 @@ fn add_names(names: &mut Perms, guides: &[Guide]) -> Result<(), NoMemory>
         }
     }
     Ok(())
-}
-
-/// The indexes that the plans of the program's statements go through, each once: of each, the relation and the order of
-/// its columns. Each atom has 1 to 8 terms.
-pub fn needs(prog: &Prog) -> Result<Perms, NoMemory>
-    requires widths { AllByRecursion (λ (stmt : StmtType). HasWidths (body_in stmt)) prog.now }
-    ensures once { IfOk result (λ names. IsDistinct names) }
-    ensures needed { IfOk result (λ names. (name : IndexNameType) → IsIn name names ↔ IsNeeded prog.now name) }
-    ensures each { IfOk result (λ names. HaveNames names prog.now) }
-{
-    let mut names = Items::new(prog.allocator());
-    for stmt in prog.as_slice() {
-        let plan = plan(body_of(stmt))?;
-        add_names(&mut names, plan.guides.as_slice())?;
-    }
-    Ok(names)
 }

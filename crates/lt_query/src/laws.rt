@@ -1,5 +1,5 @@
 //! Laws of the plans of a body, in whatever order of its variables, and of its answers.
-ghost use Rattle.lt_query.specs.Laws.{FittingHasWidths, PlansAreRunnable, OneStatedPlan, AnswersAscend, AnswersAreCells, SomeIsSatisfied, OneAscending};
+ghost use Rattle.lt_query.specs.Laws.{FittingHasWidths, PlansAreRunnable, OneStatedPlan, AnswersAscend, AnswersAreCells, SomeIsSatisfied, OneAscending, PlanOfShape, FilledIsPlan};
 
 /// The atoms of a body that fits a state are as wide as the relations. A join can follow each plan of the body. One plan
 /// has the stated order.
@@ -16,4 +16,11 @@ pub fn answers_of_bodies()
     ensures cells { AnswersAreCells }
     ensures some { SomeIsSatisfied }
     ensures one { OneAscending }
+{}
+
+/// Bodies of one shape have one plan, but for the constants. A shape's plan, filled with those of a body of the shape, is the
+/// body's plan.
+pub fn plans_of_shapes()
+    ensures blank { PlanOfShape }
+    ensures filled { FilledIsPlan }
 {}

@@ -2,10 +2,13 @@
 
 ghost use Rattle.std.specs.Prelude.{◌≡◌, ℕ, ◌+◌, ◌<◌, [], ◌∷◌, ◌++◌, if◌then◌else◌, length, OnOk, IfOk, Some, None};
 ghost use Rattle.std.specs.Option.{option_to_list};
-ghost use Rattle.lt_query.specs.LevelsOf.{constants_of, first_place as first_level_of, pins_of, ties_of, levels_from};
+ghost use Rattle.std.specs.List.{All};
+ghost use Rattle.lt_model.specs.declared.normal.Term.TheVariants.{Var};
+ghost use Rattle.lt_query.specs.LevelsOf.{constants_of, first_place as first_level_of, level_behind, level_terms, levels_from};
+ghost use Rattle.lt_query.specs.Order.{place_at, places_of, terms_at};
 
-use crate::places::{is_var, stands_in};
-use crate::{Level, Term, Test};
+use crate::places::is_var;
+use crate::{Atom, Level, Term, Test};
 use lt_face::items::Items;
 use lt_face::memory::NoMemory;
 use lt_model::syntax::Op;
@@ -39,61 +42,94 @@ fn constants(alloc: Global, tests: &[Test], v: u32) -> Result<Items<u128>, NoMem
     Ok(constants)
 }
 
-/// The constants that a level's key has to be: its own, or at a variable's first level those of the tests.
-fn pins(alloc: Global, tests: &[Test], seen: &[Term], term: Term) -> Result<Items<u128>, NoMemory>
-    ensures { IfOk result (λ pins. pins ≡ pins_of tests.now seen.now term) }
-{
-    match term {
-        Term::Var(v) => {
-            if stands_in(seen, v) {
-                Ok(Items::new(alloc))
-            } else {
-                constants(alloc, tests, v)
-            }
-        }
-        Term::Cell(c) => {
-            let mut pins = Items::new(alloc);
-            pins.push(c)?;
-            Ok(pins)
-        }
-    }
-}
-
 /// The first level of a variable, if it has one.
-fn first_level(seen: &[Term], v: u32) -> Option<usize>
-    ensures { option_to_list result ≡ first_level_of 0 seen.now v }
+fn first_level(seen: &[Level], v: u32) -> Option<usize>
+    ensures { option_to_list result ≡ first_level_of 0 (level_terms seen.now) v }
 {
     for l in 0..seen.len() {
-        if is_var(seen[l], v) {
+        if is_var(seen[l].term, v) {
             return Some(l);
         }
     }
     None
 }
 
-/// The first level of the term's variable, if this is a later one.
-fn ties(alloc: Global, seen: &[Term], term: Term) -> Result<Items<usize>, NoMemory>
-    ensures { IfOk result (λ ties. ties ≡ ties_of seen.now term) }
+/// A list of one.
+fn only<T: Drop>(alloc: Global, x: T) -> Result<Items<T>, NoMemory>
+    ensures { IfOk result (λ list. list ≡ x ∷ []) }
 {
-    let mut ties = Items::new(alloc);
-    if let Term::Var(v) = term {
-        if let Some(l) = first_level(seen, v) {
-            ties.push(l)?;
-        }
-    }
-    Ok(ties)
+    let mut list = Items::from_vec(Vec::with_capacity(alloc, 1)?);
+    list.push(x)?;
+    Ok(list)
 }
 
-/// A level for each term, in this order.
-pub fn levels(alloc: Global, tests: &[Test], terms: &[Term]) -> Result<Items<Level>, NoMemory>
-    ensures { IfOk result (λ levels. levels ≡ levels_from tests.now [] terms.now) }
+/// The level of a variable behind those seen: its first one has the constants that tests equate it with, and a later one is
+/// tied to the first.
+fn variable_level(alloc: Global, tests: &[Test], seen: &[Level], v: u32) -> Result<Level, NoMemory>
+    ensures { IfOk result (λ level. level ≡ level_behind tests.now (level_terms seen.now) (Var v)) }
 {
-    let mut levels = Items::new(alloc);
-    for l in 0..terms.len() {
-        let term = terms[l];
-        let pins = pins(alloc, tests, &terms[..l], term)?;
-        let ties = ties(alloc, &terms[..l], term)?;
-        levels.push(Level { term, pins, ties })?;
+    let term = Term::Var(v);
+    match first_level(seen, v) {
+        Some(first) => {
+            let ties = only(alloc, first)?;
+            let pins = Items::new(alloc);
+            Ok(Level { term, pins, ties })
+        }
+        None => {
+            let pins = constants(alloc, tests, v)?;
+            let ties = Items::new(alloc);
+            Ok(Level { term, pins, ties })
+        }
+    }
+}
+
+/// The level of a term behind those seen. A constant has to be itself.
+fn level(alloc: Global, tests: &[Test], seen: &[Level], term: Term) -> Result<Level, NoMemory>
+    ensures { IfOk result (λ level. level ≡ level_behind tests.now (level_terms seen.now) term) }
+{
+    match term {
+        Term::Var(v) => {
+            let level = variable_level(alloc, tests, seen, v)?;
+            Ok(level)
+        }
+        Term::Cell(c) => {
+            let pins = only(alloc, c)?;
+            let ties = Items::new(alloc);
+            Ok(Level { term, pins, ties })
+        }
+    }
+}
+
+/// The term at a place of the atoms.
+fn term_at(atoms: &[Atom], place: usize) -> Term
+    requires { place < length (places_of atoms.now) }
+    ensures { result ≡ (place_at (places_of atoms.now) place).term }
+{
+    let mut left = place;
+    for atom in atoms {
+        let terms = atom.terms.as_slice();
+        if left < terms.len() {
+            return terms[left];
+        }
+        left -= terms.len();
+    }
+    Term::Cell(0)
+}
+
+/// A level for the term of each place of the atoms, in this order.
+pub fn levels(
+    alloc: Global,
+    tests: &[Test],
+    atoms: &[Atom],
+    order: &[usize],
+) -> Result<Items<Level>, NoMemory>
+    requires { All (λ p. p < length (places_of atoms.now)) order.now }
+    ensures { IfOk result (λ levels. levels ≡ levels_from tests.now [] (terms_at (places_of atoms.now) order.now)) }
+{
+    let mut levels = Items::from_vec(Vec::with_capacity(alloc, order.len())?);
+    for p in order {
+        let level = level(alloc, tests, levels.as_slice(), term_at(atoms, *p))?;
+        levels.push(level)?;
     }
     Ok(levels)
 }

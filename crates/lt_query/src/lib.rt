@@ -8,10 +8,14 @@ pub mod laws;
 mod levels;
 mod order;
 mod places;
+pub mod planned;
 pub mod planning;
 pub mod plans;
+pub mod shape;
 
-pub use indexes::{body_of, needs};
+pub use indexes::body_of;
 pub use lt_model::normal::{Atom, Body, Prog, Stmt, Term, TermList, Test};
-pub use planning::plan;
-pub use plans::{Guide, IndexName, Level, Perms, Plan};
+pub use planned::{Planned, plan_all};
+pub use planning::{plan, plan_by, route};
+pub use plans::{Guide, Guides, IndexName, Level, Perms, Plan, Route};
+pub use shape::same_shape;

@@ -1,8 +1,9 @@
 //! The stated order of a body's variables.
 
 ghost use Rattle.std.specs.Prelude.{◌≡◌, ℕ, ◌+◌, ◌<◌, true, false, [], ◌++◌, length, OnOk, IfOk};
-ghost use Rattle.std.specs.List.{list_any, All};
-ghost use Rattle.lt_query.specs.Order.{pins_variable as is_pin_of, is_pinned as is_term_pinned, is_first as is_first_at, is_original as is_original_at, is_tied_to as is_place_tied_to, with_tied, originals, stated_order as order_of, terms_at as terms_of_order, place_at};
+ghost use Rattle.std.specs.List.{list_any};
+ghost use Rattle.lt_model.specs.declared.normal.Term.TheVariants.{Var};
+ghost use Rattle.lt_query.specs.Order.{pins_variable as is_pin_of, is_pinned as is_term_pinned, is_first as is_first_at, is_original as is_original_at, tied_to, with_tied, originals, stated_order as order_of, place_at};
 
 use crate::places::{Place, first_place, is_var};
 use crate::{Term, Test};
@@ -64,32 +65,34 @@ fn is_original(tests: &[Test], places: &[Place], pinned: bool, p: usize) -> bool
     ensures { result ≡ is_original_at tests.now places.now pinned p }
 {
     let term = places[p].term;
-    is_first(places, p, term) && is_pinned(tests, term) == pinned
+    is_pinned(tests, term) == pinned && is_first(places, p, term)
 }
 
-/// Whether the variable of the place is tied to the original with this term.
-fn is_tied_to(term: Term, place: Place) -> bool
-    ensures { result ≡ is_place_tied_to term place }
+/// Adds the places that are tied to the original of a variable.
+fn add_tied(order: &mut Items<usize>, places: &[Place], v: u32) -> Result<(), NoMemory>
+    ensures { OnOk result (order.new ≡ order.old ++ tied_to places.now (Var v)) }
 {
-    match term {
-        Term::Var(v) => place.again && is_var(place.term, v),
-        Term::Cell(_) => false,
-    }
-}
-
-/// Adds an original, and then its tied variables.
-fn add_with_tied(order: &mut Items<usize>, places: &[Place], p: usize) -> Result<(), NoMemory>
-    requires { p < length places.now }
-    ensures { OnOk result (order.new ≡ order.old ++ with_tied places.now p) }
-{
-    let term = places[p].term;
-    order.push(p)?;
     for q in 0..places.len() {
-        if is_tied_to(term, places[q]) {
+        if places[q].again && is_var(places[q].term, v) {
             order.push(q)?;
         }
     }
     Ok(())
+}
+
+/// Adds an original, and then its tied variables. None is tied to a constant.
+fn add_with_tied(order: &mut Items<usize>, places: &[Place], p: usize) -> Result<(), NoMemory>
+    requires { p < length places.now }
+    ensures { OnOk result (order.new ≡ order.old ++ with_tied places.now p) }
+{
+    order.push(p)?;
+    match places[p].term {
+        Term::Var(v) => {
+            add_tied(order, places, v)?;
+            Ok(())
+        }
+        Term::Cell(_) => Ok(()),
+    }
 }
 
 /// Adds the pinned originals, or the others, each with its tied variables.
@@ -117,20 +120,8 @@ pub fn stated_order(
 ) -> Result<Items<usize>, NoMemory>
     ensures { IfOk result (λ order. order ≡ order_of tests.now places.now) }
 {
-    let mut order = Items::new(alloc);
+    let mut order = Items::from_vec(Vec::with_capacity(alloc, places.len())?);
     add_originals(&mut order, tests, places, true)?;
     add_originals(&mut order, tests, places, false)?;
     Ok(order)
-}
-
-/// The terms at these places.
-pub fn terms_at(alloc: Global, places: &[Place], order: &[usize]) -> Result<Items<Term>, NoMemory>
-    requires { All (λ p. p < length places.now) order.now }
-    ensures { IfOk result (λ terms. terms ≡ terms_of_order places.now order.now) }
-{
-    let mut terms = Items::new(alloc);
-    for p in order {
-        terms.push(places[*p].term)?;
-    }
-    Ok(terms)
 }

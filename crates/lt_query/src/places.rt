@@ -60,11 +60,20 @@ fn add_places(places: &mut Items<Place>, terms: &[Term]) -> Result<(), NoMemory>
     Ok(())
 }
 
+/// How many columns the atoms have, or fewer: room for their places.
+fn column_count(atoms: &[Atom]) -> usize {
+    let mut count: usize = 0;
+    for atom in atoms {
+        count = count.saturating_add(atom.terms.len());
+    }
+    count
+}
+
 /// The places of the atoms.
 pub fn places_of(alloc: Global, atoms: &[Atom]) -> Result<Items<Place>, NoMemory>
     ensures { IfOk result (λ places. places ≡ all_places atoms.now) }
 {
-    let mut places = Items::new(alloc);
+    let mut places = Items::from_vec(Vec::with_capacity(alloc, column_count(atoms))?);
     for atom in atoms {
         add_places(&mut places, atom.terms.as_slice())?;
     }

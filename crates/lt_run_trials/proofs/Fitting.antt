@@ -8,9 +8,9 @@ use Rattle.lt_model.specs.Fits.{Fits, FitMarks, IsMarkOf}
 use Rattle.lt_model.specs.Marks.{Marks, laid}
 use Rattle.lt_model.proofs.Composition.{same_widths}
 use Rattle.lt_delta.proofs.Kept.{IsState-laid}
-use Rattle.lt_program.specs.Run.{IsFitting, lists}
-use Rattle.lt_program.specs.Walk.{bare}
-use Rattle.lt_program.proofs.BareStates.{laid-plain}
+use Rattle.lt_reference.specs.Run.{IsFitting, lists}
+use Rattle.lt_reference.specs.Walk.{bare}
+use Rattle.lt_reference.proofs.BareStates.{laid-plain}
 use Rattle.lt_run_trials.specs.Fitting.{AreBoth, FitsBoth, AreRowsOfBoth, KeepsWidths}
 use Rattle.lt_batch.proofs.Widths.{wide_laid, widths-laid}
 

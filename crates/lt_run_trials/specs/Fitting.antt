@@ -3,8 +3,8 @@ use Rattle.std.specs.Prelude.{◌≡◌, ℕ, List, [], ◌∷◌, map}
 use Rattle.lt_face.specs.State.{Row, Relation, State}
 use Rattle.lt_model.specs.declared.normal.Stmt.{Stmt}
 use Rattle.lt_model.specs.Fits.{Fits, IsWide}
-use Rattle.lt_program.specs.Run.{lists}
 use Rattle.lt_batch.specs.Work.{IsSnapshot}
+use Rattle.lt_reference.specs.Run.{lists}
 
 -- the relations r(int) and e(int, int)
 abbrev pub AreBoth : State → Type 0

@@ -14,6 +14,7 @@ use lt_face::memory::NoMemory;
 use lt_model::normal::Prog;
 use lt_program::{Outcome, Part, SharedPart, Tally};
 use std::alloc::Global;
+use std::thread::Threads;
 
 /// The run as it is defined, on relations without rows.
 fn defined(alloc: Global, prog: &Prog) -> Result<Ran, NoMemory>
@@ -24,11 +25,11 @@ fn defined(alloc: Global, prog: &Prog) -> Result<Ran, NoMemory>
 }
 
 /// The run by joins, on relations without rows.
-fn joined_alone(alloc: Global, prog: Prog) -> Result<Tally, NoMemory>
+fn joined_alone<R: Threads + Sync>(rt: &R, alloc: Global, prog: Prog) -> Result<Tally, NoMemory>
     requires { FitsBoth prog }
 {
     let base = bare(alloc)?;
-    joined(alloc, &base, prog)
+    joined(rt, alloc, &base, prog)
 }
 
 /// Whether a run by joins answered and wrote what one as it is defined did.
@@ -37,10 +38,10 @@ fn is_run(tally: &Tally, ran: &Ran) -> bool {
 }
 
 /// Whether the run by joins answers and writes this.
-fn does(alloc: Global, prog: Prog, ran: Ran) -> Result<bool, NoMemory>
+fn does<R: Threads + Sync>(rt: &R, alloc: Global, prog: Prog, ran: Ran) -> Result<bool, NoMemory>
     requires { FitsBoth prog }
 {
-    let tally = joined_alone(alloc, prog)?;
+    let tally = joined_alone(rt, alloc, prog)?;
     let is_so = is_run(&tally, &ran);
     drop(tally);
     drop(ran);
@@ -57,10 +58,10 @@ fn sampled(alloc: Global, random: &mut Random) -> Result<Prog, NoMemory>
 }
 
 /// Whether the two runs of the next program agree.
-fn agrees(alloc: Global, random: &mut Random) -> Result<bool, NoMemory> {
+fn agrees<R: Threads + Sync>(rt: &R, alloc: Global, random: &mut Random) -> Result<bool, NoMemory> {
     let prog = sampled(alloc, random)?;
     let ran = defined(alloc, &prog)?;
-    does(alloc, prog, ran)
+    does(rt, alloc, prog, ran)
 }
 
 #[test]
@@ -68,7 +69,7 @@ fn joins_answer_as_defined(rt: HostRuntime) -> Result<(), NoMemory> {
     let alloc = rt.alloc();
     let mut random = Random::new();
     for _ in 0..200 {
-        holds(&rt, agrees(alloc, &mut random)?);
+        holds(&rt, agrees(&rt, alloc, &mut random)?);
     }
     Ok(())
 }
@@ -97,16 +98,16 @@ fn is_tally_of_refused(tally: &Tally) -> bool {
     tally.ended()
         && tally.evaluated() == 2
         && tally.marks().len() == 0
-        && tally.program().len() == 3
+        && tally.program().statements().len() == 3
         && tally.base().count() == 2
         && is_refused(tally.reply(), 2)
         && are_parts_of_refused(tally.parts())
 }
 
 /// Whether the run by joins of the refused program ends so.
-fn ends_refused(alloc: Global) -> Result<bool, NoMemory> {
+fn ends_refused<R: Threads + Sync>(rt: &R, alloc: Global) -> Result<bool, NoMemory> {
     let prog = program(alloc, REFUSED)?;
-    let tally = joined_alone(alloc, prog)?;
+    let tally = joined_alone(rt, alloc, prog)?;
     let is_so = is_tally_of_refused(&tally);
     drop(tally);
     Ok(is_so)
@@ -114,6 +115,6 @@ fn ends_refused(alloc: Global) -> Result<bool, NoMemory> {
 
 #[test]
 fn a_tally_ends_at_a_false_requirement(rt: HostRuntime) -> Result<(), NoMemory> {
-    holds(&rt, ends_refused(rt.alloc())?);
+    holds(&rt, ends_refused(&rt, rt.alloc())?);
     Ok(())
 }

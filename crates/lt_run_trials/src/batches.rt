@@ -121,7 +121,7 @@ fn ran<R: Threads + Wait + Sync>(
     requires workers { (1 ≤ workers) × (workers ≤ 16) }
     requires fit { AllByRecursion FitsBoth (map arc_value progs.now) }
 {
-    let db = stocked(alloc, stock)?;
+    let db = stocked(rt, alloc, stock)?;
     let out = run_batch(rt, alloc, &db, progs, workers, &OpenGate)?;
     Ok(out)
 }

@@ -10,7 +10,7 @@ ghost use Rattle.lt_program.specs.Tally.{HasIndexesOf};
 
 use crate::agree::holds;
 use crate::comparing::{are_int_rows, int_row};
-use crate::texts::{ZERO, program, stocked};
+use crate::texts::{ZERO, program, routed, stocked};
 use lt_base::Database;
 use lt_face::items::{Items, RowList};
 use lt_face::key::{END, Key};
@@ -23,6 +23,7 @@ use lt_query::laws::plans_of_bodies;
 use lt_query::{Plan, plan};
 use lt_sense::{Hit, KeptGap, Sense};
 use std::alloc::Global;
+use std::thread::Threads;
 
 /// The answers of a print, or whether a requirement's body has one, and what that was sensitive to.
 #[derive(Drop)]
@@ -88,20 +89,32 @@ fn evaluated(alloc: Global, db: &Database, stmt: &Stmt) -> Result<Finding, NoMem
 }
 
 /// What a statement finds on the rows that others have left.
-fn found(alloc: Global, stock: &str, statement: &str) -> Result<Finding, NoMemory> {
+fn found<R: Threads + Sync>(
+    rt: &R,
+    alloc: Global,
+    stock: &str,
+    statement: &str,
+) -> Result<Finding, NoMemory> {
     let prog = program(alloc, statement)?;
-    let base = stocked(alloc, stock)?;
-    let db = indexed(&base, &prog)?;
+    let base = stocked(rt, alloc, stock)?;
+    let prog = routed(alloc, &base, prog)?;
+    let db = indexed(rt, &base, &prog)?;
     db.look_over();
-    match prog.as_slice() {
+    match prog.statements() {
         [stmt] => evaluated(alloc, &db, stmt),
         _ => Err(NoMemory),
     }
 }
 
 /// Whether a print answers these ints.
-fn finds(alloc: Global, stock: &str, statement: &str, ints: &[i64]) -> Result<bool, NoMemory> {
-    let found = found(alloc, stock, statement)?;
+fn finds<R: Threads + Sync>(
+    rt: &R,
+    alloc: Global,
+    stock: &str,
+    statement: &str,
+    ints: &[i64],
+) -> Result<bool, NoMemory> {
+    let found = found(rt, alloc, stock, statement)?;
     Ok(are_int_rows(alloc, found.rows.as_slice(), ints))
 }
 
@@ -142,7 +155,7 @@ fn bodies_have_their_answers(rt: HostRuntime) -> Result<(), NoMemory> {
             [2, 3, 4].as_slice(),
         ),
     ] {
-        holds(&rt, finds(rt.alloc(), stock, statement, ints)?);
+        holds(&rt, finds(&rt, rt.alloc(), stock, statement, ints)?);
     }
     Ok(())
 }
@@ -194,14 +207,15 @@ fn is_sense(alloc: Global, sense: &Sense, want: &Sensitive) -> Result<bool, NoMe
 }
 
 /// Whether a statement's body has an answer or none, and its sense is this one.
-fn senses(
+fn senses<R: Threads + Sync>(
+    rt: &R,
     alloc: Global,
     stock: &str,
     statement: &str,
     any: bool,
     want: &Sensitive,
 ) -> Result<bool, NoMemory> {
-    let found = found(alloc, stock, statement)?;
+    let found = found(rt, alloc, stock, statement)?;
     let same = is_sense(alloc, &found.sense, want)?;
     Ok(found.any == any && same)
 }
@@ -258,7 +272,7 @@ fn evaluations_leave_their_gaps_and_hits(rt: HostRuntime) -> Result<(), NoMemory
             },
         ),
     ] {
-        holds(&rt, senses(rt.alloc(), stock, statement, any, &want)?);
+        holds(&rt, senses(&rt, rt.alloc(), stock, statement, any, &want)?);
     }
     Ok(())
 }

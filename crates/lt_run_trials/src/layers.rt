@@ -15,6 +15,7 @@ use lt_face::memory::NoMemory;
 use lt_face::row_set::RowReads;
 use lt_face::walk::RowWalk;
 use std::alloc::Global;
+use std::thread::Threads;
 
 /// A database on which marks were laid list after list, and what all of them come to.
 #[derive(Drop)]
@@ -63,7 +64,8 @@ fn no_layers(alloc: Global, base: &Database) -> Result<Layers, NoMemory>
 }
 
 /// One more layer: the marks of a few statements at random.
-fn one_more(
+fn one_more<R: Threads + Sync>(
+    rt: &R,
     alloc: Global,
     base: &Database,
     random: &mut Random,
@@ -77,21 +79,26 @@ fn one_more(
     ensures marks { IfOk result (λ new. FitMarks (state_of base.now) new.marks) }
 {
     let statements = spreading(alloc, random, 4)?;
-    let layer = marks_of(alloc, base, &statements)?;
+    let layer = marks_of(rt, alloc, base, &statements)?;
     let db = with_layer(base, &layers.db, &layer, folds)?;
     let marks = both(base, &layers.marks, &layer)?;
     Ok(Layers { db, marks })
 }
 
 /// So many layers, folded now and then.
-fn layered(alloc: Global, base: &Database, count: u32) -> Result<Layers, NoMemory>
+fn layered<R: Threads + Sync>(
+    rt: &R,
+    alloc: Global,
+    base: &Database,
+    count: u32,
+) -> Result<Layers, NoMemory>
     requires { AreBoth (state_of base.now) }
     ensures { IfOk result (λ layers. FitMarks (state_of base.now) layers.marks) }
 {
     let mut random = Random::new();
     let mut layers = no_layers(alloc, base)?;
     for i in 0..count {
-        layers = one_more(alloc, base, &mut random, &layers, i % 8 == 7)?;
+        layers = one_more(rt, alloc, base, &mut random, &layers, i % 8 == 7)?;
     }
     Ok(layers)
 }
@@ -123,9 +130,9 @@ fn have_same_rows(alloc: Global, one: &Database, other: &Database, more_than: us
 }
 
 /// Whether so many layers leave the rows that their marks leave at once.
-fn lays_alike(alloc: Global, count: u32) -> Result<bool, NoMemory> {
+fn lays_alike<R: Threads + Sync>(rt: &R, alloc: Global, count: u32) -> Result<bool, NoMemory> {
     let base = bare(alloc)?;
-    let layers = layered(alloc, &base, count)?;
+    let layers = layered(rt, alloc, &base, count)?;
     let once = base.laid(&layers.marks)?;
     let is_so = have_same_rows(alloc, &layers.db, &once, 256);
     drop(layers);
@@ -134,6 +141,6 @@ fn lays_alike(alloc: Global, count: u32) -> Result<bool, NoMemory> {
 
 #[test]
 fn layers_leave_what_their_marks_leave_at_once(rt: HostRuntime) -> Result<(), NoMemory> {
-    holds(&rt, lays_alike(rt.alloc(), 200)?);
+    holds(&rt, lays_alike(&rt, rt.alloc(), 200)?);
     Ok(())
 }

@@ -50,7 +50,7 @@ fn ran_past<R: Threads + Wait + Sync>(
     requires few { length progs.now ≤ 256 }
     requires fit { AllByRecursion FitsBoth (map arc_value progs.now) }
 {
-    let db = stocked(alloc, "")?;
+    let db = stocked(rt, alloc, "")?;
     let out = run_batch(rt, alloc, &db, progs, 2, gate)?;
     Ok(out)
 }

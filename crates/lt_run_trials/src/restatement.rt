@@ -7,16 +7,18 @@ ghost use Rattle.lt_base.specs.Tables.{state_of};
 ghost use Rattle.lt_program.specs.Tally.{HasIndexes, has_ended};
 ghost use Rattle.lt_run_trials.specs.Fitting.{AreBoth};
 
-use crate::texts::{joined, program, stocked};
+use crate::texts::{joined, program, routed, stocked};
 use lt_base::Database;
 use lt_delta::Marks;
 use lt_face::memory::NoMemory;
 use lt_face::moves::Moves;
 use lt_model::normal::Prog;
 use lt_program::{Tally, indexed, run};
+use lt_query::Planned;
 use lt_restate::{Touches, restate_marks};
 use std::alloc::Global;
 use std::sync::Arc;
+use std::thread::Threads;
 
 /// A run, the same program restated where marks changed its base, and its run anew there.
 #[derive(Drop)]
@@ -28,19 +30,24 @@ pub(crate) struct Restatement {
 }
 
 /// The marks of a program on the base.
-pub(crate) fn marks_of(alloc: Global, base: &Database, statements: &str) -> Result<Marks, NoMemory>
+pub(crate) fn marks_of<R: Threads + Sync>(
+    rt: &R,
+    alloc: Global,
+    base: &Database,
+    statements: &str,
+) -> Result<Marks, NoMemory>
     requires { AreBoth (state_of base.now) }
     ensures { IfOk result (λ marks. FitMarks (state_of base.now) marks) }
 {
     let prog = program(alloc, statements)?;
-    let tally = joined(alloc, base, prog)?;
+    let tally = joined(rt, alloc, base, prog)?;
     let marks = tally.marks().share()?;
     drop(tally);
     Ok(marks)
 }
 
 /// The database that a program runs on: marks laid on one that has its indexes.
-fn corrected(db: &Database, _prog: &Arc<Prog>, marks: &Marks) -> Result<Database, NoMemory>
+fn corrected(db: &Database, _prog: &Arc<Planned>, marks: &Marks) -> Result<Database, NoMemory>
     requires fits { Fits (state_of db.now) (arc_value _prog.now) }
     requires indexes { HasIndexes db.now (arc_value _prog.now) }
     requires marks { FitMarks (state_of db.now) marks.now }
@@ -53,7 +60,7 @@ fn corrected(db: &Database, _prog: &Arc<Prog>, marks: &Marks) -> Result<Database
 }
 
 /// The run of the program where the marks are laid on the database.
-fn ran(db: &Database, prog: &Arc<Prog>, marks: &Marks) -> Result<Tally, NoMemory>
+fn ran(db: &Database, prog: &Arc<Planned>, marks: &Marks) -> Result<Tally, NoMemory>
     requires fits { Fits (state_of db.now) (arc_value prog.now) }
     requires indexes { HasIndexes db.now (arc_value prog.now) }
     requires marks { FitMarks (state_of db.now) marks.now }
@@ -70,7 +77,7 @@ fn ran(db: &Database, prog: &Arc<Prog>, marks: &Marks) -> Result<Tally, NoMemory
 /// The program restated where the second marks are laid on the database, by its run where the first are.
 fn again(
     db: &Database,
-    prog: &Arc<Prog>,
+    prog: &Arc<Planned>,
     old: &Tally,
     first: &Marks,
     second: &Marks,
@@ -90,7 +97,8 @@ fn again(
 }
 
 /// The program run where the one correction is laid on the base, and restated where the other is.
-fn restated(
+fn restated<R: Threads + Sync>(
+    rt: &R,
     alloc: Global,
     base: &Database,
     prog: Prog,
@@ -101,8 +109,8 @@ fn restated(
     requires first { FitMarks (state_of base.now) first.now }
     requires second { FitMarks (state_of base.now) second.now }
 {
-    let db = indexed(base, &prog)?;
-    let shared = Arc::new(alloc, prog)?;
+    let shared = routed(alloc, base, prog)?;
+    let db = indexed(rt, base, &shared)?;
     let old = ran(&db, &shared, first)?;
     let anew = ran(&db, &shared, second)?;
     let (new, touches) = again(&db, &shared, &old, first, second)?;
@@ -116,16 +124,17 @@ fn restated(
 
 /// The program of some statements, run where the rows that others left had the marks of the first ones, and restated where
 /// they have those of the second ones.
-pub(crate) fn restated_by(
+pub(crate) fn restated_by<R: Threads + Sync>(
+    rt: &R,
     alloc: Global,
     stock: &str,
     statements: &str,
     first: &str,
     second: &str,
 ) -> Result<Restatement, NoMemory> {
-    let base = stocked(alloc, stock)?;
-    let first = marks_of(alloc, &base, first)?;
-    let second = marks_of(alloc, &base, second)?;
+    let base = stocked(rt, alloc, stock)?;
+    let first = marks_of(rt, alloc, &base, first)?;
+    let second = marks_of(rt, alloc, &base, second)?;
     let prog = program(alloc, statements)?;
-    restated(alloc, &base, prog, &first, &second)
+    restated(rt, alloc, &base, prog, &first, &second)
 }

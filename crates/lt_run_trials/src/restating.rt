@@ -15,6 +15,7 @@ use lt_restate::Touch;
 use lt_sense::{Hit, KeptGap, Sense, Spot};
 use lt_values::cell_of_int;
 use std::alloc::Global;
+use std::thread::Threads;
 
 /// Whether the touch is this one of statement 1.
 fn is_touch(alloc: Global, touch: &Touch, row: i64, lo: i64, hi: i64) -> bool {
@@ -38,9 +39,13 @@ fn are_by_five(alloc: Global, touches: &[Touch]) -> bool {
 }
 
 /// Whether the inserts of 5 touch the answers above 3 of 1 and 9.
-fn touches_by_five(alloc: Global, inserts: &str) -> Result<bool, NoMemory> {
+fn touches_by_five<R: Threads + Sync>(
+    rt: &R,
+    alloc: Global,
+    inserts: &str,
+) -> Result<bool, NoMemory> {
     let reading = "print (x) where r(x), x > 3;";
-    let out = restated_by(alloc, "insert r(1); insert r(9);", reading, "", inserts)?;
+    let out = restated_by(rt, alloc, "insert r(1); insert r(9);", reading, "", inserts)?;
     let is_so = are_by_five(alloc, out.touches.as_slice())
         && is_same_reply(out.new.reply(), out.anew.reply());
     drop(out);
@@ -56,15 +61,15 @@ const MANY_WITH_FIVE: &str =
 
 #[test]
 fn an_insert_into_a_gap_touches(rt: HostRuntime) -> Result<(), NoMemory> {
-    holds(&rt, touches_by_five(rt.alloc(), FIVE)?);
-    holds(&rt, touches_by_five(rt.alloc(), MANY_WITH_FIVE)?);
+    holds(&rt, touches_by_five(&rt, rt.alloc(), FIVE)?);
+    holds(&rt, touches_by_five(&rt, rt.alloc(), MANY_WITH_FIVE)?);
     Ok(())
 }
 
 /// Whether the inserts leave the answer 1 untouched.
-fn keeps_one(alloc: Global, inserts: &str) -> Result<bool, NoMemory> {
+fn keeps_one<R: Threads + Sync>(rt: &R, alloc: Global, inserts: &str) -> Result<bool, NoMemory> {
     let reading = "print (x) where r(x), x = 1;";
-    let out = restated_by(alloc, "insert r(1); insert r(9);", reading, "", inserts)?;
+    let out = restated_by(rt, alloc, "insert r(1); insert r(9);", reading, "", inserts)?;
     let is_so = out.touches.len() == 0 && is_same_reply(out.new.reply(), out.old.reply());
     drop(out);
     Ok(is_so)
@@ -79,8 +84,8 @@ const MANY_WITH_TWENTY: &str =
 
 #[test]
 fn an_insert_past_a_pinned_key_does_not_touch(rt: HostRuntime) -> Result<(), NoMemory> {
-    holds(&rt, keeps_one(rt.alloc(), TWENTY)?);
-    holds(&rt, keeps_one(rt.alloc(), MANY_WITH_TWENTY)?);
+    holds(&rt, keeps_one(&rt, rt.alloc(), TWENTY)?);
+    holds(&rt, keeps_one(&rt, rt.alloc(), MANY_WITH_TWENTY)?);
     Ok(())
 }
 
@@ -92,9 +97,15 @@ fn is_touched_once(out: &Restatement, evaluated: usize) -> bool {
 }
 
 /// Whether the program is touched once between these corrections, and then has so many statements evaluated.
-fn turns(alloc: Global, first: &str, second: &str, evaluated: usize) -> Result<bool, NoMemory> {
+fn turns<R: Threads + Sync>(
+    rt: &R,
+    alloc: Global,
+    first: &str,
+    second: &str,
+    evaluated: usize,
+) -> Result<bool, NoMemory> {
     let statements = "require some r(1); insert r(2); print (x) where r(x);";
-    let out = restated_by(alloc, "insert r(1);", statements, first, second)?;
+    let out = restated_by(rt, alloc, "insert r(1);", statements, first, second)?;
     let is_so = is_touched_once(&out, evaluated);
     drop(out);
     Ok(is_so)
@@ -103,8 +114,8 @@ fn turns(alloc: Global, first: &str, second: &str, evaluated: usize) -> Result<b
 /// A delete of the row that met a requirement refuses the program, and its insert lets it be done again.
 #[test]
 fn a_refused_program_may_be_done_and_a_done_one_refused(rt: HostRuntime) -> Result<(), NoMemory> {
-    holds(&rt, turns(rt.alloc(), "", "delete r(1);", 1)?);
-    holds(&rt, turns(rt.alloc(), "delete r(1);", "", 3)?);
+    holds(&rt, turns(&rt, rt.alloc(), "", "delete r(1);", 1)?);
+    holds(&rt, turns(&rt, rt.alloc(), "delete r(1);", "", 3)?);
     Ok(())
 }
 
@@ -284,12 +295,16 @@ fn corrections(alloc: Global, random: &mut Random) -> Result<String, NoMemory> {
 }
 
 /// The next program at random, restated on the next corrections at random.
-fn sampled(alloc: Global, random: &mut Random) -> Result<Restatement, NoMemory> {
+fn sampled<R: Threads + Sync>(
+    rt: &R,
+    alloc: Global,
+    random: &mut Random,
+) -> Result<Restatement, NoMemory> {
     let stock = writing(alloc, random, 8)?;
     let first = corrections(alloc, random)?;
     let second = corrections(alloc, random)?;
     let statements = joining(alloc, random, 5)?;
-    restated_by(alloc, &stock, &statements, &first, &second)
+    restated_by(rt, alloc, &stock, &statements, &first, &second)
 }
 
 /// How many statements kept their parts, and how many didn't.
@@ -315,8 +330,13 @@ fn is_as_run(out: &Restatement) -> bool {
 }
 
 /// Whether the next program at random is restated as it is run.
-fn agrees(alloc: Global, random: &mut Random, counts: &mut Counts) -> Result<bool, NoMemory> {
-    let out = sampled(alloc, random)?;
+fn agrees<R: Threads + Sync>(
+    rt: &R,
+    alloc: Global,
+    random: &mut Random,
+    counts: &mut Counts,
+) -> Result<bool, NoMemory> {
+    let out = sampled(rt, alloc, random)?;
     counts.add(out.new.evaluated(), out.touches.len());
     let are_so = are_restated(alloc, &out)?;
     let is_so = are_so && is_as_run(&out);
@@ -333,7 +353,7 @@ fn programs_are_restated_as_they_are_run(rt: HostRuntime) -> Result<(), NoMemory
         touched: 0,
     };
     for _ in 0..200 {
-        holds(&rt, agrees(alloc, &mut random, &mut counts)?);
+        holds(&rt, agrees(&rt, alloc, &mut random, &mut counts)?);
     }
     holds(&rt, counts.kept > 100 && counts.touched > 100);
     Ok(())

@@ -10,7 +10,7 @@ use lt_face::items::{Items, RowList};
 use lt_face::memory::NoMemory;
 use lt_model::normal::Prog;
 use lt_model::reply::Reply;
-use lt_program::{lay, run_plain};
+use lt_reference::{lay, run_plain};
 use std::alloc::Global;
 use std::sync::Arc;
 

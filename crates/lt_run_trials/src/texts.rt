@@ -18,9 +18,12 @@ use lt_model::kind::{Kind, KindList};
 use lt_model::name::Name;
 use lt_model::normal::Prog;
 use lt_program::{Tally, indexed, run};
+use lt_query::Planned;
+use lt_query::laws::plans_of_bodies;
 use lt_script::{Item, ProgramList, Reader, Step};
 use std::alloc::Global;
 use std::sync::Arc;
+use std::thread::Threads;
 
 /// The cell of the int 0.
 pub(crate) const ZERO: Key = 9_223_372_036_854_775_809;
@@ -113,13 +116,31 @@ pub(crate) fn bare(alloc: Global) -> Result<Database, NoMemory>
     Ok(both)
 }
 
+/// The program with the routes of its plans.
+pub(crate) fn routed(alloc: Global, base: &Database, prog: Prog) -> Result<Arc<Planned>, NoMemory>
+    requires { Fits (state_of base.now) prog }
+    ensures { IfOk result (λ routed. arc_value routed ≡ prog) }
+{
+    plans_of_bodies();
+    base.look_over();
+    let prog = Arc::new(alloc, prog)?;
+    let planned = Planned::new(alloc, &prog)?;
+    let shared = Arc::new(alloc, planned)?;
+    Ok(shared)
+}
+
 /// The run by joins.
-pub(crate) fn joined(alloc: Global, base: &Database, prog: Prog) -> Result<Tally, NoMemory>
+pub(crate) fn joined<R: Threads + Sync>(
+    rt: &R,
+    alloc: Global,
+    base: &Database,
+    prog: Prog,
+) -> Result<Tally, NoMemory>
     requires { Fits (state_of base.now) prog }
     ensures { IfOk result (λ tally. FitMarks (state_of base.now) tally.marks) }
 {
-    let db = indexed(base, &prog)?;
-    let shared = Arc::new(alloc, prog)?;
+    let shared = routed(alloc, base, prog)?;
+    let db = indexed(rt, base, &shared)?;
     let mut moves: Moves<()> = Moves::new();
     let tally = run(&shared, &db, &mut moves)?;
     Ok(tally)
@@ -136,23 +157,32 @@ fn marked(base: &Database, marks: &Marks) -> Result<Database, NoMemory>
 }
 
 /// The relations with what a program writes.
-fn after(alloc: Global, base: &Database, prog: Prog) -> Result<Database, NoMemory>
+fn after<R: Threads + Sync>(
+    rt: &R,
+    alloc: Global,
+    base: &Database,
+    prog: Prog,
+) -> Result<Database, NoMemory>
     requires both { AreBoth (state_of base.now) }
     requires fits { Fits (state_of base.now) prog }
     ensures { IfOk result (λ db. AreBoth (state_of db)) }
 {
-    let tally = joined(alloc, base, prog)?;
+    let tally = joined(rt, alloc, base, prog)?;
     let db = marked(base, tally.marks())?;
     drop(tally);
     Ok(db)
 }
 
 /// The relations with the rows that these statements leave.
-pub(crate) fn stocked(alloc: Global, statements: &str) -> Result<Database, NoMemory>
+pub(crate) fn stocked<R: Threads + Sync>(
+    rt: &R,
+    alloc: Global,
+    statements: &str,
+) -> Result<Database, NoMemory>
     ensures { IfOk result (λ db. AreBoth (state_of db)) }
 {
     let prog = program(alloc, statements)?;
     let base = bare(alloc)?;
-    let db = after(alloc, &base, prog)?;
+    let db = after(rt, alloc, &base, prog)?;
     Ok(db)
 }

@@ -6,10 +6,10 @@ use Rattle.lt_script.specs.declared.lexer.Lexed.{Lexed}
 use Rattle.lt_script.specs.declared.lexer.Lexed.TheVariants.{Token as One, End, Broken}
 use Rattle.lt_script.specs.View.{IsFirst, IsNext, IsOther}
 
-letter_class : (b : ℕ) → 97 ≤ b → b ≤ 122 → class_of b ≡ letter
+pub letter_class : (b : ℕ) → 97 ≤ b → b ≤ 122 → class_of b ≡ letter
 letter_class b low high = Prim.grind arith
 
-digit_class : (b : ℕ) → 48 ≤ b → b ≤ 57 → class_of b ≡ digit
+pub digit_class : (b : ℕ) → 48 ≤ b → b ≤ 57 → class_of b ≡ digit
 digit_class b low high = Prim.grind arith
 
 next_more : (r : Lexed) (line : ℕ) (left : List ℕ) (first : First) → IsFirst r line left first → IsNext r line left (more tokens_at line first)
@@ -32,7 +32,7 @@ next_digit r line b bytes left low high h = next_by r line b bytes left digit (n
 pub next_quote : (r : Lexed) (line : ℕ) (bytes left : List ℕ) → IsFirst r line left (symbol_at bytes) → IsNext r line left (tokens_at line (39 ∷ bytes))
 next_quote r line bytes left h = next_by r line 39 bytes left quote (symbol_at bytes) refl refl h
 
-other_class : (b : ℕ) → IsOther (class_of b) → b ≢ 39 → b ≢ 95 → (97 ≤ b → 122 < b) → (48 ≤ b → 57 < b) → class_of b ≡ other
+pub other_class : (b : ℕ) → IsOther (class_of b) → b ≢ 39 → b ≢ 95 → (97 ≤ b → 122 < b) → (48 ≤ b → 57 < b) → class_of b ≡ other
 other_class b h not_quote not_line letters digits = Prim.grind arith
 
 pub next_other : (r : Lexed) (line b : ℕ) (bytes left : List ℕ) → IsOther (class_of b) → b ≢ 39 → b ≢ 95 → (97 ≤ b → 122 < b) → (48 ≤ b → 57 < b) → IsFirst r line left (sign_at (b ∷ bytes)) → IsNext r line left (tokens_at line (b ∷ bytes))

@@ -1,8 +1,14 @@
+pub mod Pieces
+pub mod Backs
 pub mod Gaps
+pub mod Skips
 pub mod Firsts
+pub mod Opens
 pub mod Words
 pub mod Counting
 pub mod Places
+pub mod Behind
+pub mod Tails
 pub mod Choice
 pub mod Digits
 pub mod Excess
@@ -12,4 +18,8 @@ pub mod Listing
 pub mod Splits
 pub mod Within
 pub mod Reading
+pub mod Taking
+pub mod Ends
+pub mod Feeding
+pub mod Feeds
 pub mod Totality

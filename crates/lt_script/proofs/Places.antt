@@ -8,7 +8,7 @@ use Rattle.lt_script.specs.declared.lexer.Lexer.{Lexer}
 use Rattle.lt_script.specs.declared.lexer.Lexed.{Lexed}
 use Rattle.lt_script.specs.declared.lexer.Lexed.TheVariants.{Token as One, End, Broken}
 use Rattle.lt_script.specs.View.{shape, view, IsNext}
-use Rattle.lt_script.specs.Ahead.{Place, ahead, shapes, behind, passed_tokens, read_from, place_of, BeginsOn, IsAt}
+use Rattle.lt_script.specs.Ahead.{Source, read_all, Place, ahead, shapes, behind, passed_tokens, read_from, place_of, BeginsOn, IsAt}
 
 -- the part from n on, found by its length
 suffix : {A : Type 0} (n : ℕ) (xs : List A) → drop (length xs - length (drop n xs)) xs ≡ drop n xs
@@ -28,7 +28,7 @@ read_of ts ending = (ts, ending)
 -- the tokens behind a place are those ahead of it but the first
 pub ahead_behind : (p : Place) → ahead (behind p) ≡ (drop 1 (ahead p).0, (ahead p).1)
 unfolding behind
-ahead_behind p = ap (λ (ts : List tokens.Token). read_of ts (tokens.tokens p.source).1) (next_suffix p.passed (tokens.tokens p.source).0)
+ahead_behind p = ap (λ (ts : List tokens.Token). read_of ts (read_all p.source).1) (next_suffix p.passed (read_all p.source).0)
 
 pub stands_token : (p : Place) (t : tokens.Token) (rest : List tokens.Token) (ending : tokens.Ending) → read_of (t ∷ rest) ending ≡ ahead p → shapes p ≡ t.shape ∷ shapes (behind p)
 unfolding shapes
@@ -45,28 +45,28 @@ stands_none p ending h = ap (λ (r : tokens.Read). script.shapes r.0) (sym h)
 -- ---- from one place to a later one
 
 -- the tokens of the source are those before a place and those from it on
-pub parts : (p : Place) → tokens.tokens p.source ≡ read_of (passed_tokens p ++ (ahead p).0) (ahead p).1
-parts p = ap (λ (ts : List tokens.Token). read_of ts (tokens.tokens p.source).1) (sym (take-append-drop p.passed (tokens.tokens p.source).0))
+pub parts : (p : Place) → read_all p.source ≡ read_of (passed_tokens p ++ (ahead p).0) (ahead p).1
+parts p = ap (λ (ts : List tokens.Token). read_of ts (read_all p.source).1) (sym (take-append-drop p.passed (read_all p.source).0))
 
 pub shapes_are : (p : Place) → shapes p ≡ script.shapes (ahead p).0
 unfolding shapes
 shapes_are p = refl
 
-shapes_parts : (p : Place) → script.shapes (tokens.tokens p.source).0 ≡ script.shapes (passed_tokens p) ++ shapes p
+shapes_parts : (p : Place) → script.shapes (read_all p.source).0 ≡ script.shapes (passed_tokens p) ++ shapes p
 unfolding shapes
 shapes_parts p = ap (λ (r : tokens.Read). script.shapes r.0) (parts p) ∙ map-append (λ (t : tokens.Token). t.shape) (passed_tokens p) (ahead p).0
 
 -- where these were read between two places of a source, they were passed
 pub passed_more : (p q : Place) (us : List tokens.Shape) → q.source ≡ p.source → shapes p ≡ us ++ shapes q → script.shapes (passed_tokens q) ≡ script.shapes (passed_tokens p) ++ us
 passed_more p q us same h =
-    let there : script.shapes (tokens.tokens q.source).0 ≡ script.shapes (tokens.tokens p.source).0 = ap (λ (s : List ℕ). script.shapes (tokens.tokens s).0) same in
+    let there : script.shapes (read_all q.source).0 ≡ script.shapes (read_all p.source).0 = ap (λ (s : Source). script.shapes (read_all s).0) same in
     let here : script.shapes (passed_tokens p) ++ shapes p ≡ script.shapes (passed_tokens p) ++ (us ++ shapes q) = ap (λ (v : List tokens.Shape). script.shapes (passed_tokens p) ++ v) h in
     append_cancel_right (script.shapes (passed_tokens q)) (script.shapes (passed_tokens p) ++ us) (shapes q)
     (sym (shapes_parts q) ∙ there ∙ shapes_parts p ∙ here ∙ sym (append_assoc (script.shapes (passed_tokens p)) us (shapes q)))
 
 -- ---- what a cursor sees
 
-module _ (source : List ℕ) (next : Lexed) (lexer : Lexer) (p : Place) where
+module _ (source : Source) (next : Lexed) (lexer : Lexer) (p : Place) where
   seen : IsAt source next lexer → place_of source next lexer ≡ p → (n : Lexed) → next ≡ n → read_from n lexer ≡ ahead p
   seen at there n is = ap (λ (m : Lexed). read_from m lexer) (sym is) ∙ at.is ∙ ap ahead there
 
@@ -92,8 +92,8 @@ module _ (source : List ℕ) (next : Lexed) (lexer : Lexer) (p : Place) where
 
   -- ---- one token on
 
-  abbrev at_left : List ℕ → List tokens.Token → Place
-  at_left bytes left = record { source = bytes; passed = length (tokens.tokens bytes).0 - length left }
+  abbrev at_left : Source → List tokens.Token → Place
+  at_left source left = record { source = source; passed = length (read_all source).0 - length left }
 
   same_read : (n : Lexed) (l : Lexer) (read : tokens.Read) → IsNext n l.line l.rest.now read → read_from n l ≡ read
   same_read (One t) l read h = sym h
@@ -108,7 +108,7 @@ module _ (source : List ℕ) (next : Lexed) (lexer : Lexer) (p : Place) where
   unfolding behind
   goes_on at there t is n l h =
       let left : (read_from n l).0 ≡ drop 1 (ahead p).0 = ap (λ (r : tokens.Read). r.0) (read_on at there t is n l h ∙ ahead_behind p) in
-      ap (at_left source) left ∙ ap (λ (s : List ℕ). at_left s (drop 1 (ahead p).0)) (ap (λ (q : Place). q.source) there)
+      ap (at_left source) left ∙ ap (λ (s : Source). at_left s (drop 1 (ahead p).0)) (ap (λ (q : Place). q.source) there)
 
   pub goes_in_step : IsAt source next lexer → place_of source next lexer ≡ p → (t : Token) → next ≡ One t → (n : Lexed) (l : Lexer) → IsNext n l.line l.rest.now (tokens.tokens_at lexer.line lexer.rest.now)
       → read_from n l ≡ ahead (place_of source n l)
@@ -119,7 +119,7 @@ module _ (source : List ℕ) (next : Lexed) (lexer : Lexer) (p : Place) where
   at_end at there ending h =
       let none : (read_from next lexer).0 ≡ [] = ap (λ (r : tokens.Read). r.0) h in
       let left : [] ≡ drop 1 (ahead p).0 = ap (λ (r : tokens.Read). drop 1 r.0) (sym h ∙ seen at there next refl) in
-      sym there ∙ ap (at_left source) (none ∙ left) ∙ ap (λ (s : List ℕ). at_left s (drop 1 (ahead p).0)) (ap (λ (q : Place). q.source) there)
+      sym there ∙ ap (at_left source) (none ∙ left) ∙ ap (λ (s : Source). at_left s (drop 1 (ahead p).0)) (ap (λ (q : Place). q.source) there)
 
   pub stays : IsAt source next lexer → place_of source next lexer ≡ p → ((t : Token) → next ≡ One t → ⊥) → p ≡ behind p
   stays at there others = go next refl

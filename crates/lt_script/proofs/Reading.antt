@@ -1,29 +1,23 @@
 -- What a reader finds, and where a script ends.
-use Rattle.std.proofs.Common.{◌≡◌, ◌≢◌, ℕ, ◌≤◌, ◌<◌, List, [], ◌∷◌, ◌++◌, length, Err, refl, sym, ap, subst, ◌∙◌, arith}
-use Rattle.std.proofs.lemmas.List.{length-append, length-map, append-nil}
-use Rattle.lt_reading.specs.Reading.{Cause}
-use Rattle.lt_reading.specs.Faults.{code_of}
+use Rattle.std.proofs.Common.{◌≡◌, ◌≢◌, ℕ, ◌≤◌, ◌<◌, List, [], ◌∷◌, ◌++◌, length, refl, sym, ap, subst, ◌∙◌, append_assoc, arith}
+use Rattle.std.proofs.lemmas.List.{length-append, length-map, append-nil, map-append}
 use Rattle.lt_model.specs.declared.syntax.Item.{Item}
 use Rattle.lt_model.specs.declared.syntax.Item.TheVariants.{Relation, Batch, Show}
-use Rattle.lt_model.specs.Tokens.{Shape, Token, Ending, Read, finished, broken, tokens}
+use Rattle.lt_model.specs.Tokens.{Shape, Token, Ending, Read, finished, broken, tokens, tokens_at}
 use Rattle.lt_model.specs.Grammar.{legal, SpellsItem, Derives}
 use Rattle.lt_model.specs.Faults.{Faulty}
 use Rattle.lt_model.specs.Script as script
-use Rattle.lt_grammar.specs.Grammar as tree
-use Rattle.lt_grammar.specs.Meaning.{item_value}
-use Rattle.lt_grammar.specs.Productions.{item_at}
-use Rattle.lt_grammar.proofs.Items.{Found, Stopped, item_stops, nothing_left, Derives-more}
-use Rattle.lt_script.specs.declared.standing.Standing.{Standing}
-use Rattle.lt_script.specs.declared.standing.Standing.TheVariants as standing
-use Rattle.lt_script.specs.Ahead.{Place, ahead, shapes, passed_tokens, BeginsOn, StandsAs}
+use Rattle.lt_grammar.proofs.Items.{Derives-more}
+use Rattle.lt_script.specs.Ahead.{Source, read_all, Place, ahead, shapes, passed_tokens}
+use Rattle.lt_script.specs.Taken.{HaltsAt, at_token, cut, torn, Takes, Halts, IsTaken}
 use Rattle.lt_script.specs.declared.reader.Reader.{Reader}
-use Rattle.lt_script.specs.declared.reader.Step.{Step}
-use Rattle.lt_script.specs.declared.refusal.Refusal.{Refusal}
-use Rattle.lt_script.specs.declared.refusal.Refusal.TheVariants.{NoMemory, Fault}
-use Rattle.lt_script.specs.Parsed.{cause_of, Parses}
-use Rattle.lt_script.specs.Tree.{item_of}
-use Rattle.lt_script.specs.Reading.{bytes_of, HasRead, HasNext, IsNext, IsRefused, close_of, fault_of}
+use Rattle.lt_script.specs.declared.step.Step.{Step}
+use Rattle.lt_script.specs.declared.step.Step.TheVariants as steps
+use Rattle.lt_script.specs.Reading.{bytes_of, HasRead, Reads, IsNext}
 use Rattle.lt_script.proofs.Places.{parts, passed_more}
+
+abbrev read_of : List Token → Ending → Read
+read_of ts ending = (ts, ending)
 
 -- an item has a token
 pub SpellsItem-some : (item : Item) (us : List Shape) → SpellsItem legal item us → 1 ≤ length us
@@ -45,81 +39,84 @@ shapes-none p some e = some (none (ahead p).0 e)
 
 -- ---- an item more
 
-pub reads_derived : (p q : Place) (items : List Item) (item : tree.Item) → Derives legal (script.shapes (passed_tokens p)) items → q.source ≡ p.source → Found (shapes p) item (shapes q)
-    → Derives legal (script.shapes (passed_tokens q)) (items ++ item_value item ∷ [])
-reads_derived p q items item d same f =
-    subst (λ (us : List Shape). Derives legal us (items ++ item_value item ∷ [])) (sym (passed_more p q f.front same f.parts)) (Derives-more (script.shapes (passed_tokens p)) f.front items (item_value item) d f.spelled)
+-- the tokens before a source, and those of it that were passed
+abbrev pub all_passed : List Token → Place → List Token
+all_passed done p = done ++ passed_tokens p
 
-pub reads_shorter : (p q : Place) (item : tree.Item) → Found (shapes p) item (shapes q) → length (ahead q).0 < length (ahead p).0
-reads_shorter p q item f =
-    let whole : length (shapes p) ≡ length (f.front ++ shapes q) = ap (λ (us : List Shape). length us) f.parts in
-    let some : 1 ≤ length f.front = SpellsItem-some (item_value item) f.front f.spelled in
-    omega (arith, whole, some, length-append f.front (shapes q), length-shapes p, length-shapes q)
+passed_further : (done : List Token) (p q : Place) (us : List Shape) → q.source ≡ p.source → shapes p ≡ us ++ shapes q → script.shapes (all_passed done q) ≡ script.shapes (all_passed done p) ++ us
+passed_further done p q us same h =
+    map-append (λ (t : Token). t.shape) done (passed_tokens q) ∙ ap (λ (vs : List Shape). script.shapes done ++ vs) (passed_more p q us same h)
+    ∙ sym (append_assoc (script.shapes done) (script.shapes (passed_tokens p)) us) ∙ ap (λ (vs : List Shape). vs ++ us) (sym (map-append (λ (t : Token). t.shape) done (passed_tokens p)))
+
+pub reads_derived : (done : List Token) (p q : Place) (items : List Item) (item : Item) → Derives legal (script.shapes (all_passed done p)) items → Takes p q item → Derives legal (script.shapes (all_passed done q)) (items ++ item ∷ [])
+reads_derived done p q items item d t =
+    subst (λ (us : List Shape). Derives legal us (items ++ item ∷ [])) (sym (passed_further done p q t.tokens t.same t.parts)) (Derives-more (script.shapes (all_passed done p)) t.tokens items item d t.spelled)
+
+pub reads_shorter : (p q : Place) (item : Item) → Takes p q item → length (ahead q).0 < length (ahead p).0
+reads_shorter p q item t =
+    let whole : length (shapes p) ≡ length (t.tokens ++ shapes q) = ap (λ (us : List Shape). length us) t.parts in
+    let some : 1 ≤ length t.tokens = SpellsItem-some item t.tokens t.spelled in
+    omega (arith, whole, some, length-append t.tokens (shapes q), length-shapes p, length-shapes q)
 
 -- ---- the end of a script
 
--- the tokens of the bytes, where these stand ahead of a place
-ends_with : (p : Place) (ts : List Token) (ending : Ending) → ahead p ≡ (ts, ending) → tokens p.source ≡ (passed_tokens p ++ ts, ending)
-ends_with p ts ending e = parts p ∙ ap (λ (r : Read). let x : Read = (passed_tokens p ++ r.0, r.1) in x) e
+-- The bytes are these tokens, and then the source of a place.
+abbrev pub EndsIn : List ℕ → List Token → Source → Type 0
+EndsIn bytes done source = tokens bytes ≡ read_of (done ++ (read_all source).0) (read_all source).1
 
-none_ahead : (p : Place) (ending : Ending) → ahead p ≡ ([], ending) → tokens p.source ≡ (passed_tokens p, ending)
-none_ahead p ending e = ends_with p [] ending e ∙ ap (λ (ts : List Token). let x : Read = (ts, ending) in x) (append-nil (passed_tokens p))
+-- a source from the first line on is all bytes
+pub is_all : (source : Source) → source.line ≡ 1 → EndsIn source.bytes [] source
+is_all source first = ap (λ (line : ℕ). tokens_at line source.bytes) (sym first)
 
-pub ends : (p : Place) (items : List Item) (line : ℕ) → Derives legal (script.shapes (passed_tokens p)) items → ahead p ≡ ([], finished line) → script.Script p.source items script.End
-ends p items line d e = script.ended (passed_tokens p) line items (none_ahead p (finished line) e) d
+module _ (bytes : List ℕ) (done : List Token) where
+  -- the tokens of the bytes, where these stand ahead of a place
+  pub ends_with : (p : Place) (ts : List Token) (ending : Ending) → EndsIn bytes done p.source → ahead p ≡ (ts, ending) → tokens bytes ≡ read_of (all_passed done p ++ ts) ending
+  ends_with p ts ending whole e =
+      whole ∙ ap (λ (r : Read). read_of (done ++ r.0) r.1) (parts p ∙ ap (λ (r : Read). read_of (passed_tokens p ++ r.0) r.1) e)
+      ∙ ap (λ (us : List Token). read_of us ending) (sym (append_assoc done (passed_tokens p) ts))
 
-pub breaks : (p : Place) (items : List Item) (line code : ℕ) → Derives legal (script.shapes (passed_tokens p)) items → ahead p ≡ ([], broken line code) → script.Script p.source items (script.Fault line code)
-breaks p items line code d e = script.torn (passed_tokens p) line code items [] (none_ahead p (broken line code) e) (nothing_left (script.shapes (passed_tokens p)) items d)
+  none_ahead : (p : Place) (ending : Ending) → EndsIn bytes done p.source → ahead p ≡ ([], ending) → tokens bytes ≡ read_of (all_passed done p) ending
+  none_ahead p ending whole e = ends_with p [] ending whole e ∙ ap (λ (ts : List Token). read_of ts ending) (append-nil (all_passed done p))
 
--- a reader of an item stopped at this place
-module _ (p q : Place) (items : List Item) (cause : Cause) (d : Derives legal (script.shapes (passed_tokens p)) items) (same : q.source ≡ p.source)
-    (k : Stopped (script.shapes (passed_tokens p)) (shapes p) items (record { rest = shapes q; cause = cause })) where
-  passed : script.shapes (passed_tokens q) ≡ script.shapes (passed_tokens p) ++ k.left
-  passed = passed_more p q k.left same k.parts
+  pub ends : (p : Place) (items : List Item) (line : ℕ) → EndsIn bytes done p.source → Derives legal (script.shapes (all_passed done p)) items → ahead p ≡ ([], finished line) → script.Script bytes items script.End
+  ends p items line whole d e = script.ended (all_passed done p) line items (none_ahead p (finished line) whole e) d
 
-  stops_there : script.Stops (script.shapes (passed_tokens q)) items k.left
-  stops_there = subst (λ (us : List Shape). script.Stops us items k.left) (sym passed) k.stops
+  -- a fault, from a place on
+  pub halted : (p q : Place) (items : List Item) (line code : ℕ) → EndsIn bytes done p.source → Derives legal (script.shapes (all_passed done p)) items → Halts p q line code → script.Script bytes items (script.Fault line code)
+  halted p q items line code whole d h = go line code h.at
+    where
+      passed : script.shapes (all_passed done q) ≡ script.shapes (all_passed done p) ++ h.left
+      passed = passed_further done p q h.left h.same h.parts
 
-  shapes_are : (ts : List Token) (ending : Ending) → ahead q ≡ (ts, ending) → shapes q ≡ script.shapes ts
-  unfolding shapes
-  shapes_are ts ending e = ap (λ (r : Read). script.shapes r.0) e
+      there : EndsIn bytes done q.source
+      there = subst (EndsIn bytes done) (sym h.same) whole
 
-  at_token : (line : ℕ) → BeginsOn line (ahead q).0 → script.Script q.source items (script.Fault line (code_of cause))
-  at_token line b =
-      let all : ahead q ≡ (b.first ∷ b.others, (ahead q).1) = ap (λ (ts : List Token). let x : Read = (ts, (ahead q).1) in x) b.are in
-      let fault : Faulty (script.shapes (passed_tokens q)) b.first.shape (code_of cause) =
-      subst (λ (us : List Shape). Faulty us b.first.shape (code_of cause)) (sym passed) (k.fault b.first.shape (script.shapes b.others) (shapes_are (b.first ∷ b.others) (ahead q).1 all)) in
-      subst (λ n. script.Script q.source items (script.Fault n (code_of cause))) b.line_is
-      (script.faulty (passed_tokens q) b.first b.others (ahead q).1 (code_of cause) items k.left (ends_with q (b.first ∷ b.others) (ahead q).1 all) stops_there fault)
+      stops : script.Stops (script.shapes (all_passed done q)) items h.left
+      stops = subst (λ (us : List Shape). script.Stops us items h.left) (sym passed) (h.begins (script.shapes (all_passed done p)) items d)
 
-  at_end : (line : ℕ) → ahead q ≡ ([], finished line) → script.Script q.source items (script.Fault line 7)
-  at_end line e = script.cut (passed_tokens q) line items k.left (none_ahead q (finished line) e) stops_there (k.some (shapes_are [] (finished line) e))
+      go : (line code : ℕ) → HaltsAt h.left (ahead q) line code → script.Script bytes items (script.Fault line code)
+      go l n (at_token t others ending code e f) =
+          script.faulty (all_passed done q) t others ending code items h.left (ends_with q (t ∷ others) ending there e) stops
+          (subst (λ (us : List Shape). Faulty us t.shape code) (sym passed) (f (script.shapes (all_passed done p)) items d))
+      go l n (cut line e some) = script.cut (all_passed done q) line items h.left (none_ahead q (finished line) there e) stops some
+      go l n (torn line code e) = script.torn (all_passed done q) line code items h.left (none_ahead q (broken line code) there e) stops
 
-  at_broken : (line code : ℕ) → ahead q ≡ ([], broken line code) → script.Script q.source items (script.Fault line code)
-  at_broken line code e = script.torn (passed_tokens q) line code items k.left (none_ahead q (broken line code) e) stops_there
+-- ---- what a reader answers
 
-  closes : (s : Standing) → StandsAs s q → script.Script q.source items (close_of s (code_of cause))
-  closes (standing.Token line) h = at_token line h
-  closes (standing.End line) h = at_end line h
-  closes (standing.Broken line code) h = at_broken line code h
+pub read_item : (old new : Reader) (items : List Item) (item : Item) → Takes old.cursor new.cursor item → HasRead old items → Reads old new items item
+read_item old new items item t d = record {
+  read = record {
+    line = ap (λ (s : Source). s.line) t.same ∙ d.line;
+    derived = reads_derived [] old.cursor new.cursor items item d.derived t;
+  };
+  tokens = t.tokens;
+  spelled = t.spelled;
+  within = t.within;
+  shorter = reads_shorter old.cursor new.cursor item t;
+}
 
-  pub stopped : (s : Standing) → StandsAs s q → script.Script p.source items (close_of s (code_of cause))
-  stopped s h = subst (λ (bytes : List ℕ). script.Script bytes items (close_of s (code_of cause))) same (closes s h)
-
--- ---- what is answered
-
-fault_next : (old : Reader) (items : List Item) (s : Standing) (code : ℕ) → script.Script (bytes_of old) items (close_of s code) → IsNext items old old (fault_of s code)
-fault_next old items (standing.Token line) code h = (h, refl)
-fault_next old items (standing.End line) code h = (h, refl)
-fault_next old items (standing.Broken line b) code h = (h, refl)
-
-pub refused_next : (old : Reader) (items : List Item) (p q : Place) (refusal : Refusal) (s : Standing) (step : Step) → p ≡ old.cursor → HasRead old items → HasNext old
-    → Parses item_of (Err refusal) p q item_at → StandsAs s q → IsRefused refusal s step → IsNext items old old step
-refused_next old items p q NoMemory s step at d some read there is = subst (IsNext items old old) (sym is) refl
-refused_next old items p q (Fault cause) s step at d some read there is =
-    let derived : Derives legal (script.shapes (passed_tokens p)) items = subst (λ (x : Place). Derives legal (script.shapes (passed_tokens x)) items) (sym at) d in
-    let some_shape = shapes-none p (subst (λ (x : Place). (ahead x).0 ≢ []) (sym at) some) in
-    let k = item_stops (script.shapes (passed_tokens p)) (shapes p) items (record { rest = shapes q; cause = cause_of cause }) derived some_shape read.0 in
-    let closed = stopped p q items (cause_of cause) derived read.1 k s there in
-    let here = subst (λ (x : Place). script.Script x.source items (close_of s (code_of (cause_of cause)))) at closed in
-    subst (IsNext items old old) (sym is) (fault_next old items s (code_of (cause_of cause)) here)
+pub read_other : (old : Reader) (q : Place) (items : List Item) (step : Step) → HasRead old items → IsTaken old.cursor q step → ((item : Item) → step ≡ steps.Item item → ⊥) → IsNext items old old step
+read_other old q items (steps.Item item) d t other = absurd (other item refl)
+read_other old q items steps.End d t other = (ends (bytes_of old) [] old.cursor items t.0 (is_all old.cursor.source d.line) d.derived t.1, refl)
+read_other old q items (steps.Fault line code) d t other = (halted (bytes_of old) [] old.cursor q items line code (is_all old.cursor.source d.line) d.derived t, refl)
+read_other old q items steps.NoMemory d t other = refl

@@ -17,6 +17,7 @@ use Rattle.lt_script.specs.Ahead.{ahead, passed_tokens}
 use Rattle.lt_script.specs.declared.reader.Reader.{Reader}
 use Rattle.lt_script.specs.Laws.{SomeReading}
 use Rattle.lt_script.specs.Reading.{bytes_of, HasRead}
+use Rattle.lt_script.proofs.Reading.{is_all}
 use Rattle.lt_script.proofs.Places.{parts}
 use Rattle.lt_script.proofs.Reading.{SpellsItem-some}
 
@@ -128,7 +129,7 @@ goes_on (suc n) bytes passed (t ∷ ts) items ending few e d = by_outcome n byte
 
 -- from the place of a reader on
 pub reads_on : (r : Reader) (items : List Item) → HasRead r items → BeginsReading (bytes_of r) items
-reads_on r items d = let p = r.cursor in goes_on (length (ahead p).0) p.source (passed_tokens p) (ahead p).0 items (ahead p).1 (omega arith) (parts p) d
+reads_on r items d = let p = r.cursor in goes_on (length (ahead p).0) p.source.bytes (passed_tokens p) (ahead p).0 items (ahead p).1 (omega arith) (is_all p.source d.line ∙ parts p) d.derived
 
 pub some_reading : SomeReading
 some_reading bytes = let x = goes_on (length (tokens bytes).0) bytes [] (tokens bytes).0 [] (tokens bytes).1 (omega arith) refl refl in (x.more, x.close, x.is_script)

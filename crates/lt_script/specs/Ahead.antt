@@ -1,7 +1,8 @@
 -- A place in a source, between its tokens.
-use Rattle.std.specs.Prelude.{◌≡◌, ℕ, ◌+◌, ◌-◌, ◌^◌, ◌<◌, List, [], ◌∷◌, length, take, drop, refl, Option, Some, None}
+use Rattle.std.specs.Prelude.{◌≡◌, ℕ, ◌⊎◌, Bool, true, false, ◌++◌, ◌+◌, ◌-◌, ◌^◌, ◌<◌, List, [], ◌∷◌, length, take, drop, refl, Option, Some, None}
 use Rattle.std.specs.Coded.{Coded, code_by, coded×, coded_list, coded_ℕ}
 use Rattle.lt_model.specs.Tokens as tokens
+use Rattle.lt_model.specs.Grammar.{semicolon}
 use Rattle.lt_model.specs.Script as script
 use Rattle.lt_script.specs.declared.token.Token.{Token}
 use Rattle.lt_script.specs.declared.lexer.Lexer.{Lexer}
@@ -10,18 +11,28 @@ use Rattle.lt_script.specs.declared.lexer.Lexed.TheVariants.{Token as One, End, 
 use Rattle.lt_script.specs.declared.standing.Standing.{Standing}
 use Rattle.lt_script.specs.declared.standing.Standing.TheVariants as standing
 use Rattle.lt_script.specs.View.{shape, view}
+use Rattle.lt_script.specs.Pieces.{IsBack, Leads, goes_on, first_at, Opened}
 
--- the bytes, and how many of their tokens were passed
+-- bytes, and the line on which they begin
+pub record Source : Type 0 where
+  pub bytes : List ℕ
+  pub line : ℕ
+
+-- their tokens
+abbrev pub read_all : Source → tokens.Read
+read_all s = tokens.tokens_at s.line s.bytes
+
+-- a source, and how many of its tokens were passed
 pub record Place : Type 0 where
-  pub source : List ℕ
+  pub source : Source
   pub passed : ℕ
 
 abbrev pub place_code : Coded Place
-place_code = code_by (List ℕ × ℕ) (coded× (coded_list coded_ℕ) coded_ℕ) (λ p. (p.source, p.passed)) (λ p. record { source = p.0; passed = p.1 }) (λ _. refl)
+place_code = code_by ((List ℕ × ℕ) × ℕ) (coded× (coded× (coded_list coded_ℕ) coded_ℕ) coded_ℕ) (λ p. ((p.source.bytes, p.source.line), p.passed)) (λ p. record { source = record { bytes = p.0.0; line = p.0.1 }; passed = p.1 }) (λ _. refl)
 
 -- the tokens from a place on, and how they end
 abbrev pub ahead : Place → tokens.Read
-ahead p = (drop p.passed (tokens.tokens p.source).0, (tokens.tokens p.source).1)
+ahead p = (drop p.passed (read_all p.source).0, (read_all p.source).1)
 
 -- the same without their lines
 unfoldable pub shapes : Place → List tokens.Shape
@@ -29,11 +40,11 @@ shapes p = script.shapes (ahead p).0
 
 -- the tokens before a place
 abbrev pub passed_tokens : Place → List tokens.Token
-passed_tokens p = take p.passed (tokens.tokens p.source).0
+passed_tokens p = take p.passed (read_all p.source).0
 
 -- past the next token; at the end, the same place
 unfoldable pub behind : Place → Place
-behind p = record { source = p.source; passed = length (tokens.tokens p.source).0 - length (drop 1 (ahead p).0) }
+behind p = record { source = p.source; passed = length (read_all p.source).0 - length (drop 1 (ahead p).0) }
 
 -- the token that stands at a place
 abbrev pub Stands : Option Token → Place → Type 0
@@ -53,16 +64,63 @@ StandsAs (standing.Token line) p = BeginsOn line (ahead p).0
 StandsAs (standing.End line) p = ahead p ≡ ([], tokens.finished line)
 StandsAs (standing.Broken line code) p = ahead p ≡ ([], tokens.broken line code)
 
--- ---- a cursor: the next token, and the bytes after it
+-- ---- a cursor: where it began, where it stands, the next token, and the bytes after it
+
+abbrev pub source_of : Lexer → Source
+source_of lexer = record { bytes = lexer.rest.now; line = lexer.line }
 
 abbrev pub read_from : Lexed → Lexer → tokens.Read
 read_from (One t) lexer = (view t ∷ (tokens.tokens_at lexer.line lexer.rest.now).0, (tokens.tokens_at lexer.line lexer.rest.now).1)
 read_from End lexer = ([], tokens.finished lexer.line)
 read_from (Broken c) lexer = ([], tokens.broken lexer.line c)
 
-abbrev pub place_of : List ℕ → Lexed → Lexer → Place
-place_of source next lexer = record { source = source; passed = length (tokens.tokens source).0 - length (read_from next lexer).0 }
+abbrev pub place_of : Source → Lexed → Lexer → Place
+place_of source next lexer = record { source = source; passed = length (read_all source).0 - length (read_from next lexer).0 }
 
-pub record IsAt (source : List ℕ) (next : Lexed) (lexer : Lexer) : Type 0 where
+pub record IsAt (source : Source) (next : Lexed) (lexer : Lexer) : Type 0 where
   pub fits : lexer.line + length lexer.rest.now < 2 ^ 64
   pub is : read_from next lexer ≡ ahead (place_of source next lexer)
+
+-- A place behind the tokens that were passed, the bytes that are left there, and their line, whatever comes behind the
+-- source. Where nothing is left, the last of the tokens may be one that isn't decided.
+pub data IsBehind (source : Source) (passed : List tokens.Token) (line : ℕ) (left : List ℕ) : Type 0 where
+  decided : Leads source.line source.bytes passed line left → IsBehind source passed line left
+  undecided : (before : List tokens.Token) (last : tokens.Token) (after : ℕ) (tail : List ℕ) → passed ≡ before ++ last ∷ [] → Leads source.line source.bytes before after tail → goes_on tail ≡ true
+      → first_at tail ≡ Some (tokens.token last.shape []) → left ≡ [] → IsBehind source passed line left
+
+-- Where these tokens end with a semicolon, the bytes that are left stand behind one.
+abbrev pub IsBehindSemicolon : Source → List tokens.Token → List ℕ → Type 0
+IsBehindSemicolon source passed left = (before : List tokens.Token) (last : tokens.Token) → passed ≡ before ++ last ∷ [] → last.shape ≡ semicolon → IsBack (59 ∷ left) source.bytes
+
+-- the place of a cursor, and the way from there to its next token
+pub record Stood (source : Source) (since : Lexer) (next : Lexed) (lexer : Lexer) : Type 0 where
+  pub at : IsAt source next lexer
+  pub fits : since.line + length since.rest.now < 2 ^ 64
+  pub behind : IsBehind source (passed_tokens (place_of source next lexer)) since.line since.rest.now
+  pub back : IsBack since.rest.now source.bytes
+  pub ends : IsBehindSemicolon source (passed_tokens (place_of source next lexer)) since.rest.now
+  pub opened : Opened next since.line since.rest.now lexer.line lexer.rest.now
+
+-- Nothing that is decided stands next: these tokens are decided, and behind them is a tail that more bytes may make
+-- longer. At most one token of those that were passed isn't among them.
+pub record IsUndecided (p : Place) : Type 0 where
+  pub before : List tokens.Token
+  pub line : ℕ
+  pub tail : List ℕ
+  pub leads : Leads p.source.line p.source.bytes before line tail
+  pub goes : goes_on tail ≡ true
+  pub are : (passed_tokens p ≡ before) ⊎ ((last : tokens.Token) × (passed_tokens p ≡ before ++ last ∷ []))
+
+-- what stands next is decided, and so are all tokens that were passed
+pub record IsDecided (p : Place) : Type 0 where
+  pub line : ℕ
+  pub tail : List ℕ
+  pub leads : Leads p.source.line p.source.bytes (passed_tokens p) line tail
+  pub stops : goes_on tail ≡ false
+  pub first : tokens.First
+  pub is : first_at tail ≡ Some first
+
+-- whether more bytes may change what stands next
+abbrev pub MayChange : Bool → Place → Type 0
+MayChange true p = IsUndecided p
+MayChange false p = IsDecided p

@@ -1,7 +1,10 @@
 pub mod Signs
 pub mod View
+pub mod Pieces
 pub mod Ahead
 pub mod Tree
 pub mod Parsed
+pub mod Taken
 pub mod Reading
+pub mod Feed
 pub mod Laws

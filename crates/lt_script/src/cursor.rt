@@ -1,42 +1,46 @@
 //! A place among the tokens of a source. Tokens are read one at a time, so memory doesn't grow with the source.
-ghost use Rattle.std.specs.Prelude.{◌≡◌};
-ghost use Rattle.lt_script.specs.Ahead.{behind, Stands, StandsAs};
+ghost use Rattle.std.specs.Prelude.{◌≡◌, ◌+◌, ◌<◌, ◌^◌, length};
+ghost use Rattle.lt_script.specs.Ahead.{source_of, passed_tokens, behind, Stands, StandsAs, IsBehind, IsBehindSemicolon, MayChange};
 
 use crate::lexer::{Lexed, Lexer};
 use crate::standing::Standing;
+use crate::tail::goes_on;
 use crate::token::Token;
 use std::marker::Model;
 
 /// A source, and the tokens of it that are still to come.
 #[derive(Drop)]
 pub struct Cursor<'a> {
-    source: &'a [u8],
+    start: Lexer<'a>,
+    since: Lexer<'a>,
     next: Lexed<'a>,
     lexer: Lexer<'a>,
 }
 
 impl<'a> Model for Cursor<'a> {
-    ghost use Rattle.lt_script.specs.Ahead.{Place, place_code, place_of, IsAt};
+    ghost use Rattle.lt_script.specs.Ahead.{Place, place_code, place_of, source_of, Stood};
 
     ghost Value = { Place };
 
     ghost coded = { place_code };
 
-    ghost view = { λ c. place_of c.source.now c.next c.lexer };
+    ghost view = { λ c. place_of (source_of c.start) c.next c.lexer };
 
-    ghost invariant = { λ c. IsAt c.source.now c.next c.lexer };
+    ghost invariant = { λ c. Stood (source_of c.start) c.since c.next c.lexer };
 }
 
 impl<'a> Cursor<'a> {
-    /// Before the first token of the source.
-    pub fn over(source: &'a [u8]) -> Cursor<'a>
-        ensures source { result.source ≡ source.now }
+    /// Before the first token of these bytes, which begin on the lexer's line.
+    pub fn over(start: Lexer<'a>) -> Cursor<'a>
+        requires { start.line + length start.rest.now < 2 ^ 64 }
+        ensures source { result.source ≡ source_of start.entry }
         ensures passed { result.passed ≡ 0 }
     {
-        let mut lexer = Lexer::over(source);
+        let mut lexer = start;
         let next = lexer.next();
         Cursor {
-            source,
+            start,
+            since: start,
             next,
             lexer,
         }
@@ -47,7 +51,8 @@ impl<'a> Cursor<'a> {
         ensures { result ≡ self.now }
     {
         Cursor {
-            source: self.source,
+            start: self.start,
+            since: self.since,
             next: self.next,
             lexer: self.lexer,
         }
@@ -79,12 +84,31 @@ impl<'a> Cursor<'a> {
         }
     }
 
+    /// The bytes behind the last token that was passed, with their line.
+    pub fn rest(&self) -> Lexer<'a>
+        ensures place { IsBehind self.now.source (passed_tokens self.now) result.line result.rest.now }
+        ensures ends { IsBehindSemicolon self.now.source (passed_tokens self.now) result.rest.now }
+        ensures fits { result.line + length result.rest.now < 2 ^ 64 }
+    {
+        self.since
+    }
+
+    /// Whether more bytes behind the source may change what stands next.
+    pub fn may_change(&self) -> bool
+        ensures { MayChange result self.now }
+    {
+        let mut lexer = self.rest();
+        lexer.skip_gap();
+        goes_on(lexer.rest)
+    }
+
     /// Goes past the next token, if there is one.
     pub fn advance(&mut self)
         ensures place { self.new ≡ behind self.old }
         ensures source { self.new.source ≡ self.old.source }
     {
         if let Lexed::Token(_) = self.next {
+            self.since = self.lexer;
             self.next = self.lexer.next();
         }
     }

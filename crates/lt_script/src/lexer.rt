@@ -3,6 +3,7 @@ ghost use Rattle.std.specs.Prelude.{◌≡◌, ◌≤◌, ◌<◌, ◌+◌, ◌^
 ghost use Rattle.std.specs.List.{prefix_len};
 ghost use Rattle.lt_model.specs.Tokens.{tokens_at, word_at, number_at, symbol_at, sign_at, in_word};
 ghost use Rattle.lt_script.specs.View.{IsFirst, IsNext, IsGapless};
+ghost use Rattle.lt_script.specs.Pieces.{Skipped, Opened};
 
 use crate::label::Label;
 use crate::runs::{digits_len, line_len, sign_len, word_len};
@@ -40,10 +41,11 @@ impl<'a> Lexer<'a> {
     }
 
     /// Goes past the next token. Where the bytes end, it stands at their end; at a fault inside a token, on the fault's line.
-    #[tactic(auto, using(crate::proofs::Firsts::next_letter, crate::proofs::Firsts::next_line, crate::proofs::Firsts::next_digit, crate::proofs::Firsts::next_quote, crate::proofs::Firsts::next_other))]
+    #[tactic(auto, using(crate::proofs::Firsts::next_letter, crate::proofs::Firsts::next_line, crate::proofs::Firsts::next_digit, crate::proofs::Firsts::next_quote, crate::proofs::Firsts::next_other, crate::proofs::Opens::opened_letter, crate::proofs::Opens::opened_line, crate::proofs::Opens::opened_digit, crate::proofs::Opens::opened_quote, crate::proofs::Opens::opened_other, crate::proofs::Opens::opened_end))]
     pub fn next(&mut self) -> Lexed<'a>
         requires { self.old.line + length self.old.rest.now < 2 ^ 64 }
         ensures next { IsNext result self.new.line self.new.rest.now (tokens_at self.old.line self.old.rest.now) }
+        ensures opened { Opened result self.old.line self.old.rest.now self.new.line self.new.rest.now }
         ensures fits { self.new.line + length self.new.rest.now < 2 ^ 64 }
     {
         self.skip_gap();
@@ -61,12 +63,13 @@ impl<'a> Lexer<'a> {
         }
     }
 
-    // Goes to the next byte that is no white space and in no comment.
-    #[tactic(auto, using(crate::proofs::Gaps::over_white, crate::proofs::Gaps::over_feed, crate::proofs::Gaps::over_comment))]
-    fn skip_gap(&mut self)
+    /// Goes to the next byte that is no white space and in no comment.
+    #[tactic(auto, using(crate::proofs::Gaps::over_white, crate::proofs::Gaps::over_feed, crate::proofs::Gaps::over_comment, crate::proofs::Skips::skip_white, crate::proofs::Skips::skip_feed, crate::proofs::Skips::skip_comment, crate::proofs::Skips::skip_none))]
+    pub fn skip_gap(&mut self)
         requires { self.old.line + length self.old.rest.now < 2 ^ 64 }
         ensures same { tokens_at self.new.line self.new.rest.now ≡ tokens_at self.old.line self.old.rest.now }
         ensures gapless { IsGapless self.new.rest.now }
+        ensures skipped { Skipped self.old.line self.old.rest.now self.new.line self.new.rest.now }
         ensures fits { self.new.line + length self.new.rest.now < 2 ^ 64 }
     {
         'bytes: while let Some((first, rest)) = self.rest.split_first() {

@@ -139,6 +139,7 @@ pub fn repair_main<R: Threads + Wait + Sync, S: Source, K: Sink, G: Gate>(
     ensures bench_part { result ≡ 4 → IfBench (command (map string_bytes words.now)) (λ seed items programs. AppendsFront (K.holds sink.old) (K.holds sink.new) (bench_text seed items programs)) }
     ensures bench_unwritten { result ≡ 5 → IfBench (command (map string_bytes words.now)) (λ seed items programs. Keeps (K.holds sink.old) (K.holds sink.new)) }
     ensures usage_part { result ≡ 4 → is_taken (map string_bytes words.now) ≡ false → AppendsFront (K.holds sink.old) (K.holds sink.new) usage_text }
+    ensures usage_unwritten { result ≡ 5 → is_taken (map string_bytes words.now) ≡ false → Keeps (K.holds sink.old) (K.holds sink.new) }
     ensures unwritten { ((result ≡ 3) ⊎ (result ≡ 6)) → Keeps (K.holds sink.old) (K.holds sink.new) }
     // Where no read and no write failed and the input is within the limit, it is run, or memory ran out.
     ensures complete { IfRun (command (map string_bytes words.now)) (λ marks. (Rose (S.faults source.old) (S.faults source.new) → ⊥) → (Rose (K.faults sink.old) (K.faults sink.new) → ⊥)

@@ -1,5 +1,5 @@
 //! What a script has made so far.
-ghost use Rattle.std.specs.Prelude.{◌≡◌, ◌≤◌, ◌++◌, ◌∷◌, [], length, false, Bool, IfOk, OnOk};
+ghost use Rattle.std.specs.Prelude.{◌≡◌, ◌≤◌, ◌++◌, ◌∷◌, [], length, false, Bool, IfOk, OnOk, OnErr};
 ghost use Rattle.std.specs.List.{AllByRecursion};
 ghost use Rattle.std.specs.Option.{option_copied, option_map_or};
 ghost use Rattle.lt_model.specs.declared.syntax.Item.TheVariants as items;
@@ -134,6 +134,8 @@ impl World {
         ensures database { OnOk result (self.new.database ≡ database) }
         ensures versions { OnOk result (self.new.versions ≡ self.old.versions ++ database ∷ []) }
         ensures schema { OnOk result (self.new.schema ≡ self.old.schema) }
+        ensures kept_database { OnErr result (self.new.database ≡ self.old.database) }
+        ensures kept_versions { OnErr result (self.new.versions ≡ self.old.versions) }
     {
         let version = database.share()?;
         self.versions.publish(version)?;
@@ -150,6 +152,7 @@ impl World {
     }
 
     /// Runs a batch by so many workers and makes its version. The programs without a code are the leaves of a repair circuit.
+    /// After want of memory the database and the versions are as before.
     pub fn run<R: Threads + Wait + Sync, G: Gate>(
         &mut self,
         rt: &R,
@@ -165,6 +168,8 @@ impl World {
         ensures ran { IfOk result (λ ran. IsRun self.old programs.now ran) }
         ensures world { OnOk result (Takes self.old (items.Batch programs.now) self.new) }
         ensures schema { OnOk result (self.new.schema ≡ self.old.schema) }
+        ensures kept_database { OnErr result (self.new.database ≡ self.old.database) }
+        ensures kept_versions { OnErr result (self.new.versions ≡ self.old.versions) }
     {
         let number = self.next_number();
         let judgements = all_judged(alloc, programs, &self.schema)?;

@@ -185,7 +185,7 @@ without-middle a b c q less greater =
     without-append a (b ++ c) q ∙ ap (λ t. t ++ without_row (b ++ c) q) (without-less a q less)
     ∙ ap (λ t. a ++ t) (without-append b c q ∙ ap (λ t. without_row b q ++ t) (without-greater c q greater))
 
-first-less : (a b : List (List ℕ)) (q : List ℕ) → AllByRecursion (λ r. row_cmp r q ≡ Less) a → first_from (a ++ b) q ≡ first_from b q
+pub first-less : (a b : List (List ℕ)) (q : List ℕ) → AllByRecursion (λ r. row_cmp r q ≡ Less) a → first_from (a ++ b) q ≡ first_from b q
 first-less [] b q h = refl
 first-less (x ∷ a) b q h = rw h.0 (first-less a b q h.1)
 

@@ -3,3 +3,4 @@ pub mod Edits
 pub mod Counts
 pub mod Laying
 pub mod Gathered
+pub mod Here

@@ -1,7 +1,6 @@
 //! A set of rows as three levels of lists that versions share.
 #![tactic(auto)]
 
-mod below;
 mod building;
 mod bulk;
 mod edit;

@@ -1,12 +1,12 @@
 //! `Part`: what a list of parts asks of each, and a row as the least of them.
-ghost use Rattle.std.specs.Prelude.{◌≡◌, ◌<◌, ◌≤◌, ◌+◌, ℕ, Bool, true, List, [], ◌∷◌, ◌++◌, length, IfOk, OnErr};
+ghost use Rattle.std.specs.Prelude.{◌≡◌, ◌<◌, ◌≤◌, ◌+◌, ℕ, Bool, true, List, [], ◌∷◌, ◌++◌, length, slice_get, Some, IfOk, IfSome, OnErr};
 ghost use Rattle.std.specs.List.{AllByRecursion};
 ghost use Rattle.std.specs.Option.{option_copied};
 ghost use Rattle.lt_face.specs.Rows.{IsAscending, has_row, first_from};
-ghost use Rattle.lt_shared.specs.Parts.{IsFirst, IsPut, IsTaken, IfHalves};
+ghost use Rattle.lt_shared.specs.Parts.{joined, IsFirst, IsSomeBelow, IsPut, IsTaken, IfHalves};
 
-use crate::below::is_below;
 use lt_face::{Key, Moves, Near, NoMemory, Row};
+use lt_flat::place_near;
 use std::cmp::Ordering;
 
 /// How a row went into a part.
@@ -56,12 +56,28 @@ pub trait Part: Sized + Drop {
         requires { IsAscending (rows self.now) }
         ensures { option_copied result ≡ first_from (rows self.now) from.now };
 
-    /// The least row that is at least the prefix and then the bound.
-    fn row_near(&self, near: &mut Near, prefix: &Row, bound: Key) -> Option<&Row>
-        requires rises { IsAscending (rows self.now) }
-        requires wide { AllByRecursion (λ row. length prefix.now < length row) (rows self.now) }
-        requires room { length prefix.now < 8 }
-        ensures { option_copied result ≡ first_from (rows self.now) (prefix.now ++ bound ∷ []) };
+    /// The least row of a list of parts that is at least the prefix and then the bound. The search begins where `near` says.
+    fn row_near<'a>(
+        parts: &'a [Self],
+        near: &mut Near,
+        prefix: &[Key],
+        bound: Key,
+    ) -> Option<&'a Row>
+        requires rises { IsAscending (joined rows parts.now) }
+        requires wide { AllByRecursion (λ row. length prefix.now < length row) (joined rows parts.now) }
+        ensures { option_copied result ≡ first_from (joined rows parts.now) (prefix.now ++ bound ∷ []) };
+
+    /// The same, where it lies in the page that `near` says behind another row of it: one search of that page.
+    fn row_here<'a>(
+        parts: &'a [Self],
+        near: &mut Near,
+        prefix: &[Key],
+        bound: Key,
+    ) -> Option<&'a Row>
+        requires rises { IsAscending (joined rows parts.now) }
+        requires wide { AllByRecursion (λ row. length prefix.now < length row) (joined rows parts.now) }
+        ensures found { IfSome result (λ row. first_from (joined rows parts.now) (prefix.now ++ bound ∷ []) ≡ Some row.now) }
+        ensures below { IfSome result (λ row. IsSomeBelow (joined rows parts.now) (prefix.now ++ bound ∷ [])) };
 
     /// A second owner of the same part.
     fn share(&self) -> Result<Self, NoMemory>
@@ -81,6 +97,13 @@ pub trait Part: Sized + Drop {
         ensures ok { IfOk result (λ taken. IsTaken taken (rows self.old) (rows self.new) row.now) }
         ensures err { OnErr result (rows self.new ≡ rows self.old) }
         ensures made { made.new ≤ made.old + most };
+}
+
+/// The row at a place, where there is one.
+fn row_at(rows: &[Row], at: usize) -> Option<&Row>
+    ensures { option_copied result ≡ slice_get rows.now at }
+{
+    rows.get(at)
 }
 
 impl Part for Row {
@@ -106,12 +129,34 @@ impl Part for Row {
         }
     }
 
-    fn row_near(&self, _near: &mut Near, prefix: &Row, bound: Key) -> Option<&Row> {
-        if is_below(self, prefix.cells(), bound) {
-            None
-        } else {
-            Some(self)
+    fn row_near<'a>(
+        parts: &'a [Row],
+        near: &mut Near,
+        prefix: &[Key],
+        bound: Key,
+    ) -> Option<&'a Row> {
+        let at = place_near(parts, near.at, prefix, bound);
+        near.at = at;
+        row_at(parts, at)
+    }
+
+    #[inline]
+    fn row_here<'a>(
+        parts: &'a [Row],
+        near: &mut Near,
+        prefix: &[Key],
+        bound: Key,
+    ) -> Option<&'a Row> {
+        let at = place_near(parts, near.at, prefix, bound);
+        if at == 0 {
+            return None;
         }
+        if parts.len() <= at {
+            return None;
+        }
+        near.at = at;
+        let row = &parts[at];
+        Some(row)
     }
 
     fn share(&self) -> Result<Row, NoMemory> {

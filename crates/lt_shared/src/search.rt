@@ -1,13 +1,10 @@
 //! Where a row lies in a list of parts.
-ghost use Rattle.std.specs.Prelude.{◌≡◌, ◌<◌, suc, [], ◌∷◌, ◌++◌, take, drop, length, true, false};
+ghost use Rattle.std.specs.Prelude.{◌≡◌, ◌<◌, [], ◌∷◌, ◌++◌, length};
 ghost use Rattle.std.specs.List.{AllByRecursion};
 ghost use Rattle.std.specs.Option.{option_copied};
-ghost use Rattle.std.specs.Ordering.{is_lt};
-ghost use Rattle.std.specs.declared.cmp.Ordering.TheVariants.{Less};
-ghost use Rattle.lt_face.specs.Rows.{IsAscending, has_row, first_from, row_cmp};
-ghost use Rattle.lt_shared.specs.Parts.{joined, IsPlace, IsNear, IsOrNext};
+ghost use Rattle.lt_face.specs.Rows.{IsAscending, has_row, first_from};
+ghost use Rattle.lt_shared.specs.Parts.{joined, IsPlace, IsOrNext};
 
-use crate::below::is_below;
 use crate::part::Part;
 use lt_face::{Key, Near, Row};
 
@@ -74,71 +71,7 @@ pub fn least_among<'a, T: Part>(parts: &'a [T], from: &Row) -> Option<&'a Row>
     or_next(parts, at, part.row_at_least(from))
 }
 
-/// Whether all parts before this place are known to lie below the prefix and then the bound.
-fn is_behind<T: Part>(parts: &[T], at: usize, prefix: &Row, bound: Key) -> bool
-    requires rises { IsAscending (joined T.rows parts.now) }
-    requires wide { AllByRecursion (λ row. length prefix.now < length row) (joined T.rows parts.now) }
-    requires within { at < length parts.now }
-    ensures { result ≡ true → AllByRecursion (λ r. row_cmp r (prefix.now ++ bound ∷ []) ≡ Less) (joined T.rows (take at parts.now)) }
-{
-    if at == 0 {
-        return true;
-    }
-    let part = &parts[at];
-    is_below(part.first(), prefix.cells(), bound)
-}
-
-/// Whether no part behind this place has a row below the prefix and then the bound.
-fn is_ahead<T: Part>(parts: &[T], at: usize, prefix: &Row, bound: Key) -> bool
-    requires rises { IsAscending (joined T.rows parts.now) }
-    requires wide { AllByRecursion (λ row. length prefix.now < length row) (joined T.rows parts.now) }
-    requires within { at < length parts.now }
-    ensures { result ≡ true → AllByRecursion (λ r. is_lt (row_cmp r (prefix.now ++ bound ∷ [])) ≡ false) (joined T.rows (drop (suc at) parts.now)) }
-{
-    if parts.len() - 1 <= at {
-        return true;
-    }
-    let next = &parts[at + 1];
-    !is_below(next.first(), prefix.cells(), bound)
-}
-
-/// Whether the least row that is at least the prefix and then the bound lies in the part at this place, or begins the next.
-fn is_near<T: Part>(parts: &[T], at: usize, prefix: &Row, bound: Key) -> bool
-    requires rises { IsAscending (joined T.rows parts.now) }
-    requires wide { AllByRecursion (λ row. length prefix.now < length row) (joined T.rows parts.now) }
-    ensures { result ≡ true → IsNear T.rows parts.now (prefix.now ++ bound ∷ []) at }
-{
-    if parts.len() <= at {
-        return false;
-    }
-    if !is_behind(parts, at, prefix, bound) {
-        return false;
-    }
-    is_ahead(parts, at, prefix, bound)
-}
-
-/// The place of the part in which the least row that is at least the prefix and then the bound lies, or behind which it begins.
-fn place_near<T: Part>(parts: &[T], hint: usize, prefix: &Row, bound: Key) -> usize
-    requires rises { IsAscending (joined T.rows parts.now) }
-    requires wide { AllByRecursion (λ row. length prefix.now < length row) (joined T.rows parts.now) }
-    requires some { 0 < length parts.now }
-    requires room { length prefix.now < 8 }
-    ensures { IsNear T.rows parts.now (prefix.now ++ bound ∷ []) result }
-{
-    if is_near(parts, hint, prefix, bound) {
-        return hint;
-    }
-    let next = hint.saturating_add(1);
-    if is_near(parts, next, prefix, bound) {
-        return next;
-    }
-    let mut from = prefix.copy_row();
-    from.push(bound);
-    place(parts, &from)
-}
-
-/// The least row of the parts that is at least the prefix and then the bound. The search begins where `near` says: `at`
-/// is the place in this list, and `list` has the places in the lists below it, in digits of 64.
+/// The least row of the parts that is at least the prefix and then the bound. The page that `near` says is searched first.
 pub fn near_among<'a, T: Part>(
     parts: &'a [T],
     near: &mut Near,
@@ -147,20 +80,11 @@ pub fn near_among<'a, T: Part>(
 ) -> Option<&'a Row>
     requires rises { IsAscending (joined T.rows parts.now) }
     requires wide { AllByRecursion (λ row. length prefix.now < length row) (joined T.rows parts.now) }
-    requires room { length prefix.now < 8 }
     ensures { option_copied result ≡ first_from (joined T.rows parts.now) (prefix.now ++ bound ∷ []) }
 {
-    if parts.is_empty() {
-        return None;
+    let cells = prefix.cells();
+    match T::row_here(parts, near, cells, bound) {
+        Some(row) => Some(row),
+        None => T::row_near(parts, near, cells, bound),
     }
-    let at = place_near(parts, near.at, prefix, bound);
-    let mut below = Near {
-        list: near.list / 64,
-        at: near.list % 64,
-    };
-    let part = &parts[at];
-    let found = part.row_near(&mut below, prefix, bound);
-    near.list = below.list.wrapping_mul(64).wrapping_add(below.at);
-    near.at = at;
-    or_next(parts, at, found)
 }

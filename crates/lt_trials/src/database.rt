@@ -8,6 +8,7 @@ use lt_base::{Database, Rows};
 use lt_delta::{Mark, Marks};
 use lt_face::{Indexes, Items, Key, NoMemory, Perm, Row, RowReads, RowSet};
 use std::alloc::Global;
+use std::thread::Threads;
 
 /// The mark + on one row of the first relation.
 fn mark_on(alloc: Global, a: Key, b: Key) -> Result<Marks, NoMemory>
@@ -90,12 +91,12 @@ fn laid(alloc: Global, db: &Database) -> Result<Database, NoMemory>
 }
 
 /// One relation of two columns with this index.
-fn indexed(alloc: Global, perm: &Perm) -> Result<Database, NoMemory>
+fn indexed<R: Threads + Sync>(rt: &R, alloc: Global, perm: &Perm) -> Result<Database, NoMemory>
     requires { perm.now ≡ 1 ∷ 0 ∷ [] }
     ensures { IfOk result (λ db. IsWide (state_of db) 0 2) }
 {
     let plain = plain(alloc)?;
-    let db = plain.with_index(0, perm)?;
+    let db = plain.with_index(rt, 0, perm)?;
     Ok(db)
 }
 
@@ -112,9 +113,9 @@ fn has_the_row(alloc: Global, db: &Database, perm: &Perm) -> bool {
 }
 
 /// Whether a database without the row has it once it is marked, and the old one is as it was.
-fn takes_the_marks(alloc: Global) -> Result<bool, NoMemory> {
+fn takes_the_marks<R: Threads + Sync>(rt: &R, alloc: Global) -> Result<bool, NoMemory> {
     let perm = swapped(alloc)?;
-    let before = indexed(alloc, &perm)?;
+    let before = indexed(rt, alloc, &perm)?;
     let after = laid(alloc, &before)?;
     let was_there = has(alloc, &before, 0, 3, 7);
     let is_there = has_the_row(alloc, &after, &perm);
@@ -123,7 +124,7 @@ fn takes_the_marks(alloc: Global) -> Result<bool, NoMemory> {
 
 #[test]
 fn each_index_takes_the_marks(rt: HostRuntime) -> Result<(), NoMemory> {
-    let is_so = takes_the_marks(rt.alloc())?;
+    let is_so = takes_the_marks(&rt, rt.alloc())?;
     holds(&rt, is_so);
     Ok(())
 }
@@ -142,9 +143,9 @@ fn rows_take_the_marks(rt: HostRuntime) -> Result<(), NoMemory> {
 }
 
 /// Whether the row that a database takes in place is there, also in its index.
-fn takes_marks_in_place(alloc: Global) -> Result<bool, NoMemory> {
+fn takes_marks_in_place<R: Threads + Sync>(rt: &R, alloc: Global) -> Result<bool, NoMemory> {
     let perm = swapped(alloc)?;
-    let before = indexed(alloc, &perm)?;
+    let before = indexed(rt, alloc, &perm)?;
     let marks = mark_on(alloc, 3, 7)?;
     let after = before.lay(&marks)?;
     Ok(has_the_row(alloc, &after, &perm))
@@ -152,7 +153,7 @@ fn takes_marks_in_place(alloc: Global) -> Result<bool, NoMemory> {
 
 #[test]
 fn each_index_takes_the_marks_in_place(rt: HostRuntime) -> Result<(), NoMemory> {
-    let is_so = takes_marks_in_place(rt.alloc())?;
+    let is_so = takes_marks_in_place(&rt, rt.alloc())?;
     holds(&rt, is_so);
     Ok(())
 }

@@ -1,10 +1,11 @@
 //! Sources and sinks in memory, those that never fail, and those over the library's readers and writers.
 use crate::agree::{holds, same};
 use lt_edges::{
-    Failed, Gate, MeetGate, MemSink, MemSource, OpenGate, Sink, Source, StdSink, StdSource,
-    SureSink, SureSource,
+    Failed, Gate, MeetGate, MemSink, MemSource, OpenGate, OrderGate, Sink, Source, StdSink,
+    StdSource, SureSink, SureSource,
 };
 use lt_face::NoMemory;
+use std::alloc::Global;
 use std::io::{self, ErrorKind, Read, Write};
 use std::process::Abort;
 use std::sync::Wait;
@@ -70,6 +71,37 @@ fn meets<R: Wait>(rt: &R, first: u32, second: u32) -> bool {
 fn one_thread_meets_only_what_came_before(rt: HostRuntime) {
     same(&rt, meets(&rt, 0, 3), false);
     same(&rt, meets(&rt, 3, 0), true);
+}
+
+/// Whether a gate for these jobs was passed in order by these calls of one thread.
+fn passes<R: Wait>(rt: &R, alloc: Global, order: &[u32], calls: &[u32]) -> Result<bool, NoMemory> {
+    let gate = OrderGate::new(alloc, order, 10)?;
+    for call in calls {
+        gate.pass(rt, 0, *call);
+    }
+    Ok(gate.passed())
+}
+
+#[test]
+fn one_thread_passes_in_order_alone(rt: HostRuntime) -> Result<(), NoMemory> {
+    let rows: [(&[u32], &[u32], bool); 10] = [
+        (&[1, 0], &[1, 0], true),
+        (&[1, 0], &[0, 1], false),
+        (&[1, 0], &[1], false),
+        (&[1, 0], &[], false),
+        (&[], &[], true),
+        (&[], &[7], true),
+        // later calls and other jobs pass
+        (&[6, 3, 0], &[9, 6, 6, 3, 6, 0, 3], true),
+        (&[6, 3, 0], &[6, 0, 3], false),
+        (&[6, 3, 0], &[3, 6, 3, 0], false),
+        // a job that stands in the list again has its first place
+        (&[6, 3, 6], &[6, 3], true),
+    ];
+    for (order, calls, passed) in rows {
+        holds(&rt, passes(&rt, rt.alloc(), order, calls)? == passed);
+    }
+    Ok(())
 }
 
 #[test]

@@ -4,7 +4,7 @@ ghost use Rattle.std.specs.Prelude.{◌≡◌, [], ◌∷◌, IfOk};
 use crate::agree::{holds, same};
 use lt_face::{CELL_LIMIT, Items, Key, NoMemory, Row, RowReads, RowSet};
 use lt_flat::FlatRows;
-use lt_over::FlatOver;
+use lt_over::SharedOver;
 use lt_shared::SharedRows;
 use std::alloc::Global;
 use std::process::Abort;
@@ -153,8 +153,8 @@ fn takes_edits(rt: HostRuntime) -> Result<(), NoMemory> {
     ];
     takes::<FlatRows>(&rt, rt.alloc(), &edits)?;
     takes_shared::<FlatRows>(&rt, rt.alloc(), &edits)?;
-    takes::<FlatOver>(&rt, rt.alloc(), &edits)?;
-    takes_shared::<FlatOver>(&rt, rt.alloc(), &edits)?;
+    takes::<SharedOver>(&rt, rt.alloc(), &edits)?;
+    takes_shared::<SharedOver>(&rt, rt.alloc(), &edits)?;
     takes::<SharedRows>(&rt, rt.alloc(), &edits)?;
     takes_shared::<SharedRows>(&rt, rt.alloc(), &edits)
 }
@@ -187,7 +187,7 @@ fn begins<S: RowSet>(rt: &impl Abort, alloc: Global) -> Result<(), NoMemory> {
 #[test]
 fn begins_from_sorted_rows(rt: HostRuntime) -> Result<(), NoMemory> {
     begins::<FlatRows>(&rt, rt.alloc())?;
-    begins::<FlatOver>(&rt, rt.alloc())?;
+    begins::<SharedOver>(&rt, rt.alloc())?;
     begins::<SharedRows>(&rt, rt.alloc())
 }
 
@@ -201,6 +201,6 @@ fn begins_bare<S: RowSet>(rt: &impl Abort, alloc: Global) -> Result<(), NoMemory
 #[test]
 fn begins_from_no_rows(rt: HostRuntime) -> Result<(), NoMemory> {
     begins_bare::<FlatRows>(&rt, rt.alloc())?;
-    begins_bare::<FlatOver>(&rt, rt.alloc())?;
+    begins_bare::<SharedOver>(&rt, rt.alloc())?;
     begins_bare::<SharedRows>(&rt, rt.alloc())
 }

@@ -10,6 +10,8 @@ mod edges;
 #[cfg(test)]
 mod flat;
 #[cfg(test)]
+mod folds;
+#[cfg(test)]
 mod leap;
 #[cfg(test)]
 mod marks;
@@ -25,6 +27,8 @@ mod plans;
 mod rows;
 #[cfg(test)]
 mod sense;
+#[cfg(test)]
+mod shapes;
 #[cfg(test)]
 mod trie;
 #[cfg(test)]

@@ -17,7 +17,7 @@ struct Both {
 }
 
 /// Copies of rows.
-fn copies(alloc: Global, rows: &[Row]) -> Result<RowList, NoMemory>
+pub(crate) fn copies(alloc: Global, rows: &[Row]) -> Result<RowList, NoMemory>
     ensures { IfOk result (λ list. list ≡ rows.now) }
 {
     let mut list = Vec::with_capacity(alloc, rows.len())?;
@@ -28,7 +28,7 @@ fn copies(alloc: Global, rows: &[Row]) -> Result<RowList, NoMemory>
 }
 
 /// The pairs (1, 7), (2, 7) and so on, below this one.
-fn pairs_below(rt: &impl Abort, alloc: Global, end: Key) -> Result<FlatRows, NoMemory> {
+pub(crate) fn pairs_below(rt: &impl Abort, alloc: Global, end: Key) -> Result<FlatRows, NoMemory> {
     let mut rows = FlatRows::empty(alloc, 2)?;
     for key in 1..end {
         made(rt, alloc, &mut rows, Edit::Insert((key, 7)))?;
@@ -45,7 +45,7 @@ fn paged(alloc: Global, rows: &FlatRows) -> Result<SharedRows, NoMemory> {
 }
 
 /// Whether the row was found.
-fn is_found(found: Option<&Row>, row: &Row) -> bool {
+pub(crate) fn is_found(found: Option<&Row>, row: &Row) -> bool {
     match found {
         Some(same) => same == row,
         None => false,
@@ -91,7 +91,7 @@ fn a_node_has_4096_rows(rt: HostRuntime) -> Result<(), NoMemory> {
 }
 
 /// The next of a sequence of numbers without a pattern.
-fn next(seed: u64) -> u64 {
+pub(crate) fn next(seed: u64) -> u64 {
     seed.wrapping_mul(6364136223846793005)
         .wrapping_add(1442695040888963407)
 }

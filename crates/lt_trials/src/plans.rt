@@ -10,10 +10,11 @@ use crate::agree::{holds, same};
 use lt_face::{Items, Key, NoMemory};
 use lt_model::syntax::Op;
 use lt_query::{
-    Atom, Body, Guide, IndexName, Level, Plan, Prog, Stmt, Term, Test, body_of, needs, plan,
+    Atom, Body, Guide, IndexName, Level, Plan, Planned, Prog, Stmt, Term, Test, body_of, plan,
 };
 use std::alloc::Global;
 use std::process::Abort;
+use std::sync::Arc;
 
 const X: Term = Term::Var(0);
 
@@ -21,7 +22,7 @@ const Y: Term = Term::Var(1);
 
 const Z: Term = Term::Var(2);
 
-fn atom(alloc: Global, relation: u32, terms: &[Term]) -> Result<Atom, NoMemory>
+pub(crate) fn atom(alloc: Global, relation: u32, terms: &[Term]) -> Result<Atom, NoMemory>
     requires { IsWidth (length terms.now) }
     ensures { IfOk result (λ atom. IsWidth (length atom.terms)) }
 {
@@ -29,7 +30,7 @@ fn atom(alloc: Global, relation: u32, terms: &[Term]) -> Result<Atom, NoMemory>
     Ok(Atom { relation, terms })
 }
 
-fn equal(left: Term, right: Term) -> Test {
+pub(crate) fn equal(left: Term, right: Term) -> Test {
     Test::Cmp {
         left,
         op: Op::Eq,
@@ -37,7 +38,7 @@ fn equal(left: Term, right: Term) -> Test {
     }
 }
 
-fn body(alloc: Global, atoms: Items<Atom>, tests: &[Test]) -> Result<Body, NoMemory>
+pub(crate) fn body(alloc: Global, atoms: Items<Atom>, tests: &[Test]) -> Result<Body, NoMemory>
     requires { AllByRecursion (λ (atom : AtomType). IsWidth (length atom.terms)) atoms }
     ensures { IfOk result (λ body. HasWidths body) }
 {
@@ -87,14 +88,18 @@ fn pair(alloc: Global, tests: &[Test]) -> Result<Body, NoMemory>
 }
 
 /// The plan of a body.
-fn planned(body: Body) -> Result<Plan, NoMemory>
+pub(crate) fn planned(body: Body) -> Result<Plan, NoMemory>
     requires { HasWidths body }
 {
     plan(&body)
 }
 
 /// Compares levels with a table of terms, pins and ties.
-fn same_levels(rt: &impl Abort, levels: &[Level], expected: &[(Term, &[Key], &[usize])]) {
+pub(crate) fn same_levels(
+    rt: &impl Abort,
+    levels: &[Level],
+    expected: &[(Term, &[Key], &[usize])],
+) {
     same(rt, levels.len(), expected.len());
     for (level, (term, pins, ties)) in levels.iter().zip(expected) {
         same(rt, level.term, *term);
@@ -107,7 +112,7 @@ fn same_levels(rt: &impl Abort, levels: &[Level], expected: &[(Term, &[Key], &[u
 }
 
 /// Compares guides with a table of relations, places and columns.
-fn same_guides(rt: &impl Abort, guides: &[Guide], expected: &[(u32, &[usize], &[u32])]) {
+pub(crate) fn same_guides(rt: &impl Abort, guides: &[Guide], expected: &[(u32, &[usize], &[u32])]) {
     same(rt, guides.len(), expected.len());
     for (guide, (relation, places, columns)) in guides.iter().zip(expected) {
         same(rt, guide.relation, *relation);
@@ -214,10 +219,12 @@ fn same_names(rt: &impl Abort, names: &[IndexName], expected: &[(u32, &[u32])]) 
 #[test]
 fn each_index_once(rt: HostRuntime) -> Result<(), NoMemory> {
     let prog = program(rt.alloc())?;
-    let names = needs(&prog)?;
+    let prog = Arc::new(rt.alloc(), prog)?;
+    let planned = Planned::new(rt.alloc(), &prog)?;
+    let names = planned.needs()?;
     let expected: [(u32, &[u32]); 2] = [(0, &[1, 0]), (0, &[0, 1])];
     same_names(&rt, names.as_slice(), &expected);
-    let statements = prog.as_slice();
+    let statements = planned.statements();
     holds(&rt, statements.len() == 3);
     same(&rt, body_of(&statements[1]).atoms.len(), 3);
     Ok(())

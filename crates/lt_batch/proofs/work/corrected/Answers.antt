@@ -17,6 +17,6 @@ returns-in_ok-same-clause-run c =
     let before = state_of c.args.snapshot.now in
     let after = laid before c.args.correction.now in
     ap (λ db. run c.args.prog.now (state_of db)) c.in_ok-same.ensures
-    ∙ (ap (λ (prog : List Stmt). run prog before) (sym c.as_slice.ensures)
+    ∙ (ap (λ (prog : List Stmt). run prog before) (sym c.statements.ensures)
     ∙ (c.reads.ensures.same c.if-reads.false before after
-    ∙ ap (λ (prog : List Stmt). run prog after) c.as_slice.ensures))
+    ∙ ap (λ (prog : List Stmt). run prog after) c.statements.ensures))

@@ -3,6 +3,7 @@ use Rattle.lt_face.specs.Keys.{end_key}
 use Rattle.lt_join.specs.Walked.{at}
 use Rattle.lt_join.specs.Holders.{atoms_at, holders_at}
 use Rattle.lt_join.proofs.Levels.{still_seats, joined_next, joined_ended, gains_next, gains_ended}
+use Rattle.lt_join.proofs.Opening.{under_none}
 use Rattle.lt_join.proofs.level.next_key.Goals as goal
 use Rattle.lt_join.proofs.level.next_key.Goals.{then-len-gt0-via-then-len-gt0, then-len-gt0-via-else-len-gt0+then-len-gt0-2}
 
@@ -39,3 +40,9 @@ returns-clause-gains g c =
     let e = c.in_ok-next.ensures in
     gains_next _ c.args.plan.now (g.I.Indexes.state c.args.tables.now) c.args.keys.now c.args.level.now c.args.sense.now c.keep_gaps.new.sense c.args.moves.now c.next.new.moves _ _ _ c.clear.new.self.gaps.items c.next.new.notes.gaps.items c.args.joined.now.leap c.next.new.self c.args.joined.now.key c.key-joined.result
     c.requires.is_open c.clear.ensures e.notes c.next.ensures.moves c.in_ok-keep_gaps.ensures c.key-joined.ensures.value e.at_least
+
+pub returns-then-len-gt0-clause-under : goal.returns-then-len-gt0-clause-under
+returns-then-len-gt0-clause-under g c = under_none c.args.keys.now c.args.sense.now
+
+pub returns-clause-under : goal.returns-clause-under
+returns-clause-under g c = c.in_ok-keep_gaps.ensures.under

@@ -2,6 +2,7 @@ use Rattle.std.proofs.Common.{length, arith}
 use Rattle.lt_join.specs.Walked.{at}
 use Rattle.lt_join.specs.Holders.{holders_at}
 use Rattle.lt_join.proofs.Levels.{AreSeated-of, still_seats, seats_count, joined_begun, gains_begun}
+use Rattle.lt_join.proofs.Opening.{under_chain}
 use Rattle.lt_join.proofs.Within.{opens_within, begun_within}
 use Rattle.lt_join.proofs.level.open_level.Goals as goal
 
@@ -60,3 +61,6 @@ returns-in_err-keep_gaps-clause-within g c =
 pub returns-clause-within : goal.returns-clause-within
 returns-clause-within g c =
     begun_within _ c.args.plan.now (g.I.Indexes.state c.args.tables.now) c.args.keys.now c.args.level.now c.args.sense.now c.open_walks.new.sense c.in_ok-seats.seats.items c.add_keys.new.seats.items c.args.moves.now c.open_walks.new.moves c.init.new.moves c.in_ok-seats.ensures.opened c.in_ok-add_keys.ensures c.init.ensures.cost
+
+pub returns-clause-under : goal.returns-clause-under
+returns-clause-under g c = under_chain c.args.keys.now c.args.sense.now c.open_walks.new.sense c.keep_gaps.new.sense c.in_ok-seats.ensures.opened.under c.in_ok-keep_gaps.ensures.under

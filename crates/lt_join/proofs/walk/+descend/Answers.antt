@@ -1,10 +1,10 @@
-use Rattle.std.proofs.Common.{◌≡◌, ℕ, ◌+◌, ◌-◌, ◌<◌, ◌≤◌, List, length, Some, slice_get, [], ◌∷◌, ◌++◌, sym, refl, ◌∙◌, ap, arith, subst, drop}
+use Rattle.std.proofs.Common.{◌≡◌, ℕ, ◌+◌, ◌-◌, ◌<◌, ◌≤◌, List, length, Some, slice_get, [], ◌∷◌, ◌++◌, sym, refl, ◌∙◌, ap, arith, subst, drop, inl}
 use Rattle.lt_join.specs.Walked.{IsReached, IsExploredBelow, HitsAbove, at}
 use Rattle.lt_join.specs.Cost.{cost_from, LevelGains}
 use Rattle.std.specs.List.{AllZip}
 use Rattle.lt_join.specs.Holders.{IsOpen, IsTrieOf, IsUsable, IsJoined, left_of, atoms_at}
 use Rattle.lt_join.proofs.Costs.{IsPaid-begun, IsPaid-more, cost-all, cost-stopped, cost-opened, IsCredited-begun, IsCredited-more, GainsFewer-below}
-use Rattle.lt_join.proofs.Steps.{IsUnderWay-begun, IsUnderWay-more, IsExploredBelow-all, IsReached-child, length_push, slice_get_is, popped, witnesses_grow, FoundGrows-chain}
+use Rattle.lt_join.proofs.Steps.{IsUnderWay-begun, IsUnderWay-more, IsExploredBelow-all, IsReached-child, length_push, slice_get_is, popped, witnesses_grow, FoundGrows-chain, under_more}
 use Rattle.lt_join.proofs.Entering.{left_iters}
 use Rattle.lt_join.proofs.Usable.{walkable_all, usable_at, next_iters, hits_before}
 use Rattle.lt_join.proofs.walk.+descend.Goals as goal
@@ -40,6 +40,7 @@ loop-joined-init g t c = record {
   way = IsUnderWay-begun c.args.body.now c.args.plan.now c.args.terms.now (g.I.Indexes.state c.args.tables.now) c.args.found.now c.args.keys.now c.index-as_slice-depth.result c.open_level.new.sense c.in_ok-joined.joined.key c.requires.right c.in_ok-joined.ensures.stands.stands;
   paid = IsPaid-begun c.args.plan.now (g.I.Indexes.state c.args.tables.now) c.args.keys.now c.index-as_slice-depth.result c.args.moves.now c.open_level.new.moves (left_of c.in_ok-joined.joined.leap) c.in_ok-joined.joined.key c.in_ok-joined.ensures.stands.cost;
   credited = IsCredited-begun (length (atoms_at c.args.plan.now.guides (length c.args.keys.now))) c.args.found.now.sense c.open_level.new.sense c.args.moves.now c.open_level.new.moves c.in_ok-joined.joined.key c.in_ok-joined.ensures.gains;
+  under = λ row there. inl there;
   unfound = λ h. refl;
   rises = c.open_level.ensures.moves;
   is_open = c.in_ok-joined.ensures.stands.is_open;
@@ -89,6 +90,7 @@ loop-joined-preserved g t c =
           (subst (λ ks. c.descend.new.moves ≤ c.loop-joined.moves + cost_from (g.I.Indexes.state c.args.tables.now) c.args.plan.now.guides (drop (length ks) c.args.plan.now.levels) (length ks) (at ks)) pushed c.descend.ensures.cost) next.cost;
       credited = IsCredited-more (length (atoms_at c.args.plan.now.guides (length c.args.keys.now))) c.args.found.now.sense c.loop-joined.found.sense c.add_hits.new.sense c.descend.new.found.sense c.next_key.new.sense c.args.moves.now c.loop-joined.moves c.descend.new.moves c.next_key.new.moves c.loop-joined.joined.key c.next_key.new.joined.key
           inv.credited (omega arith) c.in_ok-add_hits.ensures.gaps few c.in_ok-stopped.ensures.gains gains;
+      under = under_more c.args.terms.now c.args.body.now c.args.plan.now (g.I.Indexes.state c.args.tables.now) c.args.keys.now c.push.new.self c.loop-joined.joined.key c.args.found.now c.loop-joined.found c.descend.new.found pushed inv.under c.in_ok-stopped.ensures.under;
       unfound = λ h. c.in_ok-stopped.ensures.unfound h c.if-stopped.false ∙ inv.unfound h;
       rises = omega (arith, inv.rises, c.descend.ensures.moves, c.next_key.ensures.moves);
       is_open = next.is_open;
@@ -224,3 +226,8 @@ returns-then-stopped-clause-iters g t c =
 
 pub returns-clause-iters : goal.returns-clause-iters
 returns-clause-iters g t c = c.loop-joined.invariant.iters
+
+pub returns-then-stopped-clause-under : goal.returns-then-stopped-clause-under
+returns-then-stopped-clause-under g t c =
+    let pushed : c.push.new.self ≡ c.args.keys.now ++ c.loop-joined.joined.key ∷ [] = c.in_ok-push.ensures.ok ∙ ap (λ ks. ks ++ c.loop-joined.joined.key ∷ []) c.loop-joined.invariant.way.same in
+    under_more c.args.terms.now c.args.body.now c.args.plan.now (g.I.Indexes.state c.args.tables.now) c.args.keys.now c.push.new.self c.loop-joined.joined.key c.args.found.now c.loop-joined.found c.descend.new.found pushed c.loop-joined.invariant.under c.in_ok-stopped.ensures.under

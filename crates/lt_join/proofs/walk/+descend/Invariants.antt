@@ -1,6 +1,6 @@
 use Rattle.std.proofs.Common.{◌≡◌, ◌-◌, ◌^◌, ◌≤◌, length, true}
 use Rattle.std.specs.List.{AllZip}
-use Rattle.lt_join.specs.Walked.{at}
+use Rattle.lt_join.specs.Walked.{at, AreFoundUnder}
 use Rattle.lt_join.specs.Holders.{IsOpen, IsTrieOf, left_of, atoms_at}
 use Rattle.lt_join.proofs.Steps.{IsUnderWay}
 use Rattle.lt_join.proofs.Costs.{IsPaid, IsCredited}
@@ -14,6 +14,7 @@ invariant-loop-joined g l = record {
   way : IsUnderWay l.fn.body l.fn.plan l.fn.terms (g.I.Indexes.state l.fn.tables) l.fn.found l.fn.keys l.level l.found l.keys l.joined.key;
   paid : IsPaid l.fn.plan (g.I.Indexes.state l.fn.tables) l.fn.keys l.level l.fn.moves l.moves (left_of l.joined.leap) l.joined.key;
   credited : IsCredited (length (atoms_at l.fn.plan.guides (length l.fn.keys))) l.fn.found.sense l.found.sense l.fn.moves l.moves l.joined.key;
+  under : AreFoundUnder l.fn.terms l.fn.body l.fn.plan (g.I.Indexes.state l.fn.tables) l.fn.keys l.fn.found l.found;
   unfound : l.fn.first ≡ true → l.found.rows ≡ l.fn.found.rows;
   rises : l.fn.moves ≤ l.moves;
   is_open : IsOpen l.fn.plan (g.I.Indexes.state l.fn.tables) l.fn.keys l.level l.joined.leap l.joined.key;

@@ -1,5 +1,5 @@
 use Rattle.std.proofs.Common.{refl}
-use Rattle.lt_program.proofs.Ready.{rises}
+use Rattle.lt_reference.proofs.Ready.{rises}
 use Rattle.lt_run_trials.proofs.Fitting.{can_run, rows_laid}
 use Rattle.lt_run_trials.proofs.serial.one_run.Goals as goal
 

@@ -1,16 +1,13 @@
-use Rattle.std.proofs.Common.{◌<◌, ◌++◌, ◌∷◌, [], length}
-use Rattle.lt_shared.proofs.Joins.{ascending-at, each-at, found-or_next}
+use Rattle.std.proofs.Common.{◌≡◌, ◌<◌, ◌++◌, ◌∷◌, [], length, List, ℕ, Some, IfSome, sym, ap, ◌∙◌, subst}
+use Rattle.std.specs.List.{AllByRecursion}
+use Rattle.lt_face.specs.Rows.{first_from}
+use Rattle.lt_shared.specs.Parts.{joined}
 use Rattle.lt_shared.proofs.search.near_among.Goals as goal
 
-pub row_near-found-requires-clause-rises : goal.row_near-found-requires-clause-rises
-row_near-found-requires-clause-rises g c =
-    ascending-at g.T.Part.rows c.args.parts.now c.place_near-at.result c.index-parts-at.result c.requires.rises c.place_near-at.ensures.within c.index-parts-at.is
+pub row_here-requires-clause-wide : goal.row_here-requires-clause-wide
+row_here-requires-clause-wide g c =
+    subst (λ (p : List ℕ). AllByRecursion (λ (row : List ℕ). length p < length row) (joined g.T.Part.rows c.args.parts.now)) (sym c.cells-cells.ensures.cells) c.requires.wide
 
-pub row_near-found-requires-clause-wide : goal.row_near-found-requires-clause-wide
-row_near-found-requires-clause-wide g c =
-    each-at (λ row. length c.args.prefix.now < length row) g.T.Part.rows c.args.parts.now c.place_near-at.result c.index-parts-at.result c.requires.wide c.place_near-at.ensures.within c.index-parts-at.is
-
-pub returns : goal.returns
-returns g c =
-    found-or_next g.T.Part.rows c.args.parts.now (c.args.prefix.now ++ c.args.bound ∷ []) c.place_near-at.result c.index-parts-at.result _ _
-    c.place_near-at.ensures c.index-parts-at.is c.row_near-found.ensures c.or_next.ensures
+pub row_near-requires-clause-wide : goal.row_near-requires-clause-wide
+row_near-requires-clause-wide g c =
+    subst (λ (p : List ℕ). AllByRecursion (λ (row : List ℕ). length p < length row) (joined g.T.Part.rows c.args.parts.now)) (sym c.cells-cells.ensures.cells) c.requires.wide

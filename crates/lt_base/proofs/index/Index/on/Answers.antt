@@ -5,16 +5,16 @@ use Rattle.lt_base.proofs.Sorts.{sorted_set, sorted_same}
 use Rattle.lt_base.proofs.index.Index.on.Goals as goal
 
 pub from_sorted-requires-clause-sorted : goal.from_sorted-requires-clause-sorted
-from_sorted-requires-clause-sorted c =
-    let moved = subst (λ (l : List Row). IsPermutation l c.sort_unstable.new.self.items) (c.in_ok-list.ensures ∙ ap (λ p. map (permuted p) c.args.rows.now.rows) c.as_slice.ensures) c.sort_unstable.ensures.permutation in
+from_sorted-requires-clause-sorted g c =
+    let moved = subst (λ (l : List Row). IsPermutation l c.sort_rows.new.rows.items) (c.in_ok-list.ensures ∙ ap (λ p. map (permuted p) c.args.rows.now.rows) c.as_slice.ensures) c.sort_rows.ensures.permutation in
     rw (c.width.ensures.value, c.from_vec.ensures)
-    (sorted_set c.args.rows.now.width c.args.perm.now c.args.rows.now.rows c.sort_unstable.new.self.items c.requires.perm c.width.ensures.is_set moved c.sort_unstable.ensures.sorted)
+    (sorted_set c.args.rows.now.width c.args.perm.now c.args.rows.now.rows c.sort_rows.new.rows.items c.requires.perm c.width.ensures.is_set moved c.sort_rows.ensures.sorted)
 
 pub returns-clause-indexed : goal.returns-clause-indexed
-returns-clause-indexed c =
-    let moved = subst (λ (l : List Row). IsPermutation l c.sort_unstable.new.self.items) (c.in_ok-list.ensures ∙ ap (λ p. map (permuted p) c.args.rows.now.rows) c.as_slice.ensures) c.sort_unstable.ensures.permutation in
+returns-clause-indexed g c =
+    let moved = subst (λ (l : List Row). IsPermutation l c.sort_rows.new.rows.items) (c.in_ok-list.ensures ∙ ap (λ p. map (permuted p) c.args.rows.now.rows) c.as_slice.ensures) c.sort_rows.ensures.permutation in
     record {
       wide = c.in_ok-rows.ensures.width ∙ c.width.ensures.value;
       same = rw (c.in_ok-rows.ensures.rows, c.from_vec.ensures, c.in_ok-columns.ensures)
-          (sorted_same c.args.rows.now.width c.args.perm.now c.args.rows.now.rows c.sort_unstable.new.self.items c.requires.perm c.width.ensures.is_set moved);
+          (sorted_same c.args.rows.now.width c.args.perm.now c.args.rows.now.rows c.sort_rows.new.rows.items c.requires.perm c.width.ensures.is_set moved);
     }

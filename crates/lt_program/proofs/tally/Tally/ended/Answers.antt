@@ -11,7 +11,7 @@ use Rattle.lt_program.proofs.tally.Tally.ended.Goals as goal
 use Rattle.lt_program.proofs.tally.Tally.ended.Goals.{After-is_over}
 
 over : (c : After-is_over) → c.is_over.result ≡ has_ended c.args.self.now
-over c = subst (λ (t : TallyView). c.is_over.result ≡ has_ended t) c.self.view_is (over_is (tally_of (arc_value c.self.inside.prog) c.self.inside.base c.self.inside.course) c.len.result c.is_over.result (c.len.ensures ∙ ap length c.deref.ensures) c.is_over.ensures)
+over c = subst (λ (t : TallyView). c.is_over.result ≡ has_ended t) c.self.view_is (over_is (tally_of (arc_value c.self.inside.prog) c.self.inside.base c.self.inside.course) (length c.statements.result.now) c.is_over.result (ap length (c.statements.ensures ∙ c.deref.ensures)) c.is_over.ensures)
 
 pub returns-clause-value : goal.returns-clause-value
 returns-clause-value c = over (goal.at.returns-clause-value c).After-is_over

@@ -6,19 +6,19 @@ use Rattle.lt_program.proofs.tally.Tally.marks_after.Goals as goal
 pub marks_past-requires-clause-first : goal.marks_past-requires-clause-first
 marks_past-requires-clause-first c =
     first_at (arc_value c.self.inside.prog) c.self.inside.base c.self.inside.course c.args.self.now c.self.view_is c.self.invariant
-    c.args.place c.as_slice.result.now c.index-as_slice-place.result c.as_slice-2.result.now c.index-as_slice-place-2.result c.requires.there (c.as_slice.ensures ∙ c.deref.ensures) c.index-as_slice-place.is c.as_slice-2.ensures c.index-as_slice-place-2.is c.part.result.now c.part.ensures
+    c.args.place c.statements.result.now c.index-statements-place.result c.as_slice.result.now c.index-as_slice-place.result c.requires.there (c.statements.ensures ∙ c.deref.ensures) c.index-statements-place.is c.as_slice.ensures c.index-as_slice-place.is c.part.result.now c.part.ensures
 
 pub marks_past-requires-clause-second : goal.marks_past-requires-clause-second
 marks_past-requires-clause-second c =
     second_at (arc_value c.self.inside.prog) c.self.inside.base c.self.inside.course c.args.self.now c.self.view_is c.self.invariant
-    c.args.place c.as_slice.result.now c.index-as_slice-place.result c.as_slice-2.result.now c.index-as_slice-place-2.result c.requires.there (c.as_slice.ensures ∙ c.deref.ensures) c.index-as_slice-place.is c.as_slice-2.ensures c.index-as_slice-place-2.is c.part.result.now c.part.ensures
+    c.args.place c.statements.result.now c.index-statements-place.result c.as_slice.result.now c.index-as_slice-place.result c.requires.there (c.statements.ensures ∙ c.deref.ensures) c.index-statements-place.is c.as_slice.ensures c.index-as_slice-place.is c.part.result.now c.part.ensures
 
 pub returns-clause-value : goal.returns-clause-value
 returns-clause-value c =
     after_is (arc_value c.self.inside.prog) c.self.inside.base c.self.inside.course c.args.self.now c.self.view_is c.self.invariant
-    c.args.place c.as_slice.result.now c.index-as_slice-place.result c.as_slice-2.result.now c.index-as_slice-place-2.result c.requires.there (c.as_slice.ensures ∙ c.deref.ensures) c.index-as_slice-place.is c.as_slice-2.ensures c.index-as_slice-place-2.is c.part.result.now c.args.before.now c.in_ok-marks.marks c.part.ensures c.requires.before c.in_ok-marks.ensures
+    c.args.place c.statements.result.now c.index-statements-place.result c.as_slice.result.now c.index-as_slice-place.result c.requires.there (c.statements.ensures ∙ c.deref.ensures) c.index-statements-place.is c.as_slice.ensures c.index-as_slice-place.is c.part.result.now c.args.before.now c.in_ok-marks.marks c.part.ensures c.requires.before c.in_ok-marks.ensures
 
 pub returns-clause-fits : goal.returns-clause-fits
 returns-clause-fits c =
     after_fits (arc_value c.self.inside.prog) c.self.inside.base c.self.inside.course c.args.self.now c.self.view_is c.self.invariant
-    c.args.place c.as_slice.result.now c.index-as_slice-place.result c.as_slice-2.result.now c.index-as_slice-place-2.result c.requires.there (c.as_slice.ensures ∙ c.deref.ensures) c.index-as_slice-place.is c.as_slice-2.ensures c.index-as_slice-place-2.is c.part.result.now c.args.before.now c.in_ok-marks.marks c.part.ensures c.requires.before c.in_ok-marks.ensures
+    c.args.place c.statements.result.now c.index-statements-place.result c.as_slice.result.now c.index-as_slice-place.result c.requires.there (c.statements.ensures ∙ c.deref.ensures) c.index-statements-place.is c.as_slice.ensures c.index-as_slice-place.is c.part.result.now c.args.before.now c.in_ok-marks.marks c.part.ensures c.requires.before c.in_ok-marks.ensures

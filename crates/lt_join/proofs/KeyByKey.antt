@@ -1,0 +1,189 @@
+-- The loop over the keys of the first level.
+use Rattle.std.specs.Prelude.{◌≡◌, ℕ, ◌+◌, ◌-◌, ◌^◌, ◌<◌, ◌≤◌, true, false, List, [], ◌∷◌, ◌++◌, map, length, slice_get, Some, ◌⊎◌}
+use Rattle.std.specs.List.{AllByRecursion, flat_map}
+use Rattle.std.proofs.Common.{refl, sym, ap, ◌∙◌, subst, inl, inr, arith}
+use Rattle.std.proofs.lemmas.Bool.{and_parts, ltb-true, le-ltb, cases_order}
+use Rattle.std.proofs.lemmas.List.{map-append}
+use Rattle.std.proofs.lemmas.Grind.{flat_map-append}
+use Rattle.std.specs.Prelude.{nat_lt}
+use Rattle.lt_face.specs.Lists.{IsIn}
+use Rattle.lt_face.specs.State.{State}
+use Rattle.lt_face.proofs.Membership.{IsIn-append_left, IsIn-append_right}
+use Rattle.lt_face.proofs.RowLemmas.{each_weaker}
+use Rattle.lt_model.specs.declared.normal.Term.{Term}
+use Rattle.lt_model.specs.declared.normal.Body.{Body}
+use Rattle.lt_model.specs.Cells.{is_cell}
+use Rattle.lt_leap.specs.Common.{common_keys}
+use Rattle.lt_query.specs.declared.plans.Level.{Level}
+use Rattle.lt_query.specs.declared.plans.Plan.{Plan}
+use Rattle.lt_query.specs.Lists.{IsOrderedBy, IsRising}
+use Rattle.lt_query.specs.Plan.{levels_of, term_at, IsPlanOf}
+use Rattle.lt_query.specs.Answering.{AreTestsBound}
+use Rattle.lt_model.specs.Answers.{answers, ascending}
+use Rattle.lt_model.specs.Bound.{are_bound}
+use Rattle.lt_sense.specs.declared.covering.KeptGap.{KeptGap}
+use Rattle.lt_sense.specs.Kept.{Sense}
+use Rattle.lt_sense.specs.Sense.{IsTight}
+use Rattle.lt_join.specs.declared.slicing.Slice.{Slice}
+use Rattle.lt_join.specs.Cost.{LevelGains, iterators_at}
+use Rattle.lt_join.specs.Explored.{Fits, before}
+use Rattle.lt_join.specs.Certify.{Certifies}
+use Rattle.lt_join.specs.Holders.{AreUnder}
+use Rattle.lt_join.specs.Sliced.{pinned, slice_keys, united, sliced_rows, CertifiesBut, IsSliceOf, AreRooted, AreRootGaps, AreFoundKeys}
+use Rattle.lt_join.specs.Walked.{at, IsSkipped, StandsAt}
+use Rattle.lt_join.proofs.Costs.{IsCredited}
+use Rattle.lt_join.proofs.Levels.{length_append}
+use Rattle.lt_join.proofs.Noting.{some_is}
+use Rattle.lt_join.proofs.Pinned.{term_in}
+use Rattle.lt_join.proofs.Repair.{All_at, All_of}
+use Rattle.lt_join.proofs.SliceLaws.{but_rooted, certified_whole, tight_whole, answers_whole}
+use Rattle.lt_join.proofs.Steps.{IsSkipped-grows}
+
+-- the slices so far, and where the first level stands
+pub record AreSliced (body : Body) (plan : Plan) (terms : List Term) (state : State) (level : Level) (root : Sense) (slices : List Slice) (key : ℕ) : Type 0 where
+  pub each : AllByRecursion (IsSliceOf terms body (term_at plan.levels 0) state) slices
+  pub rising : IsRising (slice_keys slices)
+  pub below : AllByRecursion (λ k. k < key) (slice_keys slices)
+  pub done : (k : ℕ) → is_cell k ≡ true → k < key → IsIn k (slice_keys slices) ⊎ IsSkipped plan root [] level k
+  pub common : AllByRecursion (λ k. IsIn k (common_keys (iterators_at state plan.guides level 0 (at [])))) (slice_keys slices)
+  pub tight : IsTight root state
+  pub gaps : AreRootGaps root
+  pub hits : root.hits ≡ []
+  pub at_key : key < 2 ^ 128 - 1 → (is_cell key ≡ true) × Fits level (at []) key
+
+all_one_more : {X : Type 0} (P : X → Type 0) (xs : List X) (x : X) → AllByRecursion P xs → P x → AllByRecursion P (xs ++ x ∷ [])
+all_one_more P [] x h k = (k, tt)
+all_one_more P (y ∷ xs) x h k = (h.0, all_one_more P xs x h.1 k)
+
+rising_more : (ks : List ℕ) (k : ℕ) → IsRising ks → AllByRecursion (λ j. j < k) ks → IsRising (ks ++ k ∷ [])
+rising_more [] k h b = (tt, tt)
+rising_more (j ∷ ks) k h b = (all_one_more (λ i. j < i) ks k h.0 b.0, rising_more ks k h.1 b.1)
+
+before_none : (ms : List ℕ) → before 0 ms ≡ []
+before_none [] = refl
+before_none (m ∷ ms) = let no_m : nat_lt m 0 ≡ false = le-ltb m 0 (omega arith) in rw no_m refl
+
+rooted_more : (old new : Sense) → AreRootGaps old → AreUnder [] old new → AreRootGaps new
+rooted_more old new so under =
+    All_of (λ (gap : KeptGap). gap.prefix ≡ []) new.gaps (λ gap there. elim (under gap there) [
+      | inl before_it ↦ All_at (λ (gap : KeptGap). gap.prefix ≡ []) old.gaps gap so before_it
+      | inr new_one ↦ new_one.1 ∙ ap (map (at [])) (before_none (levels_of new_one.0))
+    ])
+
+pub AreSliced-begun : (body : Body) (plan : Plan) (terms : List Term) (state : State) (level : Level) (old root : Sense) (slices : List Slice) (key : ℕ) → slices ≡ [] → old ≡ record { gaps = []; hits = [] } → root.hits ≡ old.hits → AreUnder [] old root → StandsAt plan state old root [] level 0 key → AreSliced body plan terms state level root slices key
+AreSliced-begun body plan terms state level old root slices key none empty same under stands = rw none (record {
+  each = tt;
+  rising = tt;
+  below = tt;
+  done = λ k cell lt. inr (stands.skipped k cell (omega arith) lt);
+  common = tt;
+  tight = stands.tight;
+  gaps = rooted_more old root (rw empty tt) under;
+  hits = same ∙ ap (λ (s : Sense). s.hits) empty;
+  at_key = stands.found;
+})
+
+-- one more slice, and the level went on
+pub AreSliced-more : (body : Body) (plan : Plan) (terms : List Term) (state : State) (level : Level) (root root' : Sense) (slices more : List Slice) (slice : Slice) (key key' : ℕ) → more ≡ slices ++ slice ∷ [] → slice.key ≡ key → IsSliceOf terms body (term_at plan.levels 0) state slice → key < key' → root'.hits ≡ root.hits → AreUnder [] root root' → StandsAt plan state root root' [] level (key + 1) key' → IsIn key (common_keys (iterators_at state plan.guides level 0 (at []))) → AreSliced body plan terms state level root slices key → AreSliced body plan terms state level root' more key'
+AreSliced-more body plan terms state level root root' slices more slice key key' is of_key is_slice rises same under stands is_common so =
+    let keys : slice_keys (slices ++ slice ∷ []) ≡ slice_keys slices ++ key ∷ [] = map-append (λ (s : Slice). s.key) slices (slice ∷ []) ∙ ap (λ k. slice_keys slices ++ k ∷ []) of_key in
+    rw is (record {
+      each = all_one_more (IsSliceOf terms body (term_at plan.levels 0) state) slices slice so.each is_slice;
+      rising = rw keys (rising_more (slice_keys slices) key so.rising so.below);
+      below = rw keys (all_one_more (λ k. k < key') (slice_keys slices) key (each_weaker (λ k. k < key) (λ k. k < key') (λ k lt. omega arith) (slice_keys slices) so.below) rises);
+      done = λ k cell lt.
+          elim (cases_order k key) [
+            | inl e ↦ inl (rw keys (IsIn-append_right k (slice_keys slices) (key ∷ []) (inl (sym e))))
+            | inr r ↦ elim r [
+              | inl earlier ↦ elim (so.done k cell earlier) [
+                | inl there ↦ inl (rw keys (IsIn-append_left k (slice_keys slices) (key ∷ []) there))
+                | inr skipped ↦ inr (IsSkipped-grows plan root root' stands.grows [] level k skipped)
+              ]
+              | inr after ↦ inr (stands.skipped k cell (omega arith) lt)
+            ]
+          ];
+      common = rw keys (all_one_more (λ k. IsIn k (common_keys (iterators_at state plan.guides level 0 (at [])))) (slice_keys slices) key so.common is_common);
+      tight = stands.tight;
+      gaps = rooted_more root root' so.gaps under;
+      hits = same ∙ so.hits;
+      at_key = stands.found;
+    })
+
+-- the level is at its end
+pub rooted_all : (body : Body) (plan : Plan) (terms : List Term) (state : State) (level : Level) (root : Sense) (slices : List Slice) (key : ℕ) → slice_get plan.levels 0 ≡ Some level → 2 ^ 128 - 1 ≤ key → AreSliced body plan terms state level root slices key → AreRooted plan root (slice_keys slices)
+rooted_all body plan terms state level root slices key first ended so other is k cell =
+    let small : k < 2 ^ 120 = ltb-true k (2 ^ 120) (and_parts (nat_lt 0 k) (nat_lt k (2 ^ 120)) cell).1 in
+    let same : level ≡ other = some_is level other (sym first ∙ is) in
+    subst (λ (lv : Level). IsIn k (slice_keys slices) ⊎ IsSkipped plan root [] lv k) same (so.done k cell (omega arith))
+
+pub found_all_keys : (body : Body) (plan : Plan) (terms : List Term) (state : State) (level : Level) (root : Sense) (slices : List Slice) (key : ℕ) → slice_get plan.levels 0 ≡ Some level → AreSliced body plan terms state level root slices key → AreFoundKeys plan state (slice_keys slices)
+found_all_keys body plan terms state level root slices key first so other is =
+    let same : level ≡ other = some_is level other (sym first ∙ is) in
+    subst (λ (lv : Level). AllByRecursion (λ k. IsIn k (common_keys (iterators_at state plan.guides lv 0 (at [])))) (slice_keys slices)) same so.common
+
+-- ---- what is kept, counted
+
+pub none_united : (root : Sense) (slices : List Slice) → slices ≡ [] → united root slices ≡ record { gaps = root.gaps ++ []; hits = root.hits ++ [] }
+none_united root slices e = rw e refl
+
+pub credited_begun : (atoms : ℕ) (old root : Sense) (slices : List Slice) (begun now key : ℕ) → slices ≡ [] → old ≡ record { gaps = []; hits = [] } → LevelGains atoms old root begun now key → IsCredited atoms (record { gaps = []; hits = [] }) (united root slices) begun now key
+credited_begun atoms old root slices begun now key none empty level =
+    let g : length (united root slices).gaps ≡ length root.gaps = rw none (let a = length_append root.gaps [] in omega arith) in
+    let h : length (united root slices).hits ≡ length root.hits = rw none (let a = length_append root.hits [] in omega arith) in
+    let no_gaps : length old.gaps ≡ 0 = ap (λ (s : Sense). length s.gaps) empty in
+    let no_hits : length old.hits ≡ 0 = ap (λ (s : Sense). length s.hits) empty in
+    let e = ap length level.hits in
+    let r = level.rises in
+    let a = level.gaps in
+    record {
+      gains = record { gaps = omega arith; hits = omega arith };
+      credit = λ at_key. (let p = level.paid at_key in omega arith);
+    }
+
+length_more : {X : Type 0} (first : List X) (part : Slice → List X) (slices : List Slice) (slice : Slice) → length (first ++ flat_map part (slices ++ slice ∷ [])) ≡ length (first ++ flat_map part slices) + length (part slice)
+length_more first part slices slice =
+    let a = length_append first (flat_map part (slices ++ slice ∷ [])) in
+    let b = length_append first (flat_map part slices) in
+    let c = ap length (flat_map-append part slices (slice ∷ [])) in
+    let d = length_append (flat_map part slices) (flat_map part (slice ∷ [])) in
+    let e = length_append (part slice) [] in
+    omega arith
+
+pub credited_more : (atoms : ℕ) (root root' : Sense) (slices more : List Slice) (slice : Slice) (begun now after end key key' : ℕ) → more ≡ slices ++ slice ∷ [] → key < 2 ^ 128 - 1
+    → length slice.sense.gaps + now ≤ after → length slice.sense.hits + now ≤ after + atoms → LevelGains atoms root root' after end key'
+    → IsCredited atoms (record { gaps = []; hits = [] }) (united root slices) begun now key → IsCredited atoms (record { gaps = []; hits = [] }) (united root' more) begun end key'
+credited_more atoms root root' slices more slice begun now after end key key' is at_key few_gaps few_hits level so = rw is (
+    let g = length_more root'.gaps (λ (s : Slice). s.sense.gaps) slices slice in
+    let g0 = length_append root.gaps (flat_map (λ (s : Slice). s.sense.gaps) slices) in
+    let g1 = length_append root'.gaps (flat_map (λ (s : Slice). s.sense.gaps) slices) in
+    let h = length_more root'.hits (λ (s : Slice). s.sense.hits) slices slice in
+    let h0 = length_append root.hits (flat_map (λ (s : Slice). s.sense.hits) slices) in
+    let h1 = length_append root'.hits (flat_map (λ (s : Slice). s.sense.hits) slices) in
+    let e = ap length level.hits in
+    let r = level.rises in
+    let a = level.gaps in
+    let b = so.gains.gaps in
+    let c = so.credit at_key in
+    record {
+      gains = record { gaps = omega arith; hits = omega arith };
+      credit = λ at_key'. (let p = level.paid at_key' in omega arith);
+    })
+
+-- ---- at the end
+
+pub but_sliced : (body : Body) (plan : Plan) (terms : List Term) (state : State) (level : Level) (root : Sense) (slices : List Slice) (key : ℕ) → IsPlanOf body plan → 0 < length plan.levels → slice_get plan.levels 0 ≡ Some level → 2 ^ 128 - 1 ≤ key → AreSliced body plan terms state level root slices key → CertifiesBut (slice_keys slices) (term_at plan.levels 0) root body state
+but_sliced body plan terms state level root slices key of_body some first ended so =
+    but_rooted body plan root state (slice_keys slices) of_body some so.tight (rooted_all body plan terms state level root slices key first ended so)
+
+pub certified_sliced : (body : Body) (plan : Plan) (terms : List Term) (state : State) (level : Level) (root : Sense) (slices : List Slice) (key : ℕ) → IsPlanOf body plan → 0 < length plan.levels → slice_get plan.levels 0 ≡ Some level → 2 ^ 128 - 1 ≤ key → AreSliced body plan terms state level root slices key → Certifies (united root slices) body state
+certified_sliced body plan terms state level root slices key of_body some first ended so =
+    certified_whole root slices (term_at plan.levels 0) body state (but_sliced body plan terms state level root slices key of_body some first ended so)
+    (each_weaker (IsSliceOf terms body (term_at plan.levels 0) state) (λ (slice : Slice). Certifies slice.sense (pinned (term_at plan.levels 0) slice.key body) state) (λ slice h. h.certified) slices so.each)
+
+pub tight_sliced : (body : Body) (plan : Plan) (terms : List Term) (state : State) (level : Level) (root : Sense) (slices : List Slice) (key : ℕ) → AreSliced body plan terms state level root slices key → IsTight (united root slices) state
+tight_sliced body plan terms state level root slices key so =
+    tight_whole root slices state so.tight (each_weaker (IsSliceOf terms body (term_at plan.levels 0) state) (λ (slice : Slice). IsTight slice.sense state) (λ slice h. h.tight) slices so.each)
+
+pub rows_sliced : (body : Body) (plan : Plan) (terms : List Term) (state : State) (level : Level) (root : Sense) (slices : List Slice) (key : ℕ) → IsPlanOf body plan → AreTestsBound body → are_bound body terms ≡ true → 0 < length plan.levels → slice_get plan.levels 0 ≡ Some level → 2 ^ 128 - 1 ≤ key → AreSliced body plan terms state level root slices key → ascending (sliced_rows slices) ≡ answers terms body state
+rows_sliced body plan terms state level root slices key of_body whole heads some first ended so =
+    sym (answers_whole root slices terms (term_at plan.levels 0) body state whole heads (term_in body plan of_body 0 some) (but_sliced body plan terms state level root slices key of_body some first ended so) so.each)

@@ -1,0 +1,174 @@
+//! The answers of a body, key by key of its first variable.
+ghost use Rattle.std.specs.Prelude.{◌≡◌, ◌≤◌, ◌<◌, ◌+◌, ◌-◌, ◌^◌, ◌∷◌, [], List, true, length, slice_get, drop, Some, IfOk, IsTrue};
+ghost use Rattle.std.specs.List.{AllByRecursion, AllZip};
+ghost use Rattle.lt_face.specs.Lists.{IsIn};
+ghost use Rattle.lt_face.specs.State.{State};
+ghost use Rattle.lt_model.specs.declared.normal.Term.{Term as TermView};
+ghost use Rattle.lt_model.specs.declared.normal.Body.{Body as BodyView};
+ghost use Rattle.lt_model.specs.Answers.{answers as answers_of, ascending as ascending_rows, terms_of};
+ghost use Rattle.lt_model.specs.Bound.{are_bound};
+ghost use Rattle.lt_model.specs.Cells.{is_cell};
+ghost use Rattle.lt_model.specs.Fits.{IsBodyOf};
+ghost use Rattle.lt_query.specs.Answering.{AreTestsBound};
+ghost use Rattle.lt_query.specs.Lists.{IsRising};
+ghost use Rattle.lt_query.specs.Plan.{IsPlanOf, term_at};
+ghost use Rattle.lt_query.specs.Runnable.{IsRunnable};
+ghost use Rattle.lt_sense.specs.Kept.{Sense as SenseView};
+ghost use Rattle.lt_sense.specs.Sense.{IsTight};
+ghost use Rattle.lt_join.specs.Certify.{Certifies};
+ghost use Rattle.lt_join.specs.Cost.{bound, cost_from};
+ghost use Rattle.lt_join.specs.Explored.{Fits};
+ghost use Rattle.lt_join.specs.Holders.{IsPrepared, IsTrieOf, IsOpen, atoms_at};
+ghost use Rattle.lt_join.specs.Walked.{at};
+ghost use Rattle.lt_join.specs.declared.slicing.Slice.{Slice as SliceView};
+ghost use Rattle.lt_join.specs.Sliced.{pinned, slice_keys, united, sliced_rows, CertifiesBut, IsSliceOf, AreRooted, AreRootGaps, AreFoundKeys};
+
+use crate::Found;
+use crate::ascending::ascending;
+use crate::level::{Joined, next_key, open_level};
+use crate::noted::NotedGaps;
+use crate::walk::{add_hits, descend, enter, leave, roots_of};
+use lt_face::indexes::Indexes;
+use lt_face::items::{Items, RowList};
+use lt_face::key::{END, Key};
+use lt_face::memory::NoMemory;
+use lt_face::moves::Moves;
+use lt_query::{Body, Level, Plan, TermList};
+use lt_sense::Sense;
+use lt_trie::TrieIter;
+use std::alloc::Global;
+
+/// What a body answers under one key of its first variable, and what that was sensitive to.
+#[derive(Drop)]
+pub struct Slice {
+    pub key: Key,
+    pub rows: RowList,
+    pub sense: Sense,
+}
+
+/// Slices, ascending by their keys.
+pub type SliceList = Items<Slice>;
+
+/// Where a sense certifies a body but for some keys of a term of its atoms, it and slices for these keys certify the whole
+/// body; they are tight together, and the body's answers are those of the slices.
+pub fn slices_make_the_whole()
+    ensures certified { (root : SenseView) (slices : List SliceView) (term : TermView) (body : BodyView) (state : State) → CertifiesBut (slice_keys slices) term root body state → AllByRecursion (λ slice. Certifies slice.sense (pinned term slice.key body) state) slices → Certifies (united root slices) body state }
+    ensures tight { (root : SenseView) (slices : List SliceView) (state : State) → IsTight root state → AllByRecursion (λ slice. IsTight slice.sense state) slices → IsTight (united root slices) state }
+    ensures answers { (root : SenseView) (slices : List SliceView) (terms : List TermView) (term : TermView) (body : BodyView) (state : State) → AreTestsBound body → are_bound body terms ≡ true → IsIn term (terms_of body.atoms) → CertifiesBut (slice_keys slices) term root body state → AllByRecursion (IsSliceOf terms body term state) slices → answers_of terms body state ≡ ascending_rows (sliced_rows slices) }
+{}
+
+/// The slice of the key where the first level stands.
+fn slice_at<'a, I: Indexes, L>(
+    alloc: Global,
+    tables: &'a I,
+    iters: &mut Vec<TrieIter<'a, I::Rows>>,
+    joined: &Joined<'a, I::Rows>,
+    body: &Body,
+    plan: &Plan,
+    level: &Level,
+    terms: &TermList,
+    keys: &mut Items<Key>,
+    noted: &mut NotedGaps,
+    moves: &mut Moves<L>,
+) -> Result<Slice, NoMemory>
+    requires of_body { IsPlanOf body.now plan.now }
+    requires prepared { IsPrepared body.now plan.now terms.now }
+    requires tests { AreTestsBound body.now }
+    requires heads { IsTrue (are_bound body.now terms.now) }
+    requires first { slice_get plan.now.levels 0 ≡ Some level.now }
+    requires at_root { keys.old ≡ [] }
+    requires iters { AllZip (IsTrieOf (I.state tables.now) (length keys.old) (at keys.old)) plan.now.guides iters.old.items }
+    requires is_open { IsOpen plan.now (I.state tables.now) keys.old level.now joined.now.leap joined.now.key }
+    requires stands { (is_cell joined.now.key ≡ true) × Fits level.now (at keys.old) joined.now.key }
+    requires at_key { joined.now.key < 2 ^ 128 - 1 }
+    // also where memory is refused
+    ensures cost { moves.new ≤ moves.old + cost_from (I.state tables.now) plan.now.guides (drop 1 plan.now.levels) 1 (at (joined.now.key ∷ [])) }
+    ensures moves { moves.old ≤ moves.new }
+    ensures back { IfOk result (λ _. keys.new ≡ keys.old) }
+    ensures iters { IfOk result (λ _. AllZip (IsTrieOf (I.state tables.now) (length keys.old) (at keys.old)) plan.now.guides iters.new.items) }
+    ensures key { IfOk result (λ slice. slice.key ≡ joined.now.key) }
+    ensures slice { IfOk result (IsSliceOf terms.now body.now (term_at plan.now.levels 0) (I.state tables.now)) }
+    ensures gaps { IfOk result (λ slice. length slice.sense.gaps + moves.old ≤ moves.new) }
+    ensures hits { IfOk result (λ slice. length slice.sense.hits + moves.old ≤ moves.new + length (atoms_at plan.now.guides 0)) }
+{
+    let empty = Items::new(alloc);
+    let mut found = Found {
+        sense: Sense::new(alloc),
+        rows: empty,
+    };
+    enter(tables, iters, joined, plan, level, keys);
+    keys.push(joined.key)?;
+    add_hits(alloc, tables, iters, plan, keys, &mut found.sense)?;
+    descend(
+        alloc, tables, iters, body, plan, terms, keys, noted, &mut found, moves, false,
+    )?;
+    keys.pop();
+    leave(tables, iters, plan, keys, joined.key);
+    let rows = ascending(found.rows.into_vec())?;
+    Ok(Slice {
+        key: joined.key,
+        rows,
+        sense: found.sense,
+    })
+}
+
+/// The body's answers and what they were sensitive to, key by key of its first variable: the root gaps, which are those of
+/// that variable's level, and a slice for each key that was found there. The body has an atom; else it is as in `answers`.
+pub fn slices<I: Indexes, L>(
+    alloc: Global,
+    body: &Body,
+    plan: &Plan,
+    terms: &TermList,
+    indexes: &I,
+    moves: &mut Moves<L>,
+) -> Result<(Sense, SliceList), NoMemory>
+    requires of_body { IsPlanOf body.now plan.now }
+    requires runnable { IsRunnable body.now plan.now }
+    requires fits { IsBodyOf (I.state indexes.now) body.now }
+    requires has_indexes { AllByRecursion (λ guide. I.has_index indexes.now guide.relation guide.columns ≡ true) plan.now.guides }
+    requires are_bound { IsTrue (are_bound body.now terms.now) }
+    requires narrow { length terms.now ≤ 8 }
+    requires has_levels { 0 < length plan.now.levels }
+    ensures ascending { IfOk result (λ found. IsRising (slice_keys found.1)) }
+    ensures slices { IfOk result (λ found. AllByRecursion (IsSliceOf terms.now body.now (term_at plan.now.levels 0) (I.state indexes.now)) found.1) }
+    ensures found { IfOk result (λ found. AreFoundKeys plan.now (I.state indexes.now) (slice_keys found.1)) }
+    ensures rooted { IfOk result (λ found. AreRooted plan.now found.0 (slice_keys found.1)) }
+    ensures root_gaps { IfOk result (λ found. AreRootGaps found.0) }
+    ensures root_hits { IfOk result (λ found. found.0.hits ≡ []) }
+    ensures rows { IfOk result (λ found. ascending_rows (sliced_rows found.1) ≡ answers_of terms.now body.now (I.state indexes.now)) }
+    ensures certified { IfOk result (λ found. Certifies (united found.0 found.1) body.now (I.state indexes.now)) }
+    ensures tight { IfOk result (λ found. IsTight (united found.0 found.1) (I.state indexes.now)) }
+    ensures gaps { IfOk result (λ found. moves.old + length (united found.0 found.1).gaps ≤ moves.new) }
+    ensures hits { IfOk result (λ found. moves.old + length (united found.0 found.1).hits ≤ moves.new) }
+    // also where memory is refused
+    ensures cost { moves.new ≤ moves.old + bound plan.now (I.state indexes.now) }
+    ensures moves { moves.old ≤ moves.new }
+{
+    let mut keys = Items::new(alloc);
+    let mut noted = NotedGaps::new(alloc);
+    let mut iters = roots_of(alloc, indexes, plan)?;
+    let mut root = Sense::new(alloc);
+    let mut slices = Items::new(alloc);
+    let level = &plan.levels.as_slice()[0];
+    let mut joined = open_level(
+        alloc, indexes, &iters, plan, level, &keys, &mut noted, &mut root, moves,
+    )?;
+    while joined.key < END {
+        let slice = slice_at(
+            alloc, indexes, &mut iters, &joined, body, plan, level, terms, &mut keys, &mut noted,
+            moves,
+        )?;
+        slices.push(slice)?;
+        next_key(
+            indexes,
+            &mut joined,
+            plan,
+            level,
+            &keys,
+            &mut noted,
+            &mut root,
+            moves,
+        )?;
+    }
+    Ok((root, slices))
+}

@@ -1,5 +1,0 @@
-use Rattle.std.proofs.Common.{rules}
-use Rattle.lt_program.proofs.matching.accept.Goals as goal
-
-pub returns-in-Cell : goal.returns-in-Cell
-returns-in-Cell c = search rules

@@ -1,5 +1,0 @@
-use Rattle.std.proofs.Common.{◌≡◌, take}
-use Rattle.lt_program.proofs.plain.all_copied.Given as goal
-
-abbrev pub invariant-loop-rows : goal.invariant-loop-rows
-invariant-loop-rows l = l.copies.items ≡ take l.rows-index l.relations

@@ -1,7 +1,0 @@
-use Rattle.std.proofs.Common.{◌≡◌, take, false}
-use Rattle.std.specs.List.{list_any}
-use Rattle.lt_program.specs.Run.{reads_rows}
-use Rattle.lt_program.proofs.plain.reads.Given as goal
-
-abbrev pub invariant-loop-stmt : goal.invariant-loop-stmt
-invariant-loop-stmt l = list_any reads_rows (take l.stmt-index l.prog) ≡ false

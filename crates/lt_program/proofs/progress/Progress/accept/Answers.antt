@@ -1,5 +1,0 @@
-use Rattle.std.proofs.Common.{rules}
-use Rattle.lt_program.proofs.progress.Progress.accept.Goals as goal
-
-pub returns-in_ok-self-in-Writes : goal.returns-in_ok-self-in-Writes
-returns-in_ok-self-in-Writes c = search rules

@@ -1,0 +1,197 @@
+//! The answers of a statement's heads by a join of its body. The two heads of a `replace` are answered by one join, where the
+//! cells of both have room in a row. What is said of moves holds also where memory is refused.
+ghost use Rattle.std.specs.Prelude.{◌≡◌, ◌+◌, ◌≤◌, ◌++◌, length, map, take, drop, IfOk};
+ghost use Rattle.lt_model.specs.Answers.{answers as answers_of};
+ghost use Rattle.lt_model.specs.Fits.{IsBodyOf};
+ghost use Rattle.lt_base.specs.Tables.{state_of};
+ghost use Rattle.lt_query.specs.Stated.{stated_plan};
+ghost use Rattle.lt_sense.specs.Sense.{IsTight};
+ghost use Rattle.lt_join.specs.Certify.{Certifies};
+ghost use Rattle.lt_join.specs.Cost.{bound};
+ghost use Rattle.lt_program.specs.Planned.{IsPlanned, ArePicked};
+ghost use Rattle.lt_program.specs.Tally.{HasIndexesOf};
+
+use lt_base::Database;
+use lt_face::items::RowList;
+use lt_face::memory::NoMemory;
+use lt_face::moves::Moves;
+use lt_face::row::Row;
+use lt_join::answers;
+use lt_join::ascending::ascending;
+use lt_model::normal::{Body, TermList};
+use lt_query::Plan;
+use lt_sense::Sense;
+use std::alloc::Global;
+
+/// How many cells a row has room for.
+const MOST_CELLS: usize = 8;
+
+/// The answers of two heads, and what they were sensitive to.
+#[derive(Drop)]
+pub(crate) struct Pair {
+    pub first: RowList,
+    pub second: RowList,
+    pub sense: Sense,
+}
+
+/// The terms' answers on the database.
+pub(crate) fn found<L>(
+    alloc: Global,
+    tables: &Database,
+    body: &Body,
+    plan: &Plan,
+    terms: &TermList,
+    moves: &mut Moves<L>,
+) -> Result<(RowList, Sense), NoMemory>
+    requires plan { IsPlanned body.now plan.now }
+    requires indexes { HasIndexesOf tables.now body.now }
+    requires fits { IsBodyOf (state_of tables.now) body.now }
+    requires terms { ArePicked body.now terms.now }
+    ensures rows { IfOk result (λ found. found.0 ≡ answers_of terms.now body.now (state_of tables.now)) }
+    ensures certified { IfOk result (λ found. Certifies found.1 body.now (state_of tables.now)) }
+    ensures tight { IfOk result (λ found. IsTight found.1 (state_of tables.now)) }
+    ensures cost { moves.new ≤ moves.old + bound (stated_plan body.now) (state_of tables.now) }
+    ensures moves { moves.old ≤ moves.new }
+{
+    let found = answers(alloc, body, plan, terms, tables, moves)?;
+    Ok(found)
+}
+
+/// The terms of both heads, in this order.
+fn terms_of_both(first: &TermList, second: &TermList) -> Result<TermList, NoMemory>
+    ensures { IfOk result (λ both. both ≡ first.now ++ second.now) }
+{
+    let mut both = first.copy()?;
+    for term in second.as_slice() {
+        both.push(*term)?;
+    }
+    Ok(both)
+}
+
+/// The row's cells before a column, and those from it on.
+fn cut(alloc: Global, row: &Row, at: usize) -> (Row, Row)
+    ensures before { result.0 ≡ take at row.now }
+    ensures from { result.1 ≡ drop at row.now }
+{
+    let cells = row.cells();
+    if at > cells.len() {
+        return (row.copy_row(), Row::from_cells(alloc, &[]));
+    }
+    let (before, from) = cells.split_at(at);
+    (Row::from_cells(alloc, before), Row::from_cells(alloc, from))
+}
+
+/// The rows' cells before a column, and those from it on.
+fn parted(alloc: Global, rows: &RowList, at: usize) -> Result<(Vec<Row>, Vec<Row>), NoMemory>
+    ensures before { IfOk result (λ parts. parts.0.items ≡ map (take at) rows.now) }
+    ensures from { IfOk result (λ parts. parts.1.items ≡ map (drop at) rows.now) }
+{
+    let mut before = Vec::with_capacity(alloc, rows.len())?;
+    let mut from = Vec::with_capacity(alloc, rows.len())?;
+    for row in rows.as_slice() {
+        let halves = cut(alloc, row, at);
+        before.push(halves.0)?;
+        from.push(halves.1)?;
+    }
+    Ok((before, from))
+}
+
+/// The answers of two heads whose cells have room in one row, by one join.
+fn found_once<L>(
+    alloc: Global,
+    tables: &Database,
+    body: &Body,
+    plan: &Plan,
+    first: &TermList,
+    second: &TermList,
+    moves: &mut Moves<L>,
+) -> Result<Pair, NoMemory>
+    requires plan { IsPlanned body.now plan.now }
+    requires indexes { HasIndexesOf tables.now body.now }
+    requires fits { IsBodyOf (state_of tables.now) body.now }
+    requires first { ArePicked body.now first.now }
+    requires second { ArePicked body.now second.now }
+    requires narrow { length first.now + length second.now ≤ 8 }
+    ensures first { IfOk result (λ pair. pair.first ≡ answers_of first.now body.now (state_of tables.now)) }
+    ensures second { IfOk result (λ pair. pair.second ≡ answers_of second.now body.now (state_of tables.now)) }
+    ensures certified { IfOk result (λ pair. Certifies pair.sense body.now (state_of tables.now)) }
+    ensures tight { IfOk result (λ pair. IsTight pair.sense (state_of tables.now)) }
+    ensures cost { moves.new ≤ moves.old + bound (stated_plan body.now) (state_of tables.now) }
+    ensures moves { moves.old ≤ moves.new }
+{
+    let terms = terms_of_both(first, second)?;
+    let found = found(alloc, tables, body, plan, &terms, moves)?;
+    let (rows, sense) = found;
+    let parts = parted(alloc, &rows, first.len())?;
+    let (before, from) = parts;
+    let first = ascending(before)?;
+    let second = ascending(from)?;
+    Ok(Pair {
+        first,
+        second,
+        sense,
+    })
+}
+
+/// The answers of two heads, by a join for each.
+fn found_apart<L>(
+    alloc: Global,
+    tables: &Database,
+    body: &Body,
+    plan: &Plan,
+    first: &TermList,
+    second: &TermList,
+    moves: &mut Moves<L>,
+) -> Result<Pair, NoMemory>
+    requires plan { IsPlanned body.now plan.now }
+    requires indexes { HasIndexesOf tables.now body.now }
+    requires fits { IsBodyOf (state_of tables.now) body.now }
+    requires first { ArePicked body.now first.now }
+    requires second { ArePicked body.now second.now }
+    ensures first { IfOk result (λ pair. pair.first ≡ answers_of first.now body.now (state_of tables.now)) }
+    ensures second { IfOk result (λ pair. pair.second ≡ answers_of second.now body.now (state_of tables.now)) }
+    ensures certified { IfOk result (λ pair. Certifies pair.sense body.now (state_of tables.now)) }
+    ensures tight { IfOk result (λ pair. IsTight pair.sense (state_of tables.now)) }
+    ensures cost { moves.new ≤ moves.old + (bound (stated_plan body.now) (state_of tables.now) + bound (stated_plan body.now) (state_of tables.now)) }
+    ensures moves { moves.old ≤ moves.new }
+{
+    let one = found(alloc, tables, body, plan, first, moves)?;
+    let other = found(alloc, tables, body, plan, second, moves)?;
+    let (first, sense) = one;
+    let (second, _) = other;
+    Ok(Pair {
+        first,
+        second,
+        sense,
+    })
+}
+
+/// The answers of two heads on the database.
+pub(crate) fn found_both<L>(
+    alloc: Global,
+    tables: &Database,
+    body: &Body,
+    plan: &Plan,
+    first: &TermList,
+    second: &TermList,
+    moves: &mut Moves<L>,
+) -> Result<Pair, NoMemory>
+    requires plan { IsPlanned body.now plan.now }
+    requires indexes { HasIndexesOf tables.now body.now }
+    requires fits { IsBodyOf (state_of tables.now) body.now }
+    requires first { ArePicked body.now first.now }
+    requires second { ArePicked body.now second.now }
+    ensures first { IfOk result (λ pair. pair.first ≡ answers_of first.now body.now (state_of tables.now)) }
+    ensures second { IfOk result (λ pair. pair.second ≡ answers_of second.now body.now (state_of tables.now)) }
+    ensures certified { IfOk result (λ pair. Certifies pair.sense body.now (state_of tables.now)) }
+    ensures tight { IfOk result (λ pair. IsTight pair.sense (state_of tables.now)) }
+    ensures cost { moves.new ≤ moves.old + (bound (stated_plan body.now) (state_of tables.now) + bound (stated_plan body.now) (state_of tables.now)) }
+    ensures moves { moves.old ≤ moves.new }
+{
+    if first.len() + second.len() <= MOST_CELLS {
+        let pair = found_once(alloc, tables, body, plan, first, second, moves)?;
+        return Ok(pair);
+    }
+    let pair = found_apart(alloc, tables, body, plan, first, second, moves)?;
+    Ok(pair)
+}

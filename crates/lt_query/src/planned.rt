@@ -1,0 +1,216 @@
+//! Programs with what the shapes of their statements' bodies decide of the plans. In a list of programs each shape is planned
+//! once.
+ghost use Rattle.std.specs.Prelude.{◌≡◌, ◌↔◌, map, IfOk, IfSome};
+ghost use Rattle.std.specs.Arc.{arc_value};
+ghost use Rattle.std.specs.List.{AllByRecursion};
+ghost use Rattle.lt_face.specs.Lists.{IsIn};
+ghost use Rattle.lt_query.specs.declared.plans.IndexName.{IndexName as IndexNameType};
+ghost use Rattle.lt_query.specs.Lists.{IsDistinct};
+ghost use Rattle.lt_query.specs.Needs.{IsNeeded, HaveNames};
+ghost use Rattle.lt_query.specs.Planned.{route_of, routes_of, HaveWidths};
+ghost use Rattle.lt_query.specs.Runnable.{HasWidths};
+
+use crate::indexes::{add_names, body_of};
+use crate::planning::route;
+use crate::shape::same_shape;
+use crate::{Body, Perms, Prog, Route, Stmt};
+use lt_face::items::Items;
+use lt_face::memory::NoMemory;
+use std::alloc::Global;
+use std::marker::Model;
+use std::sync::Arc;
+
+/// How many shapes are looked through at most.
+const MOST_SHAPES: usize = 16;
+
+/// A program with the route of each of its statements.
+#[derive(Drop)]
+pub struct Planned {
+    prog: Arc<Prog>,
+    routes: Items<Arc<Route>>,
+}
+
+impl Model for Planned {
+    ghost use Rattle.std.specs.Prelude.{◌≡◌, List, map};
+    ghost use Rattle.std.specs.Arc.{arc_value};
+    ghost use Rattle.lt_model.specs.declared.normal.Stmt.{Stmt};
+    ghost use Rattle.lt_query.specs.Planned.{routes_of};
+
+    ghost Value = { List Stmt };
+
+    ghost view = { λ p. arc_value p.prog };
+
+    ghost invariant = { λ p. map arc_value p.routes ≡ routes_of (arc_value p.prog) };
+}
+
+impl Planned {
+    /// The program with the routes of its statements. Each atom has 1 to 8 terms.
+    pub fn new(alloc: Global, prog: &Arc<Prog>) -> Result<Planned, NoMemory>
+        requires widths { HaveWidths (arc_value prog.now) }
+        ensures { IfOk result (λ planned. planned ≡ arc_value prog.now) }
+    {
+        let made = with_routes(alloc, &[], &[], prog)?;
+        let (planned, _) = made;
+        Ok(planned)
+    }
+
+    /// The statements.
+    pub fn statements(&self) -> &[Stmt]
+        ensures { result.now ≡ self.now }
+    {
+        self.prog.as_slice()
+    }
+
+    /// The route of each statement's body.
+    pub fn routes(&self) -> &[Arc<Route>]
+        ensures { map arc_value result.now ≡ routes_of self.now }
+    {
+        self.routes.as_slice()
+    }
+
+    /// What the program takes its memory from.
+    pub fn allocator(&self) -> Global {
+        self.prog.allocator()
+    }
+
+    /// The indexes that the plans go through, each once: of each, the relation and the order of its columns.
+    pub fn needs(&self) -> Result<Perms, NoMemory>
+        ensures once { IfOk result (λ names. IsDistinct names) }
+        ensures needed { IfOk result (λ names. (name : IndexNameType) → IsIn name names ↔ IsNeeded self.now name) }
+        ensures each { IfOk result (λ names. HaveNames names self.now) }
+    {
+        let mut names = Items::new(self.allocator());
+        for route in self.routes() {
+            add_names(&mut names, route.guides.as_slice())?;
+        }
+        Ok(names)
+    }
+}
+
+/// Where a body stands: its program's place, and its statement's place there.
+#[derive(Clone, Copy)]
+struct Spot {
+    prog: usize,
+    stmt: usize,
+}
+
+/// The route of a body that stands there, if it has the shape of this one.
+fn route_at<'a>(planned: &'a [Arc<Planned>], spot: Spot, body: &Body) -> Option<&'a Arc<Route>>
+    ensures { IfSome result (λ route. arc_value route.now ≡ route_of body.now) }
+{
+    if spot.prog >= planned.len() {
+        return None;
+    }
+    let prog: &'a Planned = &planned[spot.prog];
+    let place = spot.stmt;
+    let stmts = prog.statements();
+    if place >= stmts.len() {
+        return None;
+    }
+    let all = prog.routes();
+    if place >= all.len() {
+        return None;
+    }
+    let stmt = &stmts[place];
+    let route = &all[place];
+    if same_shape(body_of(stmt), body) {
+        return Some(route);
+    }
+    None
+}
+
+/// The route of the body's shape, if one of these has it.
+fn known<'a>(planned: &'a [Arc<Planned>], spots: &[Spot], body: &Body) -> Option<&'a Arc<Route>>
+    ensures { IfSome result (λ route. arc_value route.now ≡ route_of body.now) }
+{
+    for spot in spots {
+        if let Some(route) = route_at(planned, *spot, body) {
+            return Some(route);
+        }
+    }
+    None
+}
+
+/// The route of the body's shape, and whether it is new.
+fn route_for(
+    alloc: Global,
+    planned: &[Arc<Planned>],
+    spots: &[Spot],
+    body: &Body,
+) -> Result<(Arc<Route>, bool), NoMemory>
+    requires widths { HasWidths body.now }
+    ensures { IfOk result (λ found. arc_value found.0 ≡ route_of body.now) }
+{
+    match known(planned, spots, body) {
+        Some(old) => {
+            let same = old.clone()?;
+            Ok((same, false))
+        }
+        None => {
+            let made = route(body)?;
+            let made = Arc::new(alloc, made)?;
+            Ok((made, true))
+        }
+    }
+}
+
+/// The program with its routes, and whether one of them is new.
+fn with_routes(
+    alloc: Global,
+    planned: &[Arc<Planned>],
+    spots: &[Spot],
+    prog: &Arc<Prog>,
+) -> Result<(Planned, bool), NoMemory>
+    requires widths { HaveWidths (arc_value prog.now) }
+    ensures { IfOk result (λ with. with.0 ≡ arc_value prog.now) }
+{
+    let mut routes = Items::from_vec(Vec::with_capacity(alloc, prog.len())?);
+    let mut news = false;
+    for stmt in prog.as_slice() {
+        let found = route_for(alloc, planned, spots, body_of(stmt))?;
+        let (route, is_new) = found;
+        routes.push(route)?;
+        news |= is_new;
+    }
+    let prog = prog.clone()?;
+    Ok((Planned { prog, routes }, news))
+}
+
+/// Notes where the bodies of the last program stand whose shapes aren't known, as long as they are few.
+fn note(spots: &mut Vec<Spot>, planned: &[Arc<Planned>]) -> Result<(), NoMemory> {
+    let Some((last, earlier)) = planned.split_last() else {
+        return Ok(());
+    };
+    let stmts = last.statements();
+    for stmt in 0..stmts.len() {
+        if spots.len() < MOST_SHAPES
+            && known(planned, spots.as_slice(), body_of(&stmts[stmt])).is_none()
+        {
+            spots.push(Spot {
+                prog: earlier.len(),
+                stmt,
+            })?;
+        }
+    }
+    Ok(())
+}
+
+/// The programs, each with the routes of its statements; each shape is planned once, where they have few. Each atom has 1 to
+/// 8 terms.
+pub fn plan_all(alloc: Global, progs: &[Arc<Prog>]) -> Result<Vec<Arc<Planned>>, NoMemory>
+    requires widths { AllByRecursion HaveWidths (map arc_value progs.now) }
+    ensures { IfOk result (λ planned. map arc_value planned.items ≡ map arc_value progs.now) }
+{
+    let mut planned = Vec::with_capacity(alloc, progs.len())?;
+    let mut spots = Vec::new(alloc);
+    for prog in progs {
+        let made = with_routes(alloc, planned.as_slice(), spots.as_slice(), prog)?;
+        let (with, news) = made;
+        let with = Arc::new(alloc, with)?;
+        planned.push(with)?;
+        if news {
+            note(&mut spots, planned.as_slice())?;
+        }
+    }
+    Ok(planned)
+}

@@ -1,0 +1,9 @@
+pub mod RowTerms
+pub mod Walking
+pub mod WholePicks
+pub mod Loops
+pub mod LaidRows
+pub mod MarkedCells
+pub mod RunSteps
+pub mod BareStates
+pub mod Ready

@@ -1,0 +1,47 @@
+//! How far a run has come.
+ghost use Rattle.std.specs.Prelude.{◌≡◌, false, IfOk, MatchBool};
+ghost use Rattle.lt_model.specs.Effect as model;
+ghost use Rattle.lt_model.specs.Laws.{Rises};
+ghost use Rattle.lt_program.specs.Effect.{view};
+ghost use Rattle.lt_reference.specs.Run.{Follows};
+ghost use Rattle.lt_reference.specs.Walk.{bare};
+
+use crate::laying::lay;
+use lt_delta::Marks;
+use lt_face::items::RowList;
+use lt_face::memory::NoMemory;
+use lt_model::reply::{Printed, Prints};
+use lt_program::Effect;
+
+/// The marks and the prints of the statements so far, and the relations with these marks laid on them.
+#[derive(Drop)]
+pub(crate) struct Progress {
+    pub relations: Vec<RowList>,
+    pub marks: Marks,
+    pub prints: Prints,
+}
+
+impl Progress {
+    /// Takes in the effect of statement `number`. False where that is a requirement that isn't met.
+    pub(crate) fn accept(&mut self, number: u32, effect: Effect) -> Result<bool, NoMemory>
+        requires { Rises (bare self.old.relations.items) }
+        ensures { IfOk result (λ met. MatchBool met (Follows number effect self.old self.new) (view effect ≡ model.Needs false)) }
+    {
+        match effect {
+            Effect::Writes(marks) => {
+                lay(&mut self.relations, &marks)?;
+                self.marks = Marks::and_then(&self.marks, &marks)?;
+                Ok(true)
+            }
+            Effect::Needs(met) => Ok(met),
+            Effect::Prints(kinds, rows) => {
+                self.prints.push(Printed {
+                    statement: number,
+                    kinds,
+                    rows,
+                })?;
+                Ok(true)
+            }
+        }
+    }
+}

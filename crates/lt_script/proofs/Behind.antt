@@ -1,0 +1,210 @@
+-- The place behind the tokens that a cursor has passed, whatever comes behind its source.
+use Rattle.std.proofs.Common.{◌⊎◌, inl, inr, ◌≡◌, ◌≢◌, ℕ, ◌+◌, ◌-◌, ◌^◌, ◌≤◌, ◌<◌, Bool, true, false, cond, ◌||◌, ◌==◌, List, [], ◌∷◌, ◌++◌, length, take, drop, Option, Some, None, refl, sym, ap, subst, ◌∙◌, append_assoc, arith}
+use Rattle.std.specs.Prelude.{nat_lt, nat_eq, not}
+use Rattle.std.specs.List.{list_all, prefix_len}
+use Rattle.std.proofs.lemmas.List.{append-nil, append_cancel_right, length-drop}
+use Rattle.lt_model.specs.Grammar.{semicolon}
+use Rattle.lt_model.specs.Tokens as tokens
+use Rattle.lt_model.specs.Tokens.{Class, white, feed, hash, letter, digit, quote, other, class_of, in_word, First, sign}
+use Rattle.lt_script.specs.declared.token.Token.{Token}
+use Rattle.lt_script.specs.declared.lexer.Lexer.{Lexer}
+use Rattle.lt_script.specs.declared.lexer.Lexed.{Lexed}
+use Rattle.lt_script.specs.declared.lexer.Lexed.TheVariants.{Token as One, End, Broken}
+use Rattle.lt_script.specs.View.{shape, view, IsNext}
+use Rattle.lt_script.specs.Pieces.{IsBack, Leads, begins_longer, goes_on_by, goes_on as may_go_on, first_by, first_at, Opened}
+use Rattle.lt_script.specs.Ahead.{Source, source_of, read_all, Place, ahead, behind, passed_tokens, read_from, place_of, IsAt, IsBehind, decided, undecided, Stood}
+use Rattle.lt_script.proofs.Pieces.{leads_none, leads_then, leads_token, tokens_first}
+use Rattle.lt_script.proofs.Backs.{back_same, back_on, token_back, semicolon_back}
+use Rattle.lt_script.proofs.Skips.{run_whole, is_empty}
+use Rattle.lt_script.proofs.Places.{parts, ahead_behind, goes_on, goes_in_step}
+
+-- ---- nothing is left behind a token that more bytes may make longer
+
+abbrev IsToken : Option First → tokens.Shape → List ℕ → Type 0
+IsToken o s left = o ≡ Some (tokens.token s left)
+
+word_left : (n : ℕ) (bytes left : List ℕ) (s : tokens.Shape) (b : Bool) → n ≡ length bytes → IsToken (Some (cond b (tokens.fault 5) (tokens.token (tokens.word (take n bytes)) (drop n bytes)))) s left → left ≡ []
+word_left n bytes left s true whole e = absurd cc
+word_left n bytes left s false whole e = let same : drop n bytes ≡ left = cc in sym same ∙ is_empty (drop n bytes) (omega (arith, length-drop n bytes, whole))
+
+number_left : (n : ℕ) (bytes left : List ℕ) (s : tokens.Shape) → n ≡ length bytes → IsToken (Some (tokens.token (tokens.number (take n bytes)) (drop n bytes))) s left → left ≡ []
+number_left n bytes left s whole e = let same : drop n bytes ≡ left = cc in sym same ∙ is_empty (drop n bytes) (omega (arith, length-drop n bytes, whole))
+
+symbol_left : (n : ℕ) (text rest left : List ℕ) (s : tokens.Shape) → rest ≡ [] → IsToken (Some (tokens.close_symbol n text rest)) s left → left ≡ []
+symbol_left n text [] left s none e = absurd cc
+symbol_left n text (c ∷ rest) left s none e = absurd cc
+
+one_of : (b : ℕ) → begins_longer b [] ≡ true → (b ≡ 33) ⊎ ((b ≡ 60) ⊎ (b ≡ 62))
+one_of b h = Prim.grind arith
+
+other_left : (b : ℕ) (left : List ℕ) (s : tokens.Shape) → (b ≡ 33) ⊎ ((b ≡ 60) ⊎ (b ≡ 62)) → IsToken (Some (tokens.sign_at (b ∷ []))) s left → left ≡ []
+other_left b left s (inl is) e = let there : IsToken (Some (tokens.sign_at (33 ∷ []))) s left = subst (λ (n : ℕ). IsToken (Some (tokens.sign_at (n ∷ []))) s left) is e in absurd cc
+other_left b left s (inr (inl is)) e = let there : IsToken (Some (tokens.sign_at (60 ∷ []))) s left = subst (λ (n : ℕ). IsToken (Some (tokens.sign_at (n ∷ []))) s left) is e in cc
+other_left b left s (inr (inr is)) e = let there : IsToken (Some (tokens.sign_at (62 ∷ []))) s left = subst (λ (n : ℕ). IsToken (Some (tokens.sign_at (n ∷ []))) s left) is e in cc
+
+class_left : (c : Class) (b : ℕ) (bytes left : List ℕ) (s : tokens.Shape) → goes_on_by c b bytes ≡ true → IsToken (first_by c b bytes) s left → left ≡ []
+class_left white b bytes left s h e = absurd cc
+class_left feed b bytes left s h e = absurd cc
+class_left hash b bytes left s h e = absurd cc
+class_left letter b bytes left s h e = word_left (prefix_len in_word (b ∷ bytes)) (b ∷ bytes) left s (nat_lt 15 (prefix_len in_word (b ∷ bytes))) (run_whole in_word (b ∷ bytes) h) e
+class_left digit b bytes left s h e = number_left (prefix_len tokens.is_digit (b ∷ bytes)) (b ∷ bytes) left s (run_whole tokens.is_digit (b ∷ bytes) h) e
+class_left quote b bytes left s h e =
+    let n : ℕ = prefix_len in_word bytes in
+    symbol_left n (take n bytes) (drop n bytes) left s (is_empty (drop n bytes) (omega (arith, length-drop n bytes, run_whole in_word bytes h))) e
+class_left other b [] left s h e = other_left b left s (one_of b h) e
+class_left other b (c ∷ bytes) left s h e = absurd cc
+
+-- behind a token that isn't decided nothing is left
+pub left_none : (tail left : List ℕ) (s : tokens.Shape) → may_go_on tail ≡ true → IsToken (first_at tail) s left → left ≡ []
+left_none [] left s h e = absurd cc
+left_none (b ∷ bytes) left s h e = class_left (class_of b) b bytes left s h e
+
+-- ---- the semicolon is decided at once
+
+other_semicolon : (b : ℕ) (left : List ℕ) → (b ≡ 33) ⊎ ((b ≡ 60) ⊎ (b ≡ 62)) → IsToken (Some (tokens.sign_at (b ∷ []))) semicolon left → ⊥
+other_semicolon b left (inl is) e = let there : IsToken (Some (tokens.sign_at (33 ∷ []))) semicolon left = subst (λ (n : ℕ). IsToken (Some (tokens.sign_at (n ∷ []))) semicolon left) is e in absurd cc
+other_semicolon b left (inr (inl is)) e = let there : IsToken (Some (tokens.sign_at (60 ∷ []))) semicolon left = subst (λ (n : ℕ). IsToken (Some (tokens.sign_at (n ∷ []))) semicolon left) is e in absurd cc
+other_semicolon b left (inr (inr is)) e = let there : IsToken (Some (tokens.sign_at (62 ∷ []))) semicolon left = subst (λ (n : ℕ). IsToken (Some (tokens.sign_at (n ∷ []))) semicolon left) is e in absurd cc
+
+word_semicolon : (b : Bool) (text rest left : List ℕ) → IsToken (Some (cond b (tokens.fault 5) (tokens.token (tokens.word text) rest))) semicolon left → ⊥
+word_semicolon true text rest left e = absurd cc
+word_semicolon false text rest left e = absurd cc
+
+symbol_semicolon : (n : ℕ) (text rest left : List ℕ) → rest ≡ [] → IsToken (Some (tokens.close_symbol n text rest)) semicolon left → ⊥
+symbol_semicolon n text [] left none e = absurd cc
+symbol_semicolon n text (c ∷ rest) left none e = absurd cc
+
+class_semicolon : (c : Class) (b : ℕ) (bytes left : List ℕ) → goes_on_by c b bytes ≡ true → IsToken (first_by c b bytes) semicolon left → ⊥
+class_semicolon white b bytes left h e = absurd cc
+class_semicolon feed b bytes left h e = absurd cc
+class_semicolon hash b bytes left h e = absurd cc
+class_semicolon letter b bytes left h e = let n : ℕ = prefix_len in_word (b ∷ bytes) in word_semicolon (nat_lt 15 n) (take n (b ∷ bytes)) (drop n (b ∷ bytes)) left e
+class_semicolon digit b bytes left h e = absurd cc
+class_semicolon quote b bytes left h e =
+    let n : ℕ = prefix_len in_word bytes in
+    symbol_semicolon n (take n bytes) (drop n bytes) left (is_empty (drop n bytes) (omega (arith, length-drop n bytes, run_whole in_word bytes h))) e
+class_semicolon other b [] left h e = other_semicolon b left (one_of b h) e
+class_semicolon other b (c ∷ bytes) left h e = absurd cc
+
+at_semicolon : (tail left : List ℕ) → may_go_on tail ≡ true → IsToken (first_at tail) semicolon left → ⊥
+at_semicolon [] left h e = absurd cc
+at_semicolon (b ∷ bytes) left h e = class_semicolon (class_of b) b bytes left h e
+
+abbrev last_of : tokens.Token → List tokens.Token → tokens.Token
+last_of d [] = d
+last_of d (t ∷ ts) = last_of t ts
+
+last_is : (d t : tokens.Token) (ts : List tokens.Token) → last_of d (ts ++ t ∷ []) ≡ t
+last_is d t [] = refl
+last_is d t (x ∷ ts) = last_is x t ts
+
+same_last : (xs ys : List tokens.Token) (s t : tokens.Token) → xs ++ s ∷ [] ≡ ys ++ t ∷ [] → s ≡ t
+same_last xs ys s t e = sym (last_is s s xs) ∙ ap (last_of s) e ∙ last_is s t ys
+
+-- a place behind a semicolon
+pub behind_semicolon : (source : Source) (before : List tokens.Token) (t : tokens.Token) (line : ℕ) (left : List ℕ) → t.shape ≡ semicolon → IsBehind source (before ++ t ∷ []) line left → Leads source.line source.bytes (before ++ t ∷ []) line left
+behind_semicolon source before t line left is (decided h) = h
+behind_semicolon source before t line left is (undecided others last after tail same h goes first none) =
+    let shape : last.shape ≡ semicolon = ap (λ (u : tokens.Token). u.shape) (sym (same_last before others t last same)) ∙ is in
+    absurd (at_semicolon tail [] goes (subst (λ (s : tokens.Shape). IsToken (first_at tail) s []) shape first))
+
+-- ---- one token on
+
+pub behind_first : (start : Lexer) → IsBehind (source_of start) [] start.line start.rest.now
+behind_first start = decided (leads_none start.line start.rest.now)
+
+-- no token is found where nothing is left
+nothing_found : (line after : ℕ) (tail left : List ℕ) (s : tokens.Shape) → Leads line [] [] after tail → IsToken (first_at tail) s left → ⊥
+nothing_found line after tail left s h e =
+    let there : (tokens.tokens_at line []).0 ≡ (tokens.tokens_at after (tail ++ [])).0 = ap (λ (r : tokens.Read). r.0) (h []) in
+    let here : (tokens.tokens_at after (tail ++ [])).0 ≡ (tokens.tokens_at after tail).0 = ap (λ (us : List ℕ). (tokens.tokens_at after us).0) (append-nil tail) in
+    let token : (tokens.tokens_at after tail).0 ≡ (record { shape = s; line = after } ∷ (tokens.tokens_at after left).0) = ap (λ (r : tokens.Read). r.0) (tokens_first after tail (tokens.token s left) e) in
+    no_token (there ∙ here ∙ token)
+  where
+    no_token : {t : tokens.Token} {ts : List tokens.Token} → [] ≡ t ∷ ts → ⊥
+    no_token e = absurd cc
+
+by_tail : (source : Source) (passed : List tokens.Token) (after : ℕ) (tail left : List ℕ) (s : tokens.Shape) (b : Bool) → may_go_on tail ≡ b → Leads source.line source.bytes passed after tail → IsToken (first_at tail) s left
+    → IsBehind source (passed ++ record { shape = s; line = after } ∷ []) after left
+by_tail source passed after tail left s true goes h e =
+    let none : left ≡ [] = left_none tail left s goes e in
+    undecided passed (record { shape = s; line = after }) after tail refl h goes (subst (λ (us : List ℕ). IsToken (first_at tail) s us) none e) none
+by_tail source passed after tail left s false goes h e =
+    decided (leads_then source.line after after source.bytes tail left passed (record { shape = s; line = after } ∷ []) h (leads_token after tail left s e goes))
+
+pub behind_next : (source : Source) (passed : List tokens.Token) (line after : ℕ) (left rest : List ℕ) (t : Token) → IsBehind source passed line left → Opened (One t) line left after rest → IsBehind source (passed ++ view t ∷ []) after rest
+behind_next source passed line after left rest t (decided h) o =
+    let way : Leads source.line source.bytes passed after o.tail =
+    subst (λ (ts : List tokens.Token). Leads source.line source.bytes ts after o.tail) (append-nil passed) (leads_then source.line line after source.bytes left o.tail passed [] h o.leads) in
+    subst (λ (n : ℕ). IsBehind source (passed ++ record { shape = shape t; line = n } ∷ []) after rest) (sym o.is.1) (by_tail source passed after o.tail rest (shape t) (may_go_on o.tail) refl way o.is.0)
+behind_next source passed line after left rest t (undecided before last at tail same h goes first none) o =
+    absurd (nothing_found line after o.tail rest (shape t) (subst (λ (us : List ℕ). Leads line us [] after o.tail) none o.leads) o.is.0)
+
+source_same : (p : Place) → (behind p).source ≡ p.source
+unfolding behind
+source_same p = refl
+
+-- the tokens before the place behind this one
+pub passed_next : (p : Place) (t : tokens.Token) (rest : List tokens.Token) (ending : tokens.Ending) → ahead p ≡ (t ∷ rest, ending) → passed_tokens (behind p) ≡ passed_tokens p ++ t ∷ []
+passed_next p t rest ending h =
+    let all : (read_all p.source).0 ≡ passed_tokens p ++ (ahead p).0 = ap (λ (r : tokens.Read). r.0) (parts p) in
+    let there : (read_all (behind p).source).0 ≡ passed_tokens (behind p) ++ (ahead (behind p)).0 = ap (λ (r : tokens.Read). r.0) (parts (behind p)) in
+    let same : (read_all (behind p).source).0 ≡ (read_all p.source).0 = ap (λ (s : Source). (read_all s).0) (source_same p) in
+    let now : (ahead p).0 ≡ t ∷ rest = ap (λ (r : tokens.Read). r.0) h in
+    let next : (ahead (behind p)).0 ≡ rest = ap (λ (r : tokens.Read). r.0) (ahead_behind p) ∙ ap (λ (ts : List tokens.Token). drop 1 ts) now in
+    append_cancel_right (passed_tokens (behind p)) (passed_tokens p ++ t ∷ []) rest
+    (ap (λ (ts : List tokens.Token). passed_tokens (behind p) ++ ts) (sym next) ∙ sym there ∙ same ∙ all ∙ ap (λ (ts : List tokens.Token). passed_tokens p ++ ts) now ∙ sym (append_assoc (passed_tokens p) (t ∷ []) rest))
+
+-- ---- cursors
+
+read_same : (n : Lexed) (l : Lexer) (read : tokens.Read) → IsNext n l.line l.rest.now read → read_from n l ≡ read
+read_same (One t) l read h = sym h
+read_same End l read h = sym h
+read_same (Broken c) l read h = sym h
+
+none_last : (before : List tokens.Token) (last : tokens.Token) → [] ≡ before ++ last ∷ [] → ⊥
+none_last [] last e = absurd cc
+none_last (t ∷ before) last e = absurd cc
+
+-- where a semicolon was found, the bytes behind it stand behind one
+found_semicolon : (bytes since tail left : List ℕ) (s : tokens.Shape) → IsBack tail since → IsBack since bytes → IsToken (first_at tail) s left → s ≡ semicolon → IsBack (59 ∷ left) bytes
+found_semicolon bytes since tail left s f g e is =
+    back_on (59 ∷ left) since bytes (subst (λ (us : List ℕ). IsBack us since) (semicolon_back tail left (subst (λ (x : tokens.Shape). IsToken (first_at tail) x left) is e)) f) g
+
+module _ (start : Lexer) (next : Lexed) (lexer : Lexer) (h : IsNext next lexer.line lexer.rest.now (tokens.tokens_at start.line start.rest.now)) where
+  abbrev all : tokens.Read
+  all = read_all (source_of start)
+
+  none_passed : length all.0 - length (read_from next lexer).0 ≡ 0
+  none_passed = let e : length (read_from next lexer).0 ≡ length all.0 = ap (λ (r : tokens.Read). length r.0) (read_same next lexer all h) in omega (arith, e)
+
+  -- before the first token
+  pub stood_first : (fits : start.line + length start.rest.now < 2 ^ 64) → lexer.line + length lexer.rest.now < 2 ^ 64 → Opened next start.line start.rest.now lexer.line lexer.rest.now → Stood (source_of start) start next lexer
+  stood_first fits later o = record {
+    at = record { fits = later; is = read_same next lexer all h ∙ ap (λ (n : ℕ). let r : tokens.Read = (drop n all.0, all.1) in r) (sym none_passed) };
+    fits = fits;
+    behind = subst (λ (n : ℕ). IsBehind (source_of start) (take n all.0) start.line start.rest.now) (sym none_passed) (behind_first start);
+    back = back_same start.rest.now;
+    ends = λ before last is shape. absurd (none_last before last (sym (ap (λ (n : ℕ). take n all.0) none_passed) ∙ is));
+    opened = o;
+  }
+
+-- behind one token more
+pub stood_next : (source : Source) (since : Lexer) (next : Lexed) (lexer : Lexer) (p : Place) → Stood source since next lexer → place_of source next lexer ≡ p → (t : Token) → next ≡ One t → (n : Lexed) (l : Lexer) → l.line + length l.rest.now < 2 ^ 64
+    → IsNext n l.line l.rest.now (tokens.tokens_at lexer.line lexer.rest.now) → Opened n lexer.line lexer.rest.now l.line l.rest.now → Stood source lexer n l
+stood_next source since next lexer p s there t is n l fits h o =
+    let seen : ahead p ≡ read_from (One t) lexer = ap ahead (sym there) ∙ sym s.at.is ∙ ap (λ (m : Lexed). read_from m lexer) is in
+    let there_now : place_of source n l ≡ behind p = goes_on source next lexer p s.at there t is n l h in
+    let passed_now : passed_tokens (place_of source n l) ≡ passed_tokens p ++ view t ∷ [] = ap passed_tokens there_now ∙ passed_next p (view t) _ _ seen in
+    let first : IsBehind source (passed_tokens p) since.line since.rest.now = subst (λ (q : Place). IsBehind source (passed_tokens q) since.line since.rest.now) there s.behind in
+    let opened : Opened (One t) since.line since.rest.now lexer.line lexer.rest.now = subst (λ (m : Lexed). Opened m since.line since.rest.now lexer.line lexer.rest.now) is s.opened in
+    record {
+      at = record { fits = fits; is = goes_in_step source next lexer p s.at there t is n l h };
+      fits = s.at.fits;
+      back = back_on lexer.rest.now since.rest.now source.bytes (back_on lexer.rest.now opened.tail since.rest.now (token_back opened.tail lexer.rest.now (shape t) opened.is.0) opened.back) s.back;
+      ends = λ before last are shape_is.
+          found_semicolon source.bytes since.rest.now opened.tail lexer.rest.now (shape t) opened.back s.back opened.is.0
+          (ap (λ (u : tokens.Token). u.shape) (sym (same_last before (passed_tokens p) last (view t) (sym are ∙ passed_now))) ∙ shape_is);
+      behind = subst (λ (ts : List tokens.Token). IsBehind source ts lexer.line lexer.rest.now) (sym passed_now) (behind_next source (passed_tokens p) since.line lexer.line since.rest.now lexer.rest.now t first opened);
+      opened = o;
+    }
