@@ -1,6 +1,7 @@
 -- What a database is seen as.
 use Rattle.std.specs.Prelude.{◌≤◌, ℕ, zero, suc, Bool, false, ◌||◌, List, [], ◌∷◌, map}
 use Rattle.std.specs.List.{list_any}
+use Rattle.lt_face.specs.Limits.{most_columns}
 use Rattle.lt_face.specs.Rows.{IsRowSet}
 use Rattle.lt_face.specs.State.{Row, Relation, State, row_eq}
 use Rattle.lt_delta.specs.Columns.{numbers}
@@ -15,7 +16,7 @@ pub record Table : Type 0 where
 pub record IsTable (table : Table) : Type 0 where
   pub is_set : IsRowSet table.width table.rows
   pub some : 1 ≤ table.width
-  pub few : table.width ≤ 8
+  pub few : table.width ≤ most_columns
 
 abbrev pub relation_of : Table → Relation
 relation_of table = record { width = table.width; rows = table.rows }

@@ -1,6 +1,7 @@
 //! Orders of columns, and rows with their cells in such an order.
 ghost use Rattle.std.specs.Prelude.{◌≡◌, ◌≢◌, ◌<◌, ◌≤◌, true, false, length, IfOk};
 ghost use Rattle.std.specs.List.{AllByRecursion};
+ghost use Rattle.lt_face.specs.Limits.{most_columns};
 ghost use Rattle.lt_face.specs.State.{row_eq, permuted};
 ghost use Rattle.lt_delta.specs.Columns.{numbers};
 
@@ -26,7 +27,7 @@ pub(crate) fn is_own_order(columns: &[u32], width: usize) -> bool
 
 /// The columns of a relation in their own order.
 pub(crate) fn own_columns(alloc: Global, width: usize) -> Result<Perm, NoMemory>
-    requires { width ≤ 8 }
+    requires { width ≤ most_columns }
     ensures { IfOk result (λ columns. columns ≡ numbers 0 width) }
 {
     let mut columns = Perm::new(alloc);
@@ -46,7 +47,7 @@ pub(crate) fn is_same_order(a: &[u32], b: &[u32]) -> bool
 
 /// The row's cells in the order of the columns.
 pub(crate) fn permuted_row(alloc: Global, columns: &[u32], row: &Row) -> Row
-    requires few { length columns.now ≤ 8 }
+    requires few { length columns.now ≤ most_columns }
     requires within { AllByRecursion (λ c. c < length row.now) columns.now }
     ensures { result ≡ permuted columns.now row.now }
 {

@@ -3,6 +3,7 @@ ghost use Rattle.std.specs.Prelude.{◌≡◌, ◌≢◌, ◌<◌, ◌≤◌, �
 ghost use Rattle.std.specs.Arc.{arc_value};
 ghost use Rattle.std.specs.List.{AllByRecursion};
 ghost use Rattle.std.specs.Option.{option_copied};
+ghost use Rattle.lt_face.specs.Limits.{most_columns};
 ghost use Rattle.lt_face.specs.Rows.{IsRow, has_row};
 ghost use Rattle.lt_face.specs.State.{Relation as RelationView, rows_in, row_eq};
 ghost use Rattle.lt_model.specs.declared.mark.Mark.{Mark as MarkType};
@@ -190,7 +191,7 @@ impl Database {
 
     /// The database with one more relation, of this width and without rows. Its number is the old count.
     pub fn declared(&self, width: usize) -> Result<Database, NoMemory>
-        requires { (1 ≤ width) × (width ≤ 8) }
+        requires { (1 ≤ width) × (width ≤ most_columns) }
         ensures tables { IfOk result (λ db. db ≡ self.now ++ record { width = width; rows = []; others = [] } ∷ []) }
         ensures state { IfOk result (λ db. state_of db ≡ state_of self.now ++ record { width = width; rows = [] } ∷ []) }
     {
@@ -212,7 +213,7 @@ impl Database {
     /// Looks at each relation: its rows ascend strictly, and are as wide as it, which has 1 to 8 columns.
     pub fn look_over(&self)
         ensures state { IsState (state_of self.now) }
-        ensures wide { AllByRecursion (λ (relation : RelationView). (1 ≤ relation.width) × (relation.width ≤ 8)) (state_of self.now) }
+        ensures wide { AllByRecursion (λ (relation : RelationView). (1 ≤ relation.width) × (relation.width ≤ most_columns)) (state_of self.now) }
     {
         look_over(&self.relations);
     }

@@ -2,6 +2,7 @@
 ghost use Rattle.std.specs.Prelude.{◌≡◌, ◌≤◌, ℕ, List, map, IfOk};
 ghost use Rattle.std.specs.List.{AllByRecursion};
 ghost use Rattle.std.specs.List.Sorted.{IsPermutation, IsSorted};
+ghost use Rattle.lt_face.specs.Limits.{most_columns};
 ghost use Rattle.lt_face.specs.Rows.{IsRow, IsRowSet, row_cmp};
 ghost use Rattle.lt_face.specs.State.{Row as RowView, permuted};
 ghost use Rattle.lt_model.specs.declared.mark.Mark.{Mark as MarkType};
@@ -30,7 +31,7 @@ pub(crate) struct Index {
 
 /// The rows with their cells in the order of the columns, ascending.
 fn sorted_by(columns: &Perm, rows: &RowList) -> Result<RowList, NoMemory>
-    requires { (width : ℕ) × IsPermOf width columns.now × (width ≤ 8) × AllByRecursion (IsRow width) rows.now }
+    requires { (width : ℕ) × IsPermOf width columns.now × (width ≤ most_columns) × AllByRecursion (IsRow width) rows.now }
     ensures moved { IfOk result (λ list. IsPermutation (map (permuted columns.now) rows.now) list) }
     ensures sorted { IfOk result (λ list. IsSorted row_cmp list) }
 {
@@ -44,7 +45,7 @@ fn sorted_by(columns: &Perm, rows: &RowList) -> Result<RowList, NoMemory>
 
 /// The rows that the marks take out of an index on these columns, and those that they put in.
 fn edits_in(columns: &Perm, relation: u32, marks: &Marks) -> Result<Edits, NoMemory>
-    requires { (width : ℕ) × IsPermOf width columns.now × (width ≤ 8) × AllByRecursion (λ (m : MarkType). m.relation ≡ relation → IsRow width m.row) marks.now }
+    requires { (width : ℕ) × IsPermOf width columns.now × (width ≤ most_columns) × AllByRecursion (λ (m : MarkType). m.relation ≡ relation → IsRow width m.row) marks.now }
     ensures { IfOk result (λ edits. (width : ℕ) → IsPermOf width columns.now → AllByRecursion (λ (m : MarkType). m.relation ≡ relation → IsRow width m.row) marks.now → AreEditsIn width columns.now relation marks.now edits) }
 {
     let edits = marks.edits(columns.allocator(), relation)?;
@@ -59,7 +60,7 @@ pub(crate) fn index_edits(
     relation: u32,
     marks: &Marks,
 ) -> Result<IndexEdits, NoMemory>
-    requires { (width : ℕ) × IsPermOf width columns.now × (width ≤ 8) × AllByRecursion (λ (m : MarkType). m.relation ≡ relation → IsRow width m.row) marks.now }
+    requires { (width : ℕ) × IsPermOf width columns.now × (width ≤ most_columns) × AllByRecursion (λ (m : MarkType). m.relation ≡ relation → IsRow width m.row) marks.now }
     ensures relation { IfOk result (λ edits. edits.relation ≡ relation) }
     ensures columns { IfOk result (λ edits. edits.columns ≡ columns.now) }
     ensures edits { IfOk result (IsEditsOf marks.now) }

@@ -2,6 +2,7 @@
 ghost use Rattle.std.specs.Prelude.{◌≡◌, ◌≤◌, ℕ, List, [], ◌∷◌, ◌++◌, map, IfOk, OnOk, IfSome, is_some};
 ghost use Rattle.std.specs.Arc.{arc_value};
 ghost use Rattle.std.specs.List.{AllByRecursion, list_any};
+ghost use Rattle.lt_face.specs.Limits.{most_columns};
 ghost use Rattle.lt_face.specs.Rows.{IsRow, IsRowSet};
 ghost use Rattle.lt_face.specs.Lists.{IsIn};
 ghost use Rattle.lt_face.specs.State.{Row as RowView, IsIndexOf, row_eq};
@@ -78,7 +79,7 @@ fn add_edits(
     marks: &Marks,
     edits: &mut Vec<Arc<IndexEdits>>,
 ) -> Result<(), NoMemory>
-    requires order { (width : ℕ) × IsPermOf width columns.now × (width ≤ 8) × AllByRecursion (λ (m : MarkType). m.relation ≡ relation → IsRow width m.row) marks.now }
+    requires order { (width : ℕ) × IsPermOf width columns.now × (width ≤ most_columns) × AllByRecursion (λ (m : MarkType). m.relation ≡ relation → IsRow width m.row) marks.now }
     requires before { AllByRecursion (IsEditsOf marks.now) (map arc_value edits.old.items) }
     ensures { OnOk result (AllByRecursion (IsEditsOf marks.now) (map arc_value edits.new.items)) }
 {
@@ -95,7 +96,7 @@ fn add_all_edits(
     marks: &Marks,
     edits: &mut Vec<Arc<IndexEdits>>,
 ) -> Result<(), NoMemory>
-    requires orders { AllByRecursion (λ index. (width : ℕ) × IsPermOf width index.columns × (width ≤ 8) × AllByRecursion (λ (m : MarkType). m.relation ≡ relation → IsRow width m.row) marks.now) others.now }
+    requires orders { AllByRecursion (λ index. (width : ℕ) × IsPermOf width index.columns × (width ≤ most_columns) × AllByRecursion (λ (m : MarkType). m.relation ≡ relation → IsRow width m.row) marks.now) others.now }
     requires before { AllByRecursion (IsEditsOf marks.now) (map arc_value edits.old.items) }
     ensures { OnOk result (AllByRecursion (IsEditsOf marks.now) (map arc_value edits.new.items)) }
 {
@@ -146,7 +147,7 @@ fn all_folded(others: &Vec<Index>) -> Result<Vec<Index>, NoMemory>
 impl Relation {
     /// A relation of this width, without rows.
     pub(crate) fn empty(alloc: Global, width: usize) -> Result<Relation, NoMemory>
-        requires { (1 ≤ width) × (width ≤ 8) }
+        requires { (1 ≤ width) × (width ≤ most_columns) }
         ensures { IfOk result (λ relation. relation ≡ record { width = width; rows = []; others = [] }) }
     {
         let first = Rows::empty(alloc, width)?;

@@ -7,7 +7,7 @@ use Rattle.lt_face.proofs.RowLemmas.{each_weaker}
 use Rattle.lt_model.specs.declared.normal.Atom.{Atom}
 use Rattle.lt_model.specs.declared.normal.Body.{Body}
 use Rattle.lt_model.specs.declared.normal.Stmt.{Stmt}
-use Rattle.lt_model.specs.declared.normal.Stmt.TheVariants.{Insert, Delete, Replace, Need, Print}
+use Rattle.lt_model.specs.declared.normal.Stmt.TheVariants.{Insert, Delete, Replace, Require, Print}
 use Rattle.lt_model.specs.Fits.{IsWide, IsAtomOf, IsBodyOf, IsHeadOf, FitsStatement, Fits, IsMarkOf, FitMarks}
 use Rattle.lt_model.specs.Marks.{Marks, write, change, lay, laid}
 
@@ -67,7 +67,7 @@ module _ (s t : State) (same : AreAsWide s t) where
   statement_fits (Insert head body) h = (body_fits body h.0, head_fits body head h.1)
   statement_fits (Delete head body) h = (body_fits body h.0, head_fits body head h.1)
   statement_fits (Replace gone come body) h = (body_fits body h.0, head_fits body gone h.1, head_fits body come h.2)
-  statement_fits (Need some body) h = body_fits body h
+  statement_fits (Require some body) h = body_fits body h
   statement_fits (Print terms kinds body) h = (body_fits body h.0, h.1)
 
   pub program_fits : (program : List Stmt) → Fits s program → Fits t program

@@ -1,6 +1,7 @@
 -- The work of a batch: its leaves are the programs.
 use Rattle.std.specs.Prelude.{ℕ, ◌<◌, ◌≤◌, List, length, if◌then◌else◌}
 use Rattle.std.specs.List.{AllByRecursion, list_any}
+use Rattle.lt_face.specs.Limits.{most_columns}
 use Rattle.lt_face.specs.State.{State, Relation}
 use Rattle.lt_model.specs.declared.normal.Stmt.{Stmt}
 use Rattle.lt_model.specs.Fits.{Fits, FitMarks}
@@ -14,7 +15,7 @@ use Rattle.lt_batch.specs.Batch.{program_at, does_at}
 -- a state that programs can run on: its relations are sets of rows with at most 8 cells
 pub record IsSnapshot (state : State) : Type 0 where
   pub is_state : IsState state
-  pub narrow : AllByRecursion (λ (relation : Relation). relation.width ≤ 8) state
+  pub narrow : AllByRecursion (λ (relation : Relation). relation.width ≤ most_columns) state
 
 -- programs that can run on it: each fits it
 pub record AreRunnable (state : State) (programs : List (List Stmt)) : Type 0 where

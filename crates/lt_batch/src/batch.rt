@@ -2,6 +2,7 @@
 ghost use Rattle.std.specs.Prelude.{◌≡◌, ◌<◌, ◌≤◌, ℕ, map, length, slice_index_or, [], IfOk};
 ghost use Rattle.std.specs.Arc.{arc_value};
 ghost use Rattle.std.specs.List.{AllByRecursion};
+ghost use Rattle.lt_face.specs.Limits.{most_programs, most_workers};
 ghost use Rattle.lt_model.specs.Fits.{IsWide, Fits, FitMarks};
 ghost use Rattle.lt_base.specs.Tables.{state_of};
 ghost use Rattle.lt_circuit.specs.Circuit.{state, IsReplay};
@@ -33,8 +34,8 @@ fn settled<R: Threads + Wait + Sync, G: Gate>(
     workers: u32,
     gate: &G,
 ) -> Result<(Arc<BatchWork>, Circuit<BatchWork>), NoMemory>
-    requires few { length progs.now ≤ 256 }
-    requires workers { (1 ≤ workers) × (workers ≤ 16) }
+    requires few { length progs.now ≤ most_programs }
+    requires workers { (1 ≤ workers) × (workers ≤ most_workers) }
     requires fit { AllByRecursion (Fits (state_of db.now)) (map arc_value progs.now) }
     ensures work { IfOk result (λ out. out.1.work ≡ arc_value out.0) }
     ensures programs { IfOk result (λ out. out.1.work.programs ≡ map arc_value progs.now) }
@@ -66,8 +67,8 @@ pub fn run_batch<R: Threads + Wait + Sync, G: Gate>(
     workers: u32,
     gate: &G,
 ) -> Result<Outcome, NoMemory>
-    requires few { length progs.now ≤ 256 }
-    requires workers { (1 ≤ workers) × (workers ≤ 16) }
+    requires few { length progs.now ≤ most_programs }
+    requires workers { (1 ≤ workers) × (workers ≤ most_workers) }
     requires fit { AllByRecursion (Fits (state_of db.now)) (map arc_value progs.now) }
     ensures replies { IfOk result (λ out. out.replies ≡ serial_replies (map arc_value progs.now) (state_of db.now)) }
     ensures effects { IfOk result (λ out. out.effects ≡ serial_effects (map arc_value progs.now) (state_of db.now)) }

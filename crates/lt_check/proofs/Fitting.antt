@@ -233,7 +233,7 @@ front_cells : (s : Statement) → IsStatementWithin s → AllByRecursion HasCell
 front_cells (statements.Insert head literals) is = All_both HasCell head.terms [] is.heads.0.cells tt
 front_cells (statements.Delete head literals) is = All_both HasCell head.terms [] is.heads.0.cells tt
 front_cells (statements.Replace gone come literals) is = All_both HasCell gone.terms (come.terms ++ []) is.heads.0.cells (All_both HasCell come.terms [] is.heads.1.0.cells tt)
-front_cells (statements.Need some literals) is = tt
+front_cells (statements.Require some literals) is = tt
 front_cells (statements.Print terms literals) is = is.printed.cells
 
 -- all constants of a statement are cells
@@ -288,8 +288,8 @@ statement_fits schema state s fits is h =
           head_fits_state schema state (variables s) literals gone fits there.0 (All_front P gone.terms (come.terms ++ []) front),
           head_fits_state schema state (variables s) literals come fits there.1.0 (All_front P come.terms [] second),
         )
-    go (statements.Need some literals) fits is there good =
-        let s = statements.Need some literals in
+    go (statements.Require some literals) fits is there good =
+        let s = statements.Require some literals in
         body_fits_state schema state (variables s) literals fits is.few_variables is.few_literals there good
     go (statements.Print terms literals) fits is there good =
         let s = statements.Print terms literals in

@@ -219,7 +219,7 @@ same_normal : (schema : Schema) (s : Statement) (c d : Choice) → choice_fits s
 same_normal schema (statements.Insert head body) c d h g b = refl
 same_normal schema (statements.Delete head body) c d h g b = refl
 same_normal schema (statements.Replace gone come body) c d h g b = refl
-same_normal schema (statements.Need some body) c d h g b = refl
+same_normal schema (statements.Require some body) c d h g b = refl
 same_normal schema (statements.Print terms body) c d h g b =
     let s = statements.Print terms body in
     let names = variables s in

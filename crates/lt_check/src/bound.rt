@@ -8,6 +8,7 @@ ghost use Rattle.lt_check.specs.Binding.{has, Alike};
 ghost use Rattle.lt_check.specs.Seen.{seen};
 
 use crate::names::Names;
+use lt_face::limits::MOST_VARIABLES;
 use lt_face::memory::NoMemory;
 use lt_model::normal::{Atom, Body, Term, Test};
 use lt_model::syntax::Op;
@@ -18,7 +19,7 @@ use std::marker::Model;
 /// The variables that are bound, each once. A statement has at most sixteen, which lie in the value itself.
 #[derive(Drop)]
 pub struct Bound {
-    places: SmallVec<u32, 16>,
+    places: SmallVec<u32, MOST_VARIABLES>,
 }
 
 impl Model for Bound {

@@ -1,6 +1,7 @@
 //! The kinds of a statement's variables, found from what each condition says of them.
 ghost use Rattle.std.specs.Prelude.{◌≡◌, ◌≤◌, ◌&&◌, IfOk, map, length, replicate, unwrap_or, slice_index_or};
 ghost use Rattle.std.specs.List.{list_all};
+ghost use Rattle.lt_face.specs.Limits.{most_columns};
 ghost use Rattle.lt_model.specs.Check.{kind_of, same_kind, same_kinds, atom_fits, literal_fits};
 ghost use Rattle.lt_check.specs.Narrowing.{known_at, known_of, agreement, completed, joined, Narrows, Settles, all_fit};
 ghost use Rattle.lt_check.specs.Seen.{seen, HasColumns};
@@ -209,7 +210,7 @@ impl Known {
 
     /// The kinds of terms, ints where nothing is known.
     pub fn kinds(&self, alloc: Global, names: &Names, terms: &[Term]) -> Result<KindList, NoMemory>
-        requires { length terms.now ≤ 8 }
+        requires { length terms.now ≤ most_columns }
         ensures { IfOk result (λ kinds. kinds ≡ map (kind_of names.now (completed self.now)) terms.now) }
     {
         let mut kinds = Vec::new(alloc);

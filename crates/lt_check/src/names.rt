@@ -2,6 +2,7 @@
 ghost use Rattle.std.specs.Prelude.{◌≡◌, ◌≤◌, length};
 ghost use Rattle.std.specs.List.{list_any};
 ghost use Rattle.std.specs.Str.{bytes_eq};
+ghost use Rattle.lt_face.specs.Limits.{most_variables};
 ghost use Rattle.lt_model.specs.Variables.{place_of};
 ghost use Rattle.lt_check.specs.Seen.{seen};
 
@@ -17,13 +18,14 @@ pub struct Names<'a> {
 
 impl<'a> Model for Names<'a> {
     ghost use Rattle.std.specs.Prelude.{ℕ, List, ◌≤◌, length};
+    ghost use Rattle.lt_face.specs.Limits.{most_variables};
     ghost use Rattle.lt_check.specs.Seen.{seen};
 
     ghost Value = { List (List ℕ) };
 
     ghost view = { λ n. seen n.names.items };
 
-    ghost invariant = { λ n. length n.names.items ≤ 16 };
+    ghost invariant = { λ n. length n.names.items ≤ most_variables };
 }
 
 /// Whether the name is among these.
@@ -41,7 +43,7 @@ pub fn has_name(names: &[&[u8]], name: &[u8]) -> bool
 impl<'a> Names<'a> {
     /// These names, each with the number of those before it.
     pub fn over(names: Vec<&'a [u8]>) -> Names<'a>
-        requires { length names.items ≤ 16 }
+        requires { length names.items ≤ most_variables }
         ensures { result ≡ seen names.entry.items }
     {
         Names { names }
@@ -50,7 +52,7 @@ impl<'a> Names<'a> {
     /// How many there are.
     pub fn count(&self) -> usize
         ensures count { result ≡ length self.now }
-        ensures bound { result ≤ 16 }
+        ensures bound { result ≤ most_variables }
     {
         self.names.len()
     }

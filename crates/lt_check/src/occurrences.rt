@@ -17,7 +17,7 @@ pub fn body_of(statement: &Statement) -> &[Literal]
         Statement::Insert { body, .. } => body.as_slice(),
         Statement::Delete { body, .. } => body.as_slice(),
         Statement::Replace { body, .. } => body.as_slice(),
-        Statement::Need { body, .. } => body.as_slice(),
+        Statement::Require { body, .. } => body.as_slice(),
         Statement::Print { body, .. } => body.as_slice(),
     }
 }
@@ -45,7 +45,7 @@ pub fn atoms_of(alloc: Global, statement: &Statement) -> Result<Vec<&Head>, NoMe
             atoms.push(gone)?;
             atoms.push(come)?;
         }
-        Statement::Need { .. } => {}
+        Statement::Require { .. } => {}
         Statement::Print { .. } => {}
     }
     push_atoms(&mut atoms, body_of(statement))?;
@@ -119,7 +119,7 @@ fn add_front<'a>(names: &mut Vec<&'a [u8]>, statement: &'a Statement) -> Result<
             add_variables(names, gone.terms.as_slice())?;
             add_variables(names, come.terms.as_slice())?;
         }
-        Statement::Need { .. } => {}
+        Statement::Require { .. } => {}
         Statement::Print { terms, .. } => add_variables(names, terms.as_slice())?,
     }
     Ok(())

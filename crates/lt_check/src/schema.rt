@@ -1,16 +1,15 @@
 //! The relations that are there.
 ghost use Rattle.std.specs.Prelude.{◌≡◌, ◌≤◌, ◌<◌, ◌↔◌, ◌++◌, ◌∷◌, [], length, None, IfOk, IfSome, OnOk, OnErr, IsErrOf, IsSome, is_none};
+ghost use Rattle.lt_face.specs.Limits.{most_relations};
 ghost use Rattle.lt_model.specs.Schema.{number_of, columns_of};
 
+use lt_face::limits::MOST_RELATIONS;
 use lt_face::memory::NoMemory;
 use lt_model::kind::{Kind, KindList};
 use lt_model::name::{Headings, Name};
 use lt_reading::texts::are_same;
 use std::alloc::Global;
 use std::marker::Model;
-
-/// How many relations there may be.
-const MOST_RELATIONS: usize = 64;
 
 /// Why a relation was not declared.
 #[derive(Clone, Copy, Debug, PartialEq, Eq)]
@@ -30,13 +29,14 @@ pub struct Schema {
 
 impl Model for Schema {
     ghost use Rattle.std.specs.Prelude.{◌≤◌, length};
+    ghost use Rattle.lt_face.specs.Limits.{most_relations};
     ghost use Rattle.lt_model.specs.Schema as model;
 
     ghost Value = { model.Schema };
 
     ghost view = { λ s. s.headings };
 
-    ghost invariant = { λ s. length s.headings ≤ 64 };
+    ghost invariant = { λ s. length s.headings ≤ most_relations };
 }
 
 impl From<NoMemory> for DeclareFault {
@@ -76,7 +76,7 @@ impl Schema {
     /// The name of each relation with the kinds of its columns.
     pub fn headings(&self) -> &Headings
         ensures headings { result.now ≡ self.now }
-        ensures bound { length self.now ≤ 64 }
+        ensures bound { length self.now ≤ most_relations }
     {
         &self.headings
     }
@@ -103,9 +103,9 @@ impl Schema {
     /// One relation more, and its number. An error leaves the schema as it was.
     pub fn declare(&mut self, name: Name, kinds: KindList) -> Result<u32, DeclareFault>
         ensures ok { IfOk result (λ number. (number ≡ length self.old) × (self.new ≡ self.old ++ (name, kinds) ∷ [])) }
-        ensures room { OnOk result (length self.old < 64) }
+        ensures room { OnOk result (length self.old < most_relations) }
         ensures taken { IsErrOf result DeclareFault.Taken ↔ IsSome (number_of self.old name) }
-        ensures full { IsErrOf result DeclareFault.Full ↔ ((number_of self.old name ≡ None) × (length self.old ≡ 64)) }
+        ensures full { IsErrOf result DeclareFault.Full ↔ ((number_of self.old name ≡ None) × (length self.old ≡ most_relations)) }
         ensures err { OnErr result (self.new ≡ self.old) }
     {
         if self.find(&name).is_some() {

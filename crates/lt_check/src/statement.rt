@@ -1,6 +1,7 @@
 //! The check of one statement.
 ghost use Rattle.std.specs.Prelude.{◌≡◌, ◌≤◌, IfOk, IfErr, None, length, map};
 ghost use Rattle.std.specs.List.{list_all};
+ghost use Rattle.lt_face.specs.Limits.{most_columns};
 ghost use Rattle.lt_model.specs.Bound.{is_bound};
 ghost use Rattle.lt_model.specs.Check.{choice_fits, code_of, normal, normal_with, kind_of, atom as normal_atom, term as normal_term};
 ghost use Rattle.lt_model.specs.Variables as model;
@@ -52,7 +53,7 @@ fn printed(
     known: &Known,
     terms: &[Term],
 ) -> Result<(TermList, KindList), NoMemory>
-    requires { length terms.now ≤ 8 }
+    requires { length terms.now ≤ most_columns }
     ensures { IfOk result (λ printed. printed ≡ (map (normal_term names.now) terms.now, map (kind_of names.now (completed known.now)) terms.now)) }
 {
     let numbers = numbered(alloc, names, terms)?;
@@ -84,7 +85,7 @@ fn with_body(
             let (gone, come) = both(alloc, schema, names, gone, come)?;
             Ok(Stmt::Replace { gone, come, body })
         }
-        Statement::Need { some, .. } => Ok(Stmt::Need { some: *some, body }),
+        Statement::Require { some, .. } => Ok(Stmt::Require { some: *some, body }),
         Statement::Print { terms, .. } => {
             let (terms, kinds) = printed(alloc, names, known, terms.as_slice())?;
             Ok(Stmt::Print { terms, kinds, body })

@@ -1,6 +1,7 @@
 -- What the tables of a board say of a circuit's state.
 use Rattle.std.specs.Prelude.{◌≡◌, ℕ, ◌≤◌, if◌then◌else◌, List, [], ◌∷◌, Option, Some, None, length, slice_index_or, slice_set, max, zero, suc, ◌+◌, ◌++◌, nat_lt}
 use Rattle.std.specs.Option.{option_map}
+use Rattle.lt_face.specs.Limits.{most_programs, most_workers}
 use Rattle.lt_model.specs.declared.mark.Mark.{Mark}
 use Rattle.lt_net.specs.declared.job.JobState.{JobState}
 use Rattle.lt_net.specs.declared.job.JobState.TheVariants.{Clean, Pending}
@@ -57,11 +58,11 @@ abbrev pub state_of : BoardView → State
 state_of b = board_state b.nodes b.states b.done b.claims
 
 pub record IsBoard (leaves : ℕ) (nodes : List Node) (states : List JobState) (done : List (Option (List Mark))) (claims : List (Option Held)) : Type 0 where
-  pub small : leaves ≤ 256
+  pub small : leaves ≤ most_programs
   pub nodes_there : length nodes ≡ max (nodes_over leaves) 1
   pub states_there : length states ≡ codes_over leaves
   pub done_there : length done ≡ leaves
-  pub claims_there : length claims ≡ 16
+  pub claims_there : length claims ≡ most_workers
 
 -- the table with the job's state woken
 abbrev pub waked : BoardView → ℕ → BoardView

@@ -1,5 +1,6 @@
 -- What a contract sees of a circuit, and what holds of each.
 use Rattle.std.specs.Prelude.{◌≡◌, ℕ, ◌+◌, ◌≤◌, ◌<◌, false, List, map, Option, Some, None, length, slice_index_or}
+use Rattle.lt_face.specs.Limits.{most_programs}
 use Rattle.lt_model.specs.declared.mark.Mark.{Mark}
 use Rattle.lt_net.specs.declared.job.JobName.TheVariants.{Leaf}
 use Rattle.lt_net.specs.Net.{State, is_held, replay, opening}
@@ -40,7 +41,7 @@ pub record AreTallies {T : Type 0} (stands_for : T → ℕ → List Mark → Typ
 pub record IsCircuit {T : Type 0} (does : ℕ → List Mark → List Mark) (stands_for : T → ℕ → List Mark → Type 0) (fits : List Mark → Type 0) (has : ℕ → Type 0)
     (board : BoardView) (journal : List Entry) (tallies : List (Option (Prior T))) (used capacity : ℕ) : Type 0 where
   pub replayed : IsReplay does board journal
-  pub few : board.leaves ≤ 256
+  pub few : board.leaves ≤ most_programs
   pub leaves_there : (i : ℕ) → i < board.leaves → has i
   pub tallies_long : length tallies ≡ board.leaves
   pub are_tallies : AreTallies stands_for fits (state_of board) tallies

@@ -1,5 +1,6 @@
 -- The states of the jobs, with an order of all codes.
 use Rattle.std.specs.Prelude.{◌≡◌, ℕ, ◌<◌, ◌≤◌, List, length, slice_index_or}
+use Rattle.lt_face.specs.Limits.{most_programs}
 use Rattle.lt_net.specs.Codes.{codes_over}
 use Rattle.lt_net.specs.declared.job.JobState.{JobState}
 use Rattle.lt_net.specs.declared.job.JobState.TheVariants.{Clean, Pending}
@@ -15,7 +16,7 @@ ArePlaced order places codes = (code : ℕ) → code < codes → IsPlaced order 
 
 -- no Pending job stands before the place `low`
 pub record AreJobs (states : List JobState) (order places : List ℕ) (low : ℕ) : Type 0 where
-  pub few : length states ≤ codes_over 256
+  pub few : length states ≤ codes_over most_programs
   pub places_long : length places ≡ length states
   pub placed : ArePlaced order places (length states)
   pub within : low ≤ length order

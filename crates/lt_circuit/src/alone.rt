@@ -1,5 +1,6 @@
 //! A worker alone: sweeps over the inner jobs, and rounds that each run one leaf more.
 ghost use Rattle.std.specs.Prelude.{◌≡◌, ◌+◌, ◌-◌, ◌*◌, ◌^◌, ◌≤◌, ◌<◌, ℕ, map, length, OnOk, IfSome};
+ghost use Rattle.lt_face.specs.Limits.{most_programs};
 ghost use Rattle.lt_net.specs.Net.{IsSettled};
 ghost use Rattle.lt_net.specs.Tree.{circuit_net, tree_of};
 ghost use Rattle.lt_net.specs.Codes.{code_of, nodes_over};
@@ -18,7 +19,7 @@ impl<W: LeafWork> Circuit<W> {
     /// How many leaves there are.
     fn leaf_count(&self) -> u32
         ensures value { result ≡ self.now.board.leaves }
-        ensures small { result ≤ 256 }
+        ensures small { result ≤ most_programs }
         ensures known { IsReplay (W.does self.now.work) self.now.board self.now.journal }
     {
         self.board.leaves()
@@ -56,7 +57,7 @@ impl<W: LeafWork> Circuit<W> {
     /// Runs the Merges of the nodes below `count`, bottom up.
     fn run_merges(&mut self, count: u32) -> Result<(), NoMemory>
         requires free { IsUnclaimed (state self.old) }
-        requires count { count ≤ nodes_over 256 }
+        requires count { count ≤ nodes_over most_programs }
         ensures ran { OnOk result (state self.new ≡ run_all (shape_net (shape W.does self.old)) (state self.old) (merges_down count)) }
         ensures free { IsUnclaimed (state self.new) }
         ensures shape { shape W.does self.new ≡ shape W.does self.old }
@@ -72,7 +73,7 @@ impl<W: LeafWork> Circuit<W> {
     /// Runs the Corrects of the nodes below `count`, top down.
     fn run_corrects(&mut self, count: u32) -> Result<(), NoMemory>
         requires free { IsUnclaimed (state self.old) }
-        requires count { count ≤ nodes_over 256 }
+        requires count { count ≤ nodes_over most_programs }
         ensures ran { OnOk result (state self.new ≡ run_all (shape_net (shape W.does self.old)) (state self.old) (corrects_up 0 count)) }
         ensures free { IsUnclaimed (state self.new) }
         ensures shape { shape W.does self.new ≡ shape W.does self.old }
@@ -88,7 +89,7 @@ impl<W: LeafWork> Circuit<W> {
     /// Runs each inner job once, where it is Pending: the Merges bottom up, then the Corrects top down.
     fn sweep(&mut self, leaves: u32) -> Result<(), NoMemory>
         requires free { IsUnclaimed (state self.old) }
-        requires leaves { leaves ≤ 256 }
+        requires leaves { leaves ≤ most_programs }
         ensures ran { OnOk result (state self.new ≡ run_all (shape_net (shape W.does self.old)) (state self.old) (sweep_jobs leaves)) }
         ensures free { IsUnclaimed (state self.new) }
         ensures shape { shape W.does self.new ≡ shape W.does self.old }
@@ -104,7 +105,7 @@ impl<W: LeafWork> Circuit<W> {
     /// The lowest leaf that is Pending.
     fn lowest_pending_leaf(&self, leaves: u32) -> Option<u32>
         requires leaves { leaves ≡ (shape W.does self.now).leaves }
-        requires small { leaves ≤ 256 }
+        requires small { leaves ≤ most_programs }
         ensures lowest { result ≡ lowest_pending (state self.now) 0 leaves }
         ensures within { IfSome result (λ leaf. leaf < leaves) }
     {
@@ -120,7 +121,7 @@ impl<W: LeafWork> Circuit<W> {
     fn run_round(&mut self, leaves: u32) -> Result<(), NoMemory>
         requires free { IsUnclaimed (state self.old) }
         requires leaves { leaves ≡ (shape W.does self.old).leaves }
-        requires small { leaves ≤ 256 }
+        requires small { leaves ≤ most_programs }
         ensures ran { OnOk result (state self.new ≡ round (shape_net (shape W.does self.old)) leaves (state self.old)) }
         ensures free { IsUnclaimed (state self.new) }
         ensures shape { shape W.does self.new ≡ shape W.does self.old }

@@ -1,5 +1,6 @@
 //! What a circuit tells. It takes no memory.
 ghost use Rattle.std.specs.Prelude.{true, false, ◌≡◌, ◌≢◌, ◌≤◌, ◌<◌, ◌^◌, ℕ, [], None, Some, IfSome, IsTrue, ◌↔◌, slice_index_or};
+ghost use Rattle.lt_face.specs.Limits.{most_workers};
 ghost use Rattle.lt_net.specs.declared.job.JobState.TheVariants.{Pending};
 ghost use Rattle.lt_circuit.specs.Board.{standing};
 ghost use Rattle.lt_net.specs.Net.{IsSettled, Effect};
@@ -27,7 +28,7 @@ impl<W: LeafWork> Circuit<W> {
     /// How many claims stand. Where none does and no job is Pending, the circuit is settled, and only there.
     pub fn in_flight(&self) -> u32
         ensures count { result ≡ standing self.now.board.claims }
-        ensures few { result ≤ 16 }
+        ensures few { result ≤ most_workers }
         ensures settled { result ≡ 0 → ((j : ℕ) → (state self.now).status j ≢ Pending) → IsSettled (state self.now) }
         ensures none { IsSettled (state self.now) → result ≡ 0 }
     {

@@ -2,6 +2,7 @@
 ghost use Rattle.std.specs.Prelude.{◌≡◌, ◌≤◌, ◌<◌, ℕ, [], IfOk};
 ghost use Rattle.std.specs.Vec.{vec_len, vec_capacity};
 ghost use Rattle.std.specs.Arc.{arc_value};
+ghost use Rattle.lt_face.specs.Limits.{most_programs};
 ghost use Rattle.lt_net.specs.Net.{opening};
 ghost use Rattle.lt_net.specs.Tree.{circuit_net, tree_of};
 ghost use Rattle.lt_net.specs.Alone.{IsUnclaimed};
@@ -37,7 +38,7 @@ impl<W: LeafWork> Model for Circuit<W> {
 impl<W: LeafWork> Circuit<W> {
     /// The opening over the first leaves of the work.
     pub fn start(alloc: Global, work: Arc<W, Global>, leaves: u32) -> Result<Circuit<W>, NoMemory>
-        requires few { leaves ≤ 256 }
+        requires few { leaves ≤ most_programs }
         requires has { (i : ℕ) → i < leaves → W.has (arc_value work) i }
         ensures work { IfOk result (λ circuit. circuit.work ≡ arc_value work) }
         ensures leaves { IfOk result (λ circuit. circuit.board.leaves ≡ leaves) }

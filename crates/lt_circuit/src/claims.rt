@@ -1,6 +1,7 @@
 //! Claims.
 ghost use Rattle.std.specs.Prelude.{◌≡◌, ◌<◌, ℕ, None, IfOk, OnErr};
 ghost use Rattle.std.specs.Arc.{arc_value};
+ghost use Rattle.lt_face.specs.Limits.{most_workers};
 ghost use Rattle.lt_net.specs.declared.job.JobState.TheVariants.{Pending};
 ghost use Rattle.lt_net.specs.Codes.{code_of};
 ghost use Rattle.lt_circuit.specs.Circuit.{state};
@@ -29,7 +30,7 @@ fn share_work<W: LeafWork>(work: &Arc<W, Global>) -> Result<Arc<W, Global>, NoMe
 impl<W: LeafWork> Circuit<W> {
     /// Claims a Pending job. It first takes the journal's room for its own entry and its end.
     fn take(&mut self, worker: u32, name: JobName) -> Result<Job<W>, NoMemory>
-        requires worker { worker < 16 }
+        requires worker { worker < most_workers }
         requires free { (state self.old).claim worker ≡ None }
         requires pending { (state self.old).status (code_of name) ≡ Pending }
         ensures ok { IfOk result (λ job. IsClaimed (W.does self.old.work) self.old self.new worker job) }
@@ -52,7 +53,7 @@ impl<W: LeafWork> Circuit<W> {
 
     /// Claims a job that is Pending, if any.
     pub fn claim(&mut self, worker: u32) -> Claim<W>
-        requires worker { worker < 16 }
+        requires worker { worker < most_workers }
         requires free { (state self.old).claim worker ≡ None }
         ensures answer { IsAnswer (W.does self.old.work) self.old self.new worker result }
         ensures coded { IsCoded result }
@@ -75,7 +76,7 @@ impl<W: LeafWork> Circuit<W> {
 
     /// Claims the job of this code, if it is Pending.
     pub fn claim_this(&mut self, worker: u32, code: u32) -> This<W>
-        requires worker { worker < 16 }
+        requires worker { worker < most_workers }
         requires free { (state self.old).claim worker ≡ None }
         ensures { IsThis (W.does self.old.work) self.old self.new worker code result }
     {

@@ -1,5 +1,6 @@
 //! The ends of claims. They take no memory.
 ghost use Rattle.std.specs.Prelude.{◌≡◌, ◌≢◌, ◌<◌, [], ◌∷◌, ◌++◌, ℕ, List, Some, None, length, slice_set};
+ghost use Rattle.lt_face.specs.Limits.{most_workers};
 ghost use Rattle.lt_model.specs.declared.mark.Mark.{Mark};
 ghost use Rattle.lt_net.specs.Net.{Claim, abandoned, finished, read};
 ghost use Rattle.lt_net.specs.Tree.{circuit_net, inputs_of, tree_of};
@@ -45,7 +46,7 @@ fn store<T: Drop>(
     worker: u32,
     did: Done<T>,
 ) -> (Stood, Used<T>)
-    requires worker { worker < 16 }
+    requires worker { worker < most_workers }
     requires job { inputs_of (tree_of board.old.leaves) (done_name did) ≢ [] }
     requires current { (state_of board.old).status (code_of (done_name did)) ≡ Running →
         done_inputs did ≡ read (state_of board.old).value (inputs_of (tree_of board.old.leaves) (done_name did)) }
@@ -107,7 +108,7 @@ fn store<T: Drop>(
 impl<W: LeafWork> Circuit<W> {
     /// The worker's job is done, and this is its output.
     pub fn finish(&mut self, worker: u32, output: Output<W>) -> Spent<W>
-        requires worker { worker < 16 }
+        requires worker { worker < most_workers }
         requires work { output.work ≡ self.old.work }
         requires claim { (state self.old).claim worker ≡ Some (claim_of_output output) }
         ensures work { self.new.work ≡ self.old.work }
@@ -131,7 +132,7 @@ impl<W: LeafWork> Circuit<W> {
 
     /// The worker gives its job up, and the tally that a leaf's claim took goes back.
     pub fn abandon(&mut self, worker: u32, job: Job<W>)
-        requires worker { worker < 16 }
+        requires worker { worker < most_workers }
         requires work { job.work ≡ self.old.work }
         requires claim { (state self.old).claim worker ≡ Some (claim_of_job job) }
         ensures work { self.new.work ≡ self.old.work }

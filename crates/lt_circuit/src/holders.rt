@@ -2,12 +2,14 @@
 #![tactic(auto)]
 
 ghost use Rattle.std.specs.Prelude.{◌≡◌, ◌<◌, ◌≤◌, List, Option, Some, None, IfOk, length, slice_index_or, slice_set};
+ghost use Rattle.lt_face.specs.Limits.{most_workers};
 ghost use Rattle.lt_circuit.specs.declared.cells.Held.{Held as HeldType};
 ghost use Rattle.lt_circuit.specs.Board.{one_if, standing, table};
 ghost use Rattle.lt_circuit.specs.Holders.{AreHolders};
 
 use crate::cells::Held;
 use lt_face::NoMemory;
+use lt_face::limits::MOST_WORKERS;
 use std::alloc::Global;
 use std::marker::Model;
 use std::mem;
@@ -52,23 +54,23 @@ fn one_if<T>(place: &Option<T>) -> u32
 impl Holders {
     /// No worker holds a job.
     pub fn none(alloc: Global) -> Result<Holders, NoMemory>
-        ensures { IfOk result (λ holders. holders ≡ table (λ _. None) 16) }
+        ensures { IfOk result (λ holders. holders ≡ table (λ _. None) most_workers) }
     {
-        let claims = nones(alloc, 16)?;
+        let claims = nones(alloc, MOST_WORKERS)?;
         Ok(Holders { claims, count: 0 })
     }
 
     /// How many claims stand.
     pub fn count(&self) -> u32
         ensures count { result ≡ standing self.now }
-        ensures few { result ≤ 16 }
+        ensures few { result ≤ most_workers }
     {
         self.count
     }
 
     /// The worker holds the job.
     pub fn hold(&mut self, worker: u32, held: Held)
-        requires { worker < 16 }
+        requires { worker < most_workers }
         ensures { self.new ≡ slice_set self.old worker (Some held) }
     {
         let before = one_if(&self.claims[worker as usize]);
@@ -78,7 +80,7 @@ impl Holders {
 
     /// The worker holds nothing any more. It answers what the worker held.
     pub fn free(&mut self, worker: u32) -> Option<Held>
-        requires { worker < 16 }
+        requires { worker < most_workers }
         ensures free { self.new ≡ slice_set self.old worker None }
         ensures held { result ≡ slice_index_or self.old worker None }
     {

@@ -2,6 +2,7 @@
 #![tactic(auto)]
 
 ghost use Rattle.std.specs.Prelude.{◌≡◌, ◌≢◌, ℕ, true, false, ◌<◌, ◌≤◌, ◌^◌, ◌↔◌, IsTrue, List, IfOk, IfSome, None, length, slice_index_or, slice_set};
+ghost use Rattle.lt_face.specs.Limits.{most_programs};
 ghost use Rattle.lt_net.specs.declared.job.JobState.{JobState as JobStateType};
 ghost use Rattle.lt_net.specs.declared.job.JobState.TheVariants.{Clean, Pending};
 ghost use Rattle.lt_net.specs.Codes.{code_of, codes_over};
@@ -100,7 +101,7 @@ fn lowered(low: usize, place: usize, state: JobState) -> usize
 impl Jobs {
     /// The leaves' jobs are Pending, the others Clean. The order is the walk over the tree from the left.
     pub fn start(alloc: Global, leaves: u32) -> Result<Jobs, NoMemory>
-        requires { leaves ≤ 256 }
+        requires { leaves ≤ most_programs }
         ensures { IfOk result (λ started. started ≡ table (first_state leaves) (codes_over leaves)) }
     {
         let jobs = codes_over(leaves);

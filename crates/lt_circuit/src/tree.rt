@@ -5,12 +5,13 @@
 #![tactic(auto)]
 
 ghost use Rattle.std.specs.Prelude.{◌≡◌, ℕ, ◌+◌, ◌-◌, ◌*◌, ◌/◌, ◌<◌, ◌≤◌, ◌≢◌, Some, None, IfSome};
+ghost use Rattle.lt_face.specs.Limits.{most_programs};
 ghost use Rattle.lt_net.specs.Tree.{right_of, node_of, parent_of, leaf_at, halved_tree};
 
 /// The node of a leaf.
 #[tactic(auto, using(crate::proofs::Walk::node_in_left, crate::proofs::Walk::node_in_right))]
 pub fn node_of(leaves: u32, leaf: u32) -> u32
-    requires small { leaves ≤ 256 }
+    requires small { leaves ≤ most_programs }
     requires inside { leaf < leaves }
     ensures node { result ≡ node_of (halved_tree leaves) leaf }
     ensures within { result + 1 < 2 * leaves }
@@ -29,7 +30,7 @@ pub fn node_of(leaves: u32, leaf: u32) -> u32
 /// The right child of an inner node.
 #[tactic(auto, using(crate::proofs::Walk::right_at_root, crate::proofs::Walk::right_in_left, crate::proofs::Walk::right_in_right))]
 pub fn right_of(leaves: u32, node: u32) -> Option<u32>
-    requires small { leaves ≤ 256 }
+    requires small { leaves ≤ most_programs }
     requires some { 0 < leaves }
     requires inside { node + 1 < 2 * leaves }
     ensures node { result ≡ right_of (halved_tree leaves) node }
@@ -57,7 +58,7 @@ pub fn right_of(leaves: u32, node: u32) -> Option<u32>
 /// The parent of a node but the root.
 #[tactic(auto, using(crate::proofs::Walk::parent_at_left, crate::proofs::Walk::parent_at_right, crate::proofs::Walk::parent_in_left, crate::proofs::Walk::parent_in_right))]
 pub fn parent_of(leaves: u32, node: u32) -> u32
-    requires small { leaves ≤ 256 }
+    requires small { leaves ≤ most_programs }
     requires below { 0 < node }
     requires inside { node + 1 < 2 * leaves }
     ensures parent { result ≡ parent_of (halved_tree leaves) node }
@@ -76,7 +77,7 @@ pub fn parent_of(leaves: u32, node: u32) -> u32
 /// The leaf at a node without children, or the first one below.
 #[tactic(auto, using(crate::proofs::Walk::leaf_in_left, crate::proofs::Walk::leaf_in_right))]
 pub fn leaf_at(leaves: u32, node: u32) -> u32
-    requires small { leaves ≤ 256 }
+    requires small { leaves ≤ most_programs }
     requires inside { node + 1 < 2 * leaves }
     ensures leaf { result ≡ leaf_at (halved_tree leaves) node }
     ensures within { result < leaves }

@@ -3,6 +3,7 @@ use Rattle.std.specs.Prelude.{◌≤◌, ◌^◌, ◌&&◌, ℕ, Bool, List, Opt
 use Rattle.std.specs.Option.{option_map_or}
 use Rattle.std.specs.Str.{bytes_eq}
 use Rattle.std.specs.Str.Parse.{digits_value, without_leading_plus}
+use Rattle.lt_face.specs.Limits.{most_workers}
 use Rattle.clap.specs.ValueTests.{is_numeral}
 use Rattle.clap.specs.Walk.{is_empty}
 use Rattle.clap.specs.Words.{Row, Text, fault_of, first_of, one_of, subcommand_of}
@@ -24,7 +25,7 @@ number_within least most otherwise id rows =
 
 -- how many workers a command's matches ask for: 4 where they don't say
 abbrev pub workers_in : List Row → ℕ
-workers_in = number_within 1 16 4 (codes "workers")
+workers_in = number_within 1 most_workers 4 (codes "workers")
 
 -- whether they ask for the marks
 abbrev pub marks_in : List Row → Bool
@@ -41,9 +42,9 @@ programs_in = number_within 1 65536 1 (codes "programs")
 
 -- it has from 1 to 16 workers, from 1 to 16384 items and from 1 to 65536 programs
 abbrev pub IsWithin : declared.Command → Type 0
-IsWithin (Run workers marks) = (1 ≤ workers) × (workers ≤ 16)
+IsWithin (Run workers marks) = (1 ≤ workers) × (workers ≤ most_workers)
 IsWithin (Bench seed items programs workers) =
-    (1 ≤ items) × (items ≤ 16384) × (1 ≤ programs) × (programs ≤ 65536) × (1 ≤ workers) × (workers ≤ 16)
+    (1 ≤ items) × (items ≤ 16384) × (1 ≤ programs) × (programs ≤ 65536) × (1 ≤ workers) × (workers ≤ most_workers)
 
 -- the command whose matches these are
 abbrev pub command_in : Option (Text × List Row) → Option declared.Command

@@ -1,5 +1,6 @@
 -- The commands, as the parser of command lines reads them.
 use Rattle.std.specs.Prelude.{Some, codes, pos, true}
+use Rattle.lt_face.specs.Limits.{most_workers}
 use Rattle.clap.specs.Words.{App, Rule, new_app, new_rule, with_rule, with_subcommand}
 use Rattle.clap.specs.declared.builder.value_parser.ValueParser.TheVariants.{Signed, Unsigned}
 use Rattle.clap.specs.declared.builder.action.ArgAction.TheVariants.{SetTrue}
@@ -8,7 +9,7 @@ use Rattle.clap.specs.declared.builder.action.ArgAction.TheVariants.{SetTrue}
 abbrev pub workers : Rule
 workers = record (new_rule (codes "workers")) {
   long = Some (codes "workers");
-  parser = Some (Signed (pos 1) (pos 16));
+  parser = Some (Signed (pos 1) (pos most_workers));
 }
 
 -- `--marks`

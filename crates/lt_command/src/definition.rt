@@ -5,6 +5,7 @@ ghost use Rattle.clap.specs.declared.builder.command.Command.TheViews.{out-Comma
 ghost use Rattle.lt_command.specs.Definition as definition;
 
 use clap::{Arg, ArgAction, Command, value_parser};
+use lt_face::limits::MOST_WORKERS;
 use std::alloc::{AllocError, Global};
 
 // `--workers N`: how many workers run a batch.
@@ -14,7 +15,7 @@ fn workers<'a>(alloc: Global) -> Arg<'a>
 {
     Arg::new(alloc, "workers")
         .long("workers")
-        .value_parser(value_parser!(u32).range(1..=16))
+        .value_parser(value_parser!(u32).range(1..=MOST_WORKERS as i64))
 }
 
 // `--marks`: the marks of each program that is done are told too.

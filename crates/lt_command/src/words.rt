@@ -7,6 +7,7 @@ use crate::definition::commands;
 use clap::ArgMatches;
 use clap::error::ErrorKind;
 use lt_face::NoMemory;
+use lt_face::limits::MOST_WORKERS;
 use std::alloc::Global;
 
 /// A command, with what its options say.
@@ -65,7 +66,7 @@ fn command_met(matches: &ArgMatches<'_>) -> Option<Command>
     };
     if name == "run" {
         return Some(Command::Run {
-            workers: number_of(inner, "workers", 4, 1, 16),
+            workers: number_of(inner, "workers", 4, 1, MOST_WORKERS as u32),
             marks: has_marks(inner),
         });
     }
@@ -74,7 +75,7 @@ fn command_met(matches: &ArgMatches<'_>) -> Option<Command>
             seed: seed_of(inner),
             items: number_of(inner, "items", 1, 1, 16384),
             programs: number_of(inner, "programs", 1, 1, 65536),
-            workers: number_of(inner, "workers", 4, 1, 16),
+            workers: number_of(inner, "workers", 4, 1, MOST_WORKERS as u32),
         });
     }
     None

@@ -6,6 +6,7 @@ pub mod indexes;
 pub mod items;
 pub mod key;
 pub mod key_iter;
+pub mod limits;
 pub mod memory;
 pub mod moves;
 pub mod near;

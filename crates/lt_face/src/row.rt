@@ -1,8 +1,10 @@
 //! Rows: short lists of cells, in lexicographic order.
 ghost use Rattle.std.specs.Prelude.{◌≡◌, ◌+◌, ◌<◌, ◌≤◌, [], ◌∷◌, ◌++◌, length, slice_index, IsSome, ◌↔◌, ◌-◌, take};
 ghost use Rattle.std.specs.Option.{option_to_list};
+ghost use Rattle.lt_face.specs.Limits.{most_columns};
 
 use crate::key::Key;
+use crate::limits::MOST_COLUMNS;
 use smallvec::SmallVec;
 use std::alloc::Global;
 use std::marker::Model;
@@ -11,25 +13,26 @@ use std::marker::Model;
 /// that differs, and a row comes before those that it begins.
 #[derive(Debug, Drop, PartialEq, Eq, PartialOrd, Ord)]
 pub struct Row {
-    cells: SmallVec<Key, 8>,
+    cells: SmallVec<Key, MOST_COLUMNS>,
 }
 
 impl Model for Row {
     ghost use Rattle.std.specs.Prelude.{◌≡◌, ◌≤◌, ℕ, List, length};
+    ghost use Rattle.lt_face.specs.Limits.{most_columns};
 
     ghost Value = { List ℕ };
 
     ghost view = { λ r. r.cells.items };
 
-    ghost invariant = { λ r. (r.cells.capacity ≡ 8) × (length r.cells.items ≤ 8) };
+    ghost invariant = { λ r. (r.cells.capacity ≡ most_columns) × (length r.cells.items ≤ most_columns) };
 
-    ghost inverse = { λ xs. record { cells = record { items = xs; capacity = 8 } } };
+    ghost inverse = { λ xs. record { cells = record { items = xs; capacity = most_columns } } };
 }
 
 impl Row {
     /// The row of these cells. It takes nothing from `alloc`.
     pub fn from_cells(alloc: Global, cells: &[Key]) -> Row
-        requires { length cells.now ≤ 8 }
+        requires { length cells.now ≤ most_columns }
         ensures { result ≡ cells.now }
     {
         Row {
@@ -40,7 +43,7 @@ impl Row {
     /// How many cells there are.
     pub fn width(&self) -> usize
         ensures value { result ≡ length self.now }
-        ensures bound { result ≤ 8 }
+        ensures bound { result ≤ most_columns }
     {
         self.cells.len()
     }
@@ -56,7 +59,7 @@ impl Row {
     /// All cells.
     pub fn cells(&self) -> &[Key]
         ensures cells { result.now ≡ self.now }
-        ensures bound { length self.now ≤ 8 }
+        ensures bound { length self.now ≤ most_columns }
     {
         self.cells.as_slice()
     }
@@ -66,7 +69,7 @@ impl Row {
         ensures { result ≡ self.now }
     {
         let cells = self.cells.as_slice();
-        let mut all = [0; 8];
+        let mut all = [0; MOST_COLUMNS];
         for i in 0..cells.len() {
             all[i] = cells[i];
         }
@@ -77,7 +80,7 @@ impl Row {
 
     /// Adds a cell at the end. The row has fewer than eight.
     pub fn push(&mut self, cell: Key)
-        requires { length self.old < 8 }
+        requires { length self.old < most_columns }
         ensures { self.new ≡ self.old ++ cell ∷ [] }
     {
         self.cells.push_reserved(cell);

@@ -1,6 +1,7 @@
 //! Sets of rows, however they are kept.
 ghost use Rattle.std.specs.Prelude.{◌≡◌, ◌<◌, ◌≤◌, ℕ, List, [], ◌∷◌, ◌++◌, length, IfOk, OnOk, OnErr, not};
 ghost use Rattle.std.specs.Option.{option_copied};
+ghost use Rattle.lt_face.specs.Limits.{most_columns};
 ghost use Rattle.lt_face.specs.Rows.{IsRow, IsRowSet, has_row, first_from, with_row, without_row};
 
 use crate::items::RowList;
@@ -21,7 +22,7 @@ pub trait RowReads: Sized {
     /// How many cells each row has: at most 8.
     fn width(&self) -> usize
         ensures value { result ≡ width_of self.now }
-        ensures bound { result ≤ 8 }
+        ensures bound { result ≤ most_columns }
         ensures is_set { IsRowSet (width_of self.now) (rows self.now) };
 
     /// How many rows there are.
@@ -47,14 +48,14 @@ pub trait RowReads: Sized {
 pub trait RowSet: RowReads + Drop + Send + Sync {
     /// The empty set for rows of this width.
     fn empty(alloc: Global, width: usize) -> Result<Self, NoMemory>
-        requires { width ≤ 8 }
+        requires { width ≤ most_columns }
         ensures rows { IfOk result (λ set. Self.rows set ≡ []) }
         ensures width { IfOk result (λ set. Self.width_of set ≡ width) };
 
     /// The set of these rows, which ascend strictly and have this width; it is the set's, also where there is no row. A set
     /// of n rows is made by one sort and this call, without n inserts.
     fn from_sorted(width: usize, rows: RowList) -> Result<Self, NoMemory>
-        requires narrow { width ≤ 8 }
+        requires narrow { width ≤ most_columns }
         requires sorted { IsRowSet width rows }
         ensures rows { IfOk result (λ set. Self.rows set ≡ rows) }
         ensures width { IfOk result (λ set. Self.width_of set ≡ width) };

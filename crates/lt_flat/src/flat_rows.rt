@@ -21,6 +21,7 @@ pub struct FlatRows {
 impl Model for FlatRows {
     ghost use Rattle.std.specs.Prelude.{◌≤◌};
     ghost use Rattle.std.specs.Arc.{arc_value};
+    ghost use Rattle.lt_face.specs.Limits.{most_columns};
     ghost use Rattle.lt_face.specs.Rows.{IsRowSet};
     ghost use Rattle.lt_face.specs.State.{Relation};
 
@@ -28,7 +29,7 @@ impl Model for FlatRows {
 
     ghost view = { λ s. record { width = s.width; rows = (arc_value s.rows).items } };
 
-    ghost invariant = { λ s. (s.width ≤ 8) × IsRowSet s.width (arc_value s.rows).items };
+    ghost invariant = { λ s. (s.width ≤ most_columns) × IsRowSet s.width (arc_value s.rows).items };
 }
 
 impl FlatRows {

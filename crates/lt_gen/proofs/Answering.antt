@@ -16,7 +16,7 @@ use Rattle.lt_model.specs.Schema.{Schema}
 use Rattle.lt_model.specs.Check.{Checked, Good, Bad, after_good, checked, checked_from, code_of, normal, or_bad}
 use Rattle.lt_model.specs.Limits.{IsProgramWithin, IsWithinLimits}
 use Rattle.lt_model.specs.Marks.{Marks, and_then, laid}
-use Rattle.lt_model.specs.Effect.{Writes, Needs, Prints, effect}
+use Rattle.lt_model.specs.Effect.{Writes, Requires, Prints, effect}
 use Rattle.lt_model.specs.Run.{Progress, run, run_from, run_on}
 use Rattle.lt_model.specs.Serial.{serial}
 use Rattle.lt_model.specs.Report.{Text, World, good_of, step}
@@ -35,7 +35,7 @@ prints_from n j [] state p few = let h : length p.prints ≤ n = omega (arith, f
 prints_from n j (s ∷ program) state p few =
     elim (effect s (laid state p.marks)) as (λ e. HasAtMost n (run_on j p e (run_from (j + 1) program state)).0) [
       | Writes marks ↦ let h : length p.prints + length program ≤ n = omega (arith, few) in prints_from n (j + 1) program state (record p { marks = and_then p.marks marks }) h
-      | Needs holds ↦ elim holds as (λ b. HasAtMost n (run_on j p (Needs b) (run_from (j + 1) program state)).0) [
+      | Requires holds ↦ elim holds as (λ b. HasAtMost n (run_on j p (Requires b) (run_from (j + 1) program state)).0) [
         | true ↦ let h : length p.prints + length program ≤ n = omega (arith, few) in prints_from n (j + 1) program state p h
         | false ↦ tt
       ]

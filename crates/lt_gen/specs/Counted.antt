@@ -1,5 +1,6 @@
 -- Summaries that count answers.
 use Rattle.std.specs.Prelude.{◌≡◌, ◌*◌, ◌^◌, ◌≤◌, ◌<◌, List, length}
+use Rattle.lt_face.specs.Limits.{most_statements}
 use Rattle.lt_model.specs.declared.reply.Reply.{Reply}
 use Rattle.lt_model.specs.declared.reply.Reply.TheVariants.{Done, Refused}
 use Rattle.lt_gen.specs.declared.summary.Summary.{Summary}
@@ -20,5 +21,5 @@ pub record HasRoom (summary : Summary) : Type 0 where
 
 -- a reply has at most as many prints as a program has statements
 abbrev pub HasFewPrints : Reply → Type 0
-HasFewPrints (Done prints) = length prints ≤ 64
+HasFewPrints (Done prints) = length prints ≤ most_statements
 HasFewPrints (Refused j) = Unit {0}

@@ -8,7 +8,7 @@ use Rattle.lt_model.specs.declared.syntax.Op.TheVariants.{Ge}
 use Rattle.lt_model.specs.declared.syntax.Literal.{Literal}
 use Rattle.lt_model.specs.declared.syntax.Literal.TheVariants.{Atom, Cmp, Sum}
 use Rattle.lt_model.specs.declared.syntax.Statement.{Statement}
-use Rattle.lt_model.specs.declared.syntax.Statement.TheVariants.{Insert, Replace, Need, Print}
+use Rattle.lt_model.specs.declared.syntax.Statement.TheVariants.{Insert, Replace, Require, Print}
 use Rattle.lt_model.specs.declared.syntax.Program.{Program}
 use Rattle.lt_model.specs.Cells.{zero_cell}
 
@@ -32,7 +32,7 @@ stocks i q = Insert (stock (int i) (int q)) []
 
 -- `require some stock(i, n), n >= c;`
 abbrev pub requires_stock : ℕ → ℕ → Statement
-requires_stock i c = Need true (Atom (stock (int i) (var (codes "n"))) ∷ Cmp (var (codes "n")) Ge (int c) ∷ [])
+requires_stock i c = Require true (Atom (stock (int i) (var (codes "n"))) ∷ Cmp (var (codes "n")) Ge (int c) ∷ [])
 
 -- `stock(i, n), m = n - c`
 abbrev pub stock_less : ℕ → ℕ → List Literal

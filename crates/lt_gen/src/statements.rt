@@ -91,7 +91,7 @@ fn requires_stock(alloc: Global, i: u32, c: u32) -> Result<Statement, NoMemory>
         right: int(c),
     };
     let body = pair(alloc, Literal::Atom(head), enough)?;
-    Ok(Statement::Need { some: true, body })
+    Ok(Statement::Require { some: true, body })
 }
 
 // `stock(i, n), m = n - c`

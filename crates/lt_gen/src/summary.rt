@@ -1,6 +1,7 @@
 //! What comes of the generated script.
 ghost use Rattle.std.specs.Prelude.{◌≡◌, ◌+◌, ◌^◌, ◌≤◌, List, [], ◌∷◌, ◌++◌, length, sum_by, codes};
 ghost use Rattle.std.specs.Str.{bytes_eq};
+ghost use Rattle.lt_face.specs.Limits.{most_statements};
 ghost use Rattle.lt_model.specs.declared.reply.Printed.{Printed as PrintedType};
 ghost use Rattle.lt_gen.specs.Answered.{Answer, done_count, refused_count, rows_printed};
 ghost use Rattle.lt_gen.specs.Counted.{Counts, HasFewPrints, HasRoom};
@@ -22,7 +23,7 @@ pub struct Summary {
 
 // How many rows there are in all.
 fn rows_in(prints: &[Printed]) -> u128
-    requires { length prints.now ≤ 64 }
+    requires { length prints.now ≤ most_statements }
     ensures rows { result ≡ sum_by (λ (p : PrintedType). length p.rows) prints.now }
     ensures bound { result ≤ 2 ^ 70 }
 {

@@ -13,7 +13,7 @@ use Rattle.lt_model.specs.declared.syntax.Literal.TheVariants.{Atom, Cmp, Sum}
 use Rattle.lt_model.specs.Tokens.{Shape, word, sign}
 use Rattle.lt_model.specs.Grammar.{UpTo, the, ◌·◌, left_paren, right_paren, where_word, digits_value, signed, greatest, op_text, sum_text, SpellsName, SpellsTerm, SpellsTerms, SpellsHead, SpellsLiteral, SpellsBody, SpellsWhere}
 use Rattle.lt_grammar.specs.Tokens.{Text, equals}
-use Rattle.lt_grammar.specs.Grammar.{Term, name, numeral, quoted, Literal, atom, compare, total, only, with_commas, in_parens, past, IsName, IsTerm, IsHead, IsLiteral, IsWhere, term_tokens, head_tokens, op_token, plus_token, literal_tokens, where_tokens}
+use Rattle.lt_grammar.specs.Grammar.{Term, name, numeral, quoted, Literal, atom, compare, sum, only, with_commas, in_parens, past, IsName, IsTerm, IsHead, IsLiteral, IsWhere, term_tokens, head_tokens, op_token, plus_token, literal_tokens, where_tokens}
 use Rattle.lt_grammar.specs.Meaning.{level_of, term_value, head_value, literal_value}
 use Rattle.lt_grammar.proofs.Agrees.{Written, Agrees, led_agrees, ended_agrees, pair_agrees, few_agrees, AreFew}
 
@@ -113,8 +113,8 @@ literal_there : (level : Level) (l : Literal) → IsLiteral level l → SpellsLi
 literal_there level (atom h) k = (heads_agree level).there h k
 literal_there level (compare left op right) h =
     subst (λ (s : Shape). SpellsLiteral (level_of level) (literal_value (compare left op right)) (term_tokens left ++ (s ∷ term_tokens right))) (op_same op) ((two_agree level (sign (op_text op))).there (left, right) h)
-literal_there level (total v a m b) h =
-    subst (λ (s : Shape). SpellsLiteral (level_of level) (literal_value (total v a m b)) (only (word v) ++ (equals ∷ (term_tokens a ++ (s ∷ term_tokens b))))) (sum_same m) ((sum_agrees level (sign (sum_text m))).there (v, (a, b)) h)
+literal_there level (sum v a m b) h =
+    subst (λ (s : Shape). SpellsLiteral (level_of level) (literal_value (sum v a m b)) (only (word v) ++ (equals ∷ (term_tokens a ++ (s ∷ term_tokens b))))) (sum_same m) ((sum_agrees level (sign (sum_text m))).there (v, (a, b)) h)
 
 literal_back : (level : Level) (v : LiteralValue) (ts : List Shape) → SpellsLiteral (level_of level) v ts → Written (IsLiteral level) literal_tokens literal_value v ts
 literal_back level (Atom v) ts h = let x = (heads_agree level).back v ts h in (atom x.0, x.1, ap Atom x.2, x.3)
@@ -127,7 +127,7 @@ literal_back level (Cmp left op right) ts h =
     )
 literal_back level (Sum v a m b) ts h =
     let x = (sum_agrees level (sign (sum_text m))).back (v, (a, b)) ts h in (
-      total x.0.0 x.0.1.0 m x.0.1.1,
+      sum x.0.0 x.0.1.0 m x.0.1.1,
       x.1,
       ap (λ (w : Text × (TermValue × TermValue)). Sum w.0 w.1.0 m w.1.1) x.2,
       ap (λ (s : Shape). only (word x.0.0) ++ (equals ∷ (term_tokens x.0.1.0 ++ (s ∷ term_tokens x.0.1.1)))) (turned (sum_same m)) ∙ x.3,

@@ -10,7 +10,7 @@ use Rattle.lt_model.specs.declared.syntax.Term.{Term as TermValue}
 use Rattle.lt_model.specs.declared.syntax.Head.{Head as HeadValue}
 use Rattle.lt_model.specs.declared.syntax.Literal.{Literal as LiteralValue}
 use Rattle.lt_model.specs.declared.syntax.Statement.{Statement as StatementValue}
-use Rattle.lt_model.specs.declared.syntax.Statement.TheVariants.{Insert, Delete, Replace, Need, Print}
+use Rattle.lt_model.specs.declared.syntax.Statement.TheVariants.{Insert, Delete, Replace, Require, Print}
 use Rattle.lt_model.specs.declared.syntax.Program.{Program as ProgramValue}
 use Rattle.lt_model.specs.declared.syntax.Item.{Item as ItemValue}
 use Rattle.lt_model.specs.declared.syntax.Item.TheVariants.{Relation, Batch, Show}
@@ -97,9 +97,9 @@ form_back level (Delete head body) ts h =
 form_back level (Replace gone come body) ts h =
     let x = (led_agrees (replaced level) replace_word).back (gone, (come, body)) ts h in
     (replace x.0.0 x.0.1.0 x.0.1.1, x.1, ap (λ (w : HeadValue × (HeadValue × List LiteralValue)). Replace w.0 w.1.0 w.1.1) x.2, x.3)
-form_back level (Need some body) ts h =
+form_back level (Require some body) ts h =
     let x = (led_agrees (led_agrees (needed level) (word (some_text some))) require_word).back body ts h in
-    (require some x.0.0 x.0.1, x.1, ap (Need some) x.2, x.3)
+    (require some x.0.0 x.0.1, x.1, ap (Require some) x.2, x.3)
 form_back level (Print terms body) ts h =
     let x = (led_agrees (printed level) print_word).back (terms, body) ts h in
     (print x.0.0.0 x.0.0.1 x.0.1.0 x.0.1.1, x.1, ap (λ (w : List TermValue × List LiteralValue). Print w.0 w.1) x.2, x.3)

@@ -17,7 +17,7 @@ use Rattle.lt_model.specs.Grammar.{comma, where_word}
 use Rattle.lt_grammar.specs.Tokens.{Text, same_shape, equals}
 use Rattle.lt_model.specs.declared.syntax.Op.{Op}
 use Rattle.lt_model.specs.declared.syntax.Op.TheVariants.{Eq, Ne, Lt, Le, Gt, Ge}
-use Rattle.lt_grammar.specs.Grammar.{Term, name, numeral, quoted, Literal, atom, compare, total, IsLiteral, IsWhere, term_tokens, op_token, plus_token, literal_tokens, where_tokens}
+use Rattle.lt_grammar.specs.Grammar.{Term, name, numeral, quoted, Literal, atom, compare, sum, IsLiteral, IsWhere, term_tokens, op_token, plus_token, literal_tokens, where_tokens}
 use Rattle.lt_grammar.specs.Productions.{is_word, name_at, constant_at, term_at, starts_term, terms_at, other_ops, all_ops, other_op_at, op_at, plus_table, plus_at, is_plus, is_left_paren, is_equals, Rest, equation_at, rest_at, literal_of, literal_at, body_at, is_where, where_of, where_at}
 use Rattle.lt_grammar.proofs.Shapes.{marks}
 use Rattle.lt_grammar.proofs.Terms.{Names, names_read, Constants, constants_read, constants_no_word, constant_term, Terms, terms_read, terms_begin, terms_start, Arguments, arguments_read}
@@ -145,7 +145,7 @@ literal_parts (atom h) = inl (h.relation, inl (h.first, h.others))
 literal_parts (compare (name v) op r) = inl (v, named op r)
 literal_parts (compare (numeral m digits) op r) = inr (numeral m digits, (op, r))
 literal_parts (compare (quoted text) op r) = inr (quoted text, (op, r))
-literal_parts (total v a m b) = inl (v, inr (inl (a, Some (m, b))))
+literal_parts (sum v a m b) = inl (v, inr (inl (a, Some (m, b))))
 
 literal_same : (a : (Text × Rest) ⊎ (Term × (Op × Term))) → LiteralParts.Holds formed a → literal_tokens (literal_of a) ≡ LiteralParts.spell a
 literal_same (inl (v, inl ts)) h = refl
@@ -178,7 +178,7 @@ literal_is (compare (name v) Gt r) = refl
 literal_is (compare (name v) Ge r) = refl
 literal_is (compare (numeral m digits) op r) = refl
 literal_is (compare (quoted text) op r) = refl
-literal_is (total v a m b) = refl
+literal_is (sum v a m b) = refl
 
 literal_to : (level : Level) (a : (Text × Rest) ⊎ (Term × (Op × Term))) → LiteralParts.Holds level a → IsLiteral level (literal_of a)
 literal_to level (inl (v, inl ts)) h = h
@@ -197,7 +197,7 @@ literal_from level (compare (name v) Gt r) h = (h.0, (tt, h.1))
 literal_from level (compare (name v) Ge r) h = (h.0, (tt, h.1))
 literal_from level (compare (numeral m digits) op r) h = (h.0, (tt, h.1))
 literal_from level (compare (quoted text) op r) h = (h.0, (tt, h.1))
-literal_from level (total v a m b) h = (h.0, (h.1.0, (tt, h.1.1)))
+literal_from level (sum v a m b) h = (h.0, (h.1.0, (tt, h.1.1)))
 
 constant_first : Begins is_word false (Both Constants (Both Ops Terms))
 constant_first (c, x) h = heads_more is_word false (Constants.spell c) (op_token x.0 ∷ term_tokens x.1) (constants_no_word c h.0)
@@ -215,7 +215,7 @@ literals_read =
 pub literals_begin : Begins starts_term true Literals
 literals_begin (atom k) h = rw h.0 refl
 literals_begin (compare left op right) h = heads_more starts_term true (term_tokens left) (op_token op ∷ term_tokens right) (terms_begin left h.0)
-literals_begin (total v a m b) h = rw h.0 refl
+literals_begin (sum v a m b) h = rw h.0 refl
 
 pub literals_start : Started starts_term Literals
 literals_start t h =
@@ -233,7 +233,7 @@ literals_free (compare (name v) Gt r) t p = refl
 literals_free (compare (name v) Ge r) t p = refl
 literals_free (compare (numeral m digits) op r) t p = refl
 literals_free (compare (quoted text) op r) t p = refl
-literals_free (total v a m b) t p = refl
+literals_free (sum v a m b) t p = refl
 
 -- ---- bodies
 

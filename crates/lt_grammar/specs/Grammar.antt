@@ -1,6 +1,7 @@
 -- The grammar: the tokens of each item, and what is asked of it at each level.
-use Rattle.std.specs.Prelude.{◌≡◌, ℕ, ◌<◌, List, [], ◌∷◌, ◌++◌, length, fold, Bool, true, false, nat_le, Option, Some, None, codes}
+use Rattle.std.specs.Prelude.{◌≡◌, ℕ, ◌<◌, ◌-◌, List, [], ◌∷◌, ◌++◌, length, fold, Bool, true, false, nat_le, Option, Some, None, codes}
 use Rattle.std.specs.List.{flat_map, AllByRecursion}
+use Rattle.lt_face.specs.Limits.{most_columns, most_literals, most_programs, most_statements, most_variables}
 use Rattle.lt_model.specs.declared.kind.Kind.{Kind}
 use Rattle.lt_model.specs.declared.kind.Kind.TheVariants.{Int, Sym}
 use Rattle.lt_model.specs.declared.syntax.Op.{Op}
@@ -29,7 +30,7 @@ pub data Literal : Type 0 where
   atom : Head → Literal
   compare : Term → Op → Term → Literal
   -- name = a + b, or with a minus
-  total : Text → Term → Bool → Term → Literal
+  sum : Text → Term → Bool → Term → Literal
 
 pub data Statement : Type 0 where
   insert : Head → List Literal → Statement
@@ -88,7 +89,7 @@ plus_token true = minus
 abbrev pub literal_tokens : Literal → List Shape
 literal_tokens (atom h) = head_tokens h
 literal_tokens (compare left op right) = term_tokens left ++ (only (op_token op) ++ term_tokens right)
-literal_tokens (total v a m b) = only (word v) ++ only equals ++ (term_tokens a ++ (only (plus_token m) ++ term_tokens b))
+literal_tokens (sum v a m b) = only (word v) ++ only equals ++ (term_tokens a ++ (only (plus_token m) ++ term_tokens b))
 
 abbrev pub where_tokens : List Literal → List Shape
 where_tokens [] = []
@@ -138,7 +139,7 @@ IsTerm level (quoted text) = Unit {0}
 
 -- at most eight
 abbrev pub AreTerms : Level → Term → List Term → Type 0
-AreTerms level t ts = IsTerm level t × (AllByRecursion (IsTerm level) ts × AtMost level (length ts) 7)
+AreTerms level t ts = IsTerm level t × (AllByRecursion (IsTerm level) ts × AtMost level (length ts) (most_columns - 1))
 
 abbrev pub IsHead : Level → Head → Type 0
 IsHead level h = IsName h.relation × AreTerms level h.first h.others
@@ -146,11 +147,11 @@ IsHead level h = IsName h.relation × AreTerms level h.first h.others
 abbrev pub IsLiteral : Level → Literal → Type 0
 IsLiteral level (atom h) = IsHead level h
 IsLiteral level (compare left op right) = IsTerm level left × IsTerm level right
-IsLiteral level (total v a m b) = IsName v × (IsTerm level a × IsTerm level b)
+IsLiteral level (sum v a m b) = IsName v × (IsTerm level a × IsTerm level b)
 
 -- at most sixteen
 abbrev pub AreLiterals : Level → Literal → List Literal → Type 0
-AreLiterals level l ls = IsLiteral level l × (AllByRecursion (IsLiteral level) ls × AtMost level (length ls) 15)
+AreLiterals level l ls = IsLiteral level l × (AllByRecursion (IsLiteral level) ls × AtMost level (length ls) (most_literals - 1))
 
 abbrev pub IsWhere : Level → List Literal → Type 0
 IsWhere level [] = Unit {0}
@@ -179,7 +180,7 @@ head_names h = terms_names h.first h.others
 abbrev pub literal_names : Literal → List Text
 literal_names (atom h) = head_names h
 literal_names (compare left op right) = term_names left ++ term_names right
-literal_names (total v a m b) = v ∷ (term_names a ++ term_names b)
+literal_names (sum v a m b) = v ∷ (term_names a ++ term_names b)
 
 abbrev pub body_names : List Literal → List Text
 body_names ls = flat_map literal_names ls
@@ -193,21 +194,21 @@ statement_names (print t ts l ls) = terms_names t ts ++ body_names (l ∷ ls)
 
 -- at most sixteen variables
 unfoldable pub few_names : Statement → Bool
-few_names s = nat_le (length (fold with_name [] (statement_names s))) 16
+few_names s = nat_le (length (fold with_name [] (statement_names s))) most_variables
 
 abbrev pub IsStatement : Level → Statement → Type 0
 IsStatement level s = IsForm level s × AtClose level (few_names s ≡ true)
 
 abbrev pub IsProgram : Level → Program → Type 0
-IsProgram level p = IsName p.name × (AllByRecursion (IsStatement level) p.statements × AtMost level (length p.statements) 64)
+IsProgram level p = IsName p.name × (AllByRecursion (IsStatement level) p.statements × AtMost level (length p.statements) most_statements)
 
 abbrev pub IsVersion : Level → Option Text → Type 0
 IsVersion level None = Unit {0}
 IsVersion level (Some digits) = InRange level (digits_value digits < past false)
 
 abbrev pub IsItem : Level → Item → Type 0
-IsItem level (relation r k ks) = IsName r × AtMost level (length ks) 7
-IsItem level (batch ps) = AllByRecursion (IsProgram level) ps × AtMost level (length ps) 256
+IsItem level (relation r k ks) = IsName r × AtMost level (length ks) (most_columns - 1)
+IsItem level (batch ps) = AllByRecursion (IsProgram level) ps × AtMost level (length ps) most_programs
 IsItem level (show r version) = IsName r × IsVersion level version
 
 -- The language of items: nothing is barred behind one.

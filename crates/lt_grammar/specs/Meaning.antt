@@ -7,7 +7,7 @@ use Rattle.lt_model.specs.declared.syntax.Head.{Head}
 use Rattle.lt_model.specs.declared.syntax.Literal.{Literal}
 use Rattle.lt_model.specs.declared.syntax.Literal.TheVariants.{Atom, Cmp, Sum}
 use Rattle.lt_model.specs.declared.syntax.Statement.{Statement}
-use Rattle.lt_model.specs.declared.syntax.Statement.TheVariants.{Insert, Delete, Replace, Need, Print}
+use Rattle.lt_model.specs.declared.syntax.Statement.TheVariants.{Insert, Delete, Replace, Require, Print}
 use Rattle.lt_model.specs.declared.syntax.Program.{Program}
 use Rattle.lt_model.specs.declared.syntax.Item.{Item}
 use Rattle.lt_model.specs.declared.syntax.Item.TheVariants.{Relation, Batch, Show}
@@ -38,7 +38,7 @@ head_value h = record { relation = h.relation; terms = terms_value h.first h.oth
 abbrev pub literal_value : tree.Literal → Literal
 literal_value (tree.atom h) = Atom (head_value h)
 literal_value (tree.compare left op right) = Cmp (term_value left) op (term_value right)
-literal_value (tree.total v a minus b) = Sum v (term_value a) minus (term_value b)
+literal_value (tree.sum v a minus b) = Sum v (term_value a) minus (term_value b)
 
 abbrev pub body_value : tree.Literal → List tree.Literal → List Literal
 body_value l ls = literal_value l ∷ map literal_value ls
@@ -47,7 +47,7 @@ abbrev pub statement_value : tree.Statement → Statement
 statement_value (tree.insert h body) = Insert (head_value h) (map literal_value body)
 statement_value (tree.delete h body) = Delete (head_value h) (map literal_value body)
 statement_value (tree.replace gone come body) = Replace (head_value gone) (head_value come) (map literal_value body)
-statement_value (tree.require some l ls) = Need some (body_value l ls)
+statement_value (tree.require some l ls) = Require some (body_value l ls)
 statement_value (tree.print t ts l ls) = Print (terms_value t ts) (body_value l ls)
 
 abbrev pub program_value : tree.Program → Program

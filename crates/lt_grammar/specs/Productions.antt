@@ -1,5 +1,6 @@
 -- A reader for each production.
-use Rattle.std.specs.Prelude.{Bool, true, false, ◌||◌, cond, List, [], ◌∷◌, Option, Some, None, nat_lt, codes, ◌⊎◌}
+use Rattle.std.specs.Prelude.{Bool, true, false, ◌||◌, ◌-◌, cond, List, [], ◌∷◌, Option, Some, None, nat_lt, codes, ◌⊎◌}
+use Rattle.lt_face.specs.Limits.{most_columns, most_literals, most_programs, most_statements}
 use mathlib.Core.Logic.{inl, inr}
 use Rattle.lt_reading.specs.Reading.{Reader, next_is, one, always, in_table, both, led, ended, between, choice, maybe, many, at_once, listed, closed, given}
 use Rattle.lt_model.specs.Tokens.{Shape, word, number, symbol, sign}
@@ -9,7 +10,7 @@ use Rattle.lt_model.specs.declared.kind.Kind.{Kind}
 use Rattle.lt_model.specs.declared.kind.Kind.TheVariants.{Int, Sym}
 use Rattle.lt_model.specs.declared.syntax.Op.{Op}
 use Rattle.lt_model.specs.declared.syntax.Op.TheVariants.{Eq, Ne, Lt, Le, Gt, Ge}
-use Rattle.lt_grammar.specs.Grammar.{Term, name, numeral, quoted, Head, Literal, atom, compare, total, Statement, insert, delete, replace, require, print, Program, Item, relation, batch, show, past, few_names}
+use Rattle.lt_grammar.specs.Grammar.{Term, name, numeral, quoted, Head, Literal, atom, compare, sum, Statement, insert, delete, replace, require, print, Program, Item, relation, batch, show, past, few_names}
 
 -- whether this token stands next
 abbrev pub stands : Shape → List Shape → Bool
@@ -86,7 +87,7 @@ starts_term (symbol x) = true
 starts_term (sign x) = same_shape (sign x) minus
 
 unfoldable pub terms_at : Reader Shape (Term × List Term)
-terms_at = between same_shape left_paren right_paren (listed same_shape comma starts_term term_at 7)
+terms_at = between same_shape left_paren right_paren (listed same_shape comma starts_term term_at (most_columns - 1))
 
 abbrev pub head_of : Text × (Term × List Term) → Head
 head_of x = record { relation = x.0; first = x.1.0; others = x.1.1 }
@@ -135,7 +136,7 @@ rest_at = choice is_left_paren terms_at (choice is_equals equation_at (both othe
 
 abbrev pub equation_of : Text → Term → Option (Bool × Term) → Literal
 equation_of v a None = compare (name v) Eq a
-equation_of v a (Some b) = total v a b.0 b.1
+equation_of v a (Some b) = sum v a b.0 b.1
 
 abbrev pub literal_of : (Text × Rest) ⊎ (Term × (Op × Term)) → Literal
 literal_of (inl (v, inl ts)) = atom (record { relation = v; first = ts.0; others = ts.1 })
@@ -147,7 +148,7 @@ unfoldable pub literal_at : Reader Shape Literal
 literal_at = given literal_of (choice is_word (both name_at rest_at) (both constant_at (both op_at term_at)))
 
 unfoldable pub body_at : Reader Shape (Literal × List Literal)
-body_at = listed same_shape comma starts_term literal_at 15
+body_at = listed same_shape comma starts_term literal_at (most_literals - 1)
 
 abbrev pub is_where : Shape → Bool
 is_where t = same_shape t where_word
@@ -220,7 +221,7 @@ abbrev pub program_of : Text × List Statement → Program
 program_of x = record { name = x.0; statements = x.1 }
 
 unfoldable pub program_at : Reader Shape Program
-program_at = given program_of (led same_shape program_word (both name_at (ended same_shape semicolon (ended same_shape end_word (many starts_statement statement_at at_once 64)))))
+program_at = given program_of (led same_shape program_word (both name_at (ended same_shape semicolon (ended same_shape end_word (many starts_statement statement_at at_once most_statements)))))
 
 abbrev pub is_program : Shape → Bool
 is_program t = same_shape t program_word
@@ -235,10 +236,10 @@ abbrev pub starts_kind : Shape → Bool
 starts_kind t = same_shape t int_word || same_shape t sym_word
 
 unfoldable pub relation_at : Reader Shape (Text × (Kind × List Kind))
-relation_at = led same_shape relation_word (both name_at (ended same_shape semicolon (between same_shape left_paren right_paren (listed same_shape comma starts_kind kind_at 7))))
+relation_at = led same_shape relation_word (both name_at (ended same_shape semicolon (between same_shape left_paren right_paren (listed same_shape comma starts_kind kind_at (most_columns - 1)))))
 
 unfoldable pub batch_at : Reader Shape (List Program)
-batch_at = led same_shape batch_word (ended same_shape semicolon (ended same_shape commit_word (many is_program program_at at_once 256)))
+batch_at = led same_shape batch_word (ended same_shape semicolon (ended same_shape commit_word (many is_program program_at at_once most_programs)))
 
 abbrev pub is_at : Shape → Bool
 is_at t = same_shape t at_word

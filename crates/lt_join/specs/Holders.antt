@@ -2,6 +2,7 @@
 use Rattle.std.specs.Prelude.{◌≡◌, ◌≢◌, ℕ, suc, nat_lt, ◌+◌, ◌^◌, ◌<◌, ◌≤◌, ◌==◌, if◌then◌else◌, List, [], ◌∷◌, ◌++◌, map, filter, length, slice_get, Some, ◌⊎◌}
 use Rattle.std.specs.List.{AllByRecursion, AllZip}
 use Rattle.lt_face.specs.Keys.{end_key, least_from}
+use Rattle.lt_face.specs.Limits.{most_columns, most_variables}
 use Rattle.lt_face.specs.Rows.{IsRowSet}
 use Rattle.lt_face.specs.Lists.{IsIn}
 use Rattle.lt_face.specs.State.{Row, State, IsIndexOf}
@@ -60,7 +61,7 @@ path_of t = if t.level == 0 then [] else t.prefix ++ t.here ∷ []
 pub record IsOver (state : State) (guide : Guide) (t : TrieView) : Type 0 where
   pub index : IsIndexOf state guide.relation guide.columns t.width t.rows
   pub is_set : IsRowSet t.width t.rows
-  pub narrow : t.width ≤ 8
+  pub narrow : t.width ≤ most_columns
 
 -- the atom's iterator, at the keys above a level
 pub record IsTrieOf (state : State) (l : ℕ) (keys : Keys) (guide : Guide) (t : TrieView) : Type 0 where
@@ -154,5 +155,5 @@ pub record IsUsable (guides : List Guide) (level : Level) (above : List ℕ) : T
 pub record IsPrepared (body : Body) (plan : Plan) (terms : List Term) : Type 0 where
   pub runnable : IsRunnable body plan
   pub tests : AllByRecursion IsTest body.tests
-  pub variables : AllByRecursion (λ (level : Level). IsTermOf 16 level.term) plan.levels
-  pub narrow : length terms ≤ 8
+  pub variables : AllByRecursion (λ (level : Level). IsTermOf most_variables level.term) plan.levels
+  pub narrow : length terms ≤ most_columns

@@ -1,6 +1,7 @@
 //! The answers of a body, and whether it has one.
 ghost use Rattle.std.specs.Prelude.{◌≡◌, ◌+◌, ◌≤◌, true, length, IfOk, IsTrue};
 ghost use Rattle.std.specs.List.{AllByRecursion};
+ghost use Rattle.lt_face.specs.Limits.{most_columns};
 ghost use Rattle.lt_model.specs.Answers.{answers as answers_of, some_answer};
 ghost use Rattle.lt_model.specs.Bound.{are_bound};
 ghost use Rattle.lt_model.specs.Fits.{IsBodyOf};
@@ -38,7 +39,7 @@ pub fn answers<I: Indexes, L>(
     requires fits { IsBodyOf (I.state indexes.now) body.now }
     requires has_indexes { AllByRecursion (λ guide. I.has_index indexes.now guide.relation guide.columns ≡ true) plan.now.guides }
     requires are_bound { IsTrue (are_bound body.now terms.now) }
-    requires narrow { length terms.now ≤ 8 }
+    requires narrow { length terms.now ≤ most_columns }
     ensures rows { IfOk result (λ found. found.0 ≡ answers_of terms.now body.now (I.state indexes.now)) }
     ensures certified { IfOk result (λ found. Certifies found.1 body.now (I.state indexes.now)) }
     ensures tight { IfOk result (λ found. IsTight found.1 (I.state indexes.now)) }

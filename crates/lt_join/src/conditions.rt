@@ -1,6 +1,7 @@
 //! The conditions of a body that are no atoms.
 ghost use Rattle.std.specs.Prelude.{◌≡◌, ◌<◌, Some};
 ghost use Rattle.std.specs.List.{AllByRecursion, list_all};
+ghost use Rattle.lt_face.specs.Limits.{most_variables};
 ghost use Rattle.lt_model.specs.Answers.{give as given, give_value as value_given, give_all as all_given, compare_by, passes as test_passes};
 ghost use Rattle.lt_model.specs.Cells.{sum_of as sum_value};
 ghost use Rattle.lt_join.specs.Values.{values_in, assigned, IsTest};
@@ -33,7 +34,7 @@ fn sum_of(minus: bool, x: Key, y: Key) -> Option<Key>
 
 /// Gives a variable a value, if it had none.
 pub(crate) fn give_value(values: &mut Values, v: u32, cell: Key)
-    requires { v < 16 }
+    requires { v < most_variables }
     ensures { values_in values.new.cells ≡ value_given (values_in values.old.cells) v (Some cell) }
 {
     if values.get(v).is_none() {

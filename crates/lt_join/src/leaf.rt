@@ -1,6 +1,7 @@
 //! What the keys of all levels give.
 ghost use Rattle.std.specs.Prelude.{◌≡◌, ℕ, ◌≤◌, true, length, Some, None, if◌then◌else◌};
 ghost use Rattle.std.specs.List.{AllByRecursion, list_all};
+ghost use Rattle.lt_face.specs.Limits.{most_columns, most_variables};
 ghost use Rattle.lt_model.specs.Answers.{cells_of, passes};
 ghost use Rattle.lt_model.specs.Fits.{IsTermOf};
 ghost use Rattle.lt_join.specs.Values.{values_in, assigned, IsTest};
@@ -18,7 +19,7 @@ use std::alloc::Global;
 fn give_levels(values: &mut Values, levels: &[Level], keys: &[Key])
     requires none { values_in values.old.cells ≡ (λ _. None) }
     requires as_long { length levels.now ≤ length keys.now }
-    requires variables { AllByRecursion (λ level. IsTermOf 16 level.term) levels.now }
+    requires variables { AllByRecursion (λ level. IsTermOf most_variables level.term) levels.now }
     ensures { values_in values.new.cells ≡ value_from levels.now 0 (at keys.now) }
 {
     for i in 0..levels.len() {
@@ -39,9 +40,9 @@ pub(crate) fn leaf_answer(
     keys: &Items<Key>,
 ) -> Option<Row>
     requires as_long { length plan.now.levels ≤ length keys.now }
-    requires variables { AllByRecursion (λ level. IsTermOf 16 level.term) plan.now.levels }
+    requires variables { AllByRecursion (λ level. IsTermOf most_variables level.term) plan.now.levels }
     requires tests { AllByRecursion IsTest body.now.tests }
-    requires narrow { length terms.now ≤ 8 }
+    requires narrow { length terms.now ≤ most_columns }
     ensures { let a = leaf_assignment body.now plan.now.levels (at keys.now) in result ≡ (if list_all (passes a) body.now.tests then Some (cells_of a terms.now) else None) }
 {
     let tests = body.tests.as_slice();

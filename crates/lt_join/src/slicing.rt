@@ -1,6 +1,7 @@
 //! The answers of a body, key by key of its first variable.
 ghost use Rattle.std.specs.Prelude.{◌≡◌, ◌≤◌, ◌<◌, ◌+◌, ◌-◌, ◌^◌, ◌∷◌, [], List, true, length, slice_get, drop, Some, IfOk, IsTrue};
 ghost use Rattle.std.specs.List.{AllByRecursion, AllZip};
+ghost use Rattle.lt_face.specs.Limits.{most_columns};
 ghost use Rattle.lt_face.specs.Lists.{IsIn};
 ghost use Rattle.lt_face.specs.State.{State};
 ghost use Rattle.lt_model.specs.declared.normal.Term.{Term as TermView};
@@ -127,7 +128,7 @@ pub fn slices<I: Indexes, L>(
     requires fits { IsBodyOf (I.state indexes.now) body.now }
     requires has_indexes { AllByRecursion (λ guide. I.has_index indexes.now guide.relation guide.columns ≡ true) plan.now.guides }
     requires are_bound { IsTrue (are_bound body.now terms.now) }
-    requires narrow { length terms.now ≤ 8 }
+    requires narrow { length terms.now ≤ most_columns }
     requires has_levels { 0 < length plan.now.levels }
     ensures ascending { IfOk result (λ found. IsRising (slice_keys found.1)) }
     ensures slices { IfOk result (λ found. AllByRecursion (IsSliceOf terms.now body.now (term_at plan.now.levels 0) (I.state indexes.now)) found.1) }

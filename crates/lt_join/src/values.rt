@@ -1,15 +1,14 @@
 //! What the variables of a body are known to be.
 ghost use Rattle.std.specs.Prelude.{◌≡◌, ◌<◌, ◌≤◌, None, length};
+ghost use Rattle.lt_face.specs.Limits.{most_columns, most_variables};
 ghost use Rattle.lt_model.specs.Answers.{term_value, cell_of, cells_of};
 ghost use Rattle.lt_join.specs.Values.{values_in, assigned, with_value};
 
 use lt_face::key::Key;
+use lt_face::limits::MOST_VARIABLES;
 use lt_face::row::Row;
 use lt_model::normal::Term;
 use std::alloc::Global;
-
-/// How many variables a statement has at most.
-const MOST_VARIABLES: usize = 16;
 
 /// For each variable its value, if it has one.
 #[derive(Clone, Copy)]
@@ -36,7 +35,7 @@ impl Values {
 
     /// Gives a variable this value.
     pub fn set(&mut self, v: u32, cell: Key)
-        requires { v < 16 }
+        requires { v < most_variables }
         ensures { values_in self.new.cells ≡ with_value (values_in self.old.cells) v cell }
     {
         self.cells[v as usize] = Some(cell);
@@ -61,7 +60,7 @@ impl Values {
 
     /// The row of the terms' cells.
     pub fn row(&self, alloc: Global, terms: &[Term]) -> Row
-        requires { length terms.now ≤ 8 }
+        requires { length terms.now ≤ most_columns }
         ensures { result ≡ cells_of (assigned (values_in self.now.cells)) terms.now }
     {
         let mut row = Row::from_cells(alloc, &[]);

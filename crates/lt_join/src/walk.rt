@@ -1,6 +1,7 @@
 //! The walk over the levels of a plan.
 ghost use Rattle.std.specs.Prelude.{◌≡◌, ℕ, ◌+◌, ◌<◌, ◌≤◌, ◌-◌, ◌++◌, ◌^◌, [], true, false, length, map, take, drop, IfOk, OnOk};
 ghost use Rattle.std.specs.List.{AllByRecursion, AllZip};
+ghost use Rattle.lt_face.specs.Limits.{most_columns};
 ghost use Rattle.lt_sense.specs.Sense.{IsTight};
 ghost use Rattle.lt_join.specs.Explored.{with_key};
 ghost use Rattle.lt_query.specs.Plan.{IsPlanOf};
@@ -76,7 +77,7 @@ pub(crate) fn leave<'a, I: Indexes>(
 
 /// The row of an atom under the keys.
 fn row_of(alloc: Global, guide: &Guide, keys: &Items<Key>) -> Row
-    requires narrow { length guide.now.places ≤ 8 }
+    requires narrow { length guide.now.places ≤ most_columns }
     requires places { AllByRecursion (λ l. l < length keys.now) guide.now.places }
     ensures { result ≡ map (at keys.now) guide.now.places }
 {

@@ -10,7 +10,7 @@ use Rattle.lt_model.specs.declared.normal.Atom.{Atom}
 use Rattle.lt_model.specs.declared.normal.Test.TheVariants.{Cmp, Sum}
 use Rattle.lt_model.specs.declared.normal.Body.{Body}
 use Rattle.lt_model.specs.declared.normal.Stmt.{Stmt}
-use Rattle.lt_model.specs.declared.normal.Stmt.TheVariants.{Insert, Delete, Replace, Need, Print}
+use Rattle.lt_model.specs.declared.normal.Stmt.TheVariants.{Insert, Delete, Replace, Require, Print}
 use Rattle.lt_model.specs.declared.reply.Reply.TheVariants.{Done, Refused}
 use Rattle.lt_model.specs.declared.syntax.Op.TheVariants.{Gt}
 use Rattle.lt_model.specs.declared.syntax.Literal.TheVariants as literals
@@ -26,7 +26,7 @@ use Rattle.lt_model.specs.Marks.{AreMarks, and_then, laid}
 use Rattle.lt_model.specs.Laws.{mark_on}
 use Rattle.lt_model.specs.Answers.{assignment_of, answers, some_answer, picks}
 use Rattle.lt_model.specs.Bound.{is_bound, are_bound}
-use Rattle.lt_model.specs.Effect.{Writes, Needs, Prints, effect}
+use Rattle.lt_model.specs.Effect.{Writes, Requires, Prints, effect}
 use Rattle.lt_model.specs.Run.{run}
 use Rattle.lt_model.specs.Serial.{serial}
 use Rattle.lt_model.specs.Fits.{IsAtomOf, FitMarks}
@@ -250,7 +250,7 @@ deleted = refl
 inserted : effect (Insert (r_cell 9) no_body) (state_of ((9 ∷ []) ∷ []) []) ≡ Writes (plus 9 ∷ [])
 inserted = refl
 
-needed : (effect (Need true (there_body 9)) (state_of ((9 ∷ []) ∷ []) []) ≡ Needs true) × (effect (Need false (there_body 9)) (state_of ((9 ∷ []) ∷ []) []) ≡ Needs false)
+needed : (effect (Require true (there_body 9)) (state_of ((9 ∷ []) ∷ []) []) ≡ Requires true) × (effect (Require false (there_body 9)) (state_of ((9 ∷ []) ∷ []) []) ≡ Requires false)
 needed = (refl, refl)
 
 printed : effect (Print (Var 0 ∷ []) (Int ∷ []) loop_body) (state_of [] ((3 ∷ 3 ∷ []) ∷ [])) ≡ Prints (Int ∷ []) ((3 ∷ []) ∷ [])
@@ -260,7 +260,7 @@ printed = refl
 
 -- insert r(2); require some r(2); print (x0) where e(x0, x0);
 abbrev passing : List Stmt
-passing = Insert (r_cell 2) no_body ∷ Need true (there_body 2) ∷ Print (Var 0 ∷ []) (Int ∷ []) loop_body ∷ []
+passing = Insert (r_cell 2) no_body ∷ Require true (there_body 2) ∷ Print (Var 0 ∷ []) (Int ∷ []) loop_body ∷ []
 
 -- a statement sees what those before it wrote
 done : run passing (state_of [] ((3 ∷ 3 ∷ []) ∷ [])) ≡ (Done (record { statement = 3; kinds = Int ∷ []; rows = (3 ∷ []) ∷ [] } ∷ []), plus 2 ∷ [])
@@ -268,7 +268,7 @@ done = refl
 
 -- insert r(2); require none r(2); insert r(3);
 abbrev failing : List Stmt
-failing = Insert (r_cell 2) no_body ∷ Need false (there_body 2) ∷ Insert (r_cell 3) no_body ∷ []
+failing = Insert (r_cell 2) no_body ∷ Require false (there_body 2) ∷ Insert (r_cell 3) no_body ∷ []
 
 refused_at_two : run failing (state_of [] []) ≡ (Refused 2, [])
 refused_at_two = refl

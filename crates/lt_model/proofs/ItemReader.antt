@@ -8,7 +8,7 @@ use Rattle.lt_model.specs.declared.kind.Kind.TheVariants.{Int, Sym}
 use Rattle.lt_model.specs.declared.syntax.Head.{Head}
 use Rattle.lt_model.specs.declared.syntax.Literal.{Literal}
 use Rattle.lt_model.specs.declared.syntax.Statement.{Statement}
-use Rattle.lt_model.specs.declared.syntax.Statement.TheVariants.{Insert, Delete, Replace, Need, Print}
+use Rattle.lt_model.specs.declared.syntax.Statement.TheVariants.{Insert, Delete, Replace, Require, Print}
 use Rattle.lt_model.specs.declared.syntax.Program.{Program}
 use Rattle.lt_model.specs.declared.syntax.Item.{Item}
 use Rattle.lt_model.specs.declared.syntax.Item.TheVariants.{Relation, Batch, Show}
@@ -63,7 +63,7 @@ read_form_by n level x ts =
     cond (bytes_eq x (codes "insert")) (read_ruled n level Insert ts)
     (cond (bytes_eq x (codes "delete")) (read_ruled n level Delete ts)
     (cond (bytes_eq x (codes "replace")) (read_replace n level ts)
-    (cond (bytes_eq x (codes "require")) (read_some ts >>= λ s. read_ended n level (Need s.0) s.1)
+    (cond (bytes_eq x (codes "require")) (read_some ts >>= λ s. read_ended n level (Require s.0) s.1)
     (cond (bytes_eq x (codes "print")) (read_print n level ts) None))))
 
 abbrev pub read_form : ℕ → Level → List Shape → Reading Statement
@@ -92,13 +92,13 @@ form_again n level (Replace gone come body) us r small h =
     ∙ step (read_head n level) (λ h. read_the (word (codes "by")) h.1 >>= λ b. read_ruled n level (Replace h.0) b.1) h.1 m.0 m.1 r gone m.2 (head_again n level gone m.0 (m.1 ++ r) (omega (arith, a, b, small)) m.3)
     ∙ then_token (word (codes "by")) (λ b. read_ruled n level (Replace gone) b.1) m.1 k.0 k.1 r k.2 k.3
     ∙ ruled_again n level (Replace gone) come body k.1 r (omega (arith, a, c, d, small)) k.4
-form_again n level (Need some body) us r small h =
+form_again n level (Require some body) us r small h =
     let m = h.4 in
     let a : length h.1 ≤ length us = back_len us h.0 h.1 h.2 in
     let b : length m.1 ≤ length h.1 = back_len h.1 m.0 m.1 m.2 in
     ap (read_form n level) (word_first (codes "require") us h.0 h.1 r h.2 h.3)
-    ∙ step read_some (λ s. read_ended n level (Need s.0) s.1) h.1 m.0 m.1 r some m.2 (some_again some m.0 (m.1 ++ r) m.3)
-    ∙ ended_again n level (Need some) body m.1 r (omega (arith, a, b, small)) m.4
+    ∙ step read_some (λ s. read_ended n level (Require s.0) s.1) h.1 m.0 m.1 r some m.2 (some_again some m.0 (m.1 ++ r) m.3)
+    ∙ ended_again n level (Require some) body m.1 r (omega (arith, a, b, small)) m.4
 form_again n level (Print terms body) us r small h =
     let m = h.4 in
     let k = m.4 in
@@ -129,7 +129,7 @@ statement_begins : (level : Level) (s : Statement) (us : List Shape) → SpellsS
 statement_begins level (Insert head body) us h = word_begins is_statement_word (word (codes "insert")) us h.1.0 h.1.1 h.1.2 h.1.3 refl
 statement_begins level (Delete head body) us h = word_begins is_statement_word (word (codes "delete")) us h.1.0 h.1.1 h.1.2 h.1.3 refl
 statement_begins level (Replace gone come body) us h = word_begins is_statement_word (word (codes "replace")) us h.1.0 h.1.1 h.1.2 h.1.3 refl
-statement_begins level (Need some body) us h = word_begins is_statement_word (word (codes "require")) us h.1.0 h.1.1 h.1.2 h.1.3 refl
+statement_begins level (Require some body) us h = word_begins is_statement_word (word (codes "require")) us h.1.0 h.1.1 h.1.2 h.1.3 refl
 statement_begins level (Print terms body) us h = word_begins is_statement_word (word (codes "print")) us h.1.0 h.1.1 h.1.2 h.1.3 refl
 
 -- ---- programs

@@ -6,7 +6,7 @@ use Rattle.lt_model.specs.declared.mark.Mark.{Mark}
 use Rattle.lt_model.specs.declared.syntax.Literal.{Literal}
 use Rattle.lt_model.specs.declared.syntax.Literal.TheVariants.{Atom, Cmp, Sum}
 use Rattle.lt_model.specs.declared.syntax.Op.TheVariants.{Eq, Gt}
-use Rattle.lt_model.specs.declared.syntax.Statement.TheVariants.{Need, Print}
+use Rattle.lt_model.specs.declared.syntax.Statement.TheVariants.{Require, Print}
 use Rattle.lt_model.specs.Cells.{zero_cell, last_int, cell_int, cell_text, sym_cell, sum_of}
 use Rattle.lt_model.specs.Marks.{and_then}
 use Rattle.lt_model.specs.Schema.{Schema}
@@ -76,7 +76,7 @@ r_and_s = (codes "r", Int ∷ []) ∷ (codes "s", Sym ∷ []) ∷ []
 
 -- `require some` of these
 abbrev code : List Literal → Option ℕ
-code body = code_of r_and_s (Need true body)
+code body = code_of r_and_s (Require true body)
 
 abbrev x : List ℕ
 x = codes "x"
@@ -156,7 +156,7 @@ abbrev one_less : Body
 one_less = record { atoms = stock_atom 0 ∷ []; tests = normal_tests.Sum 1 (normal_terms.Var 0) true (normal_terms.Cell (zero_cell + 1)) ∷ []; vars = 2 }
 
 abbrev normal_buyer : List Stmt
-normal_buyer = stmts.Need true some_left ∷ stmts.Replace (stock_atom 0) (stock_atom 1) one_less ∷ []
+normal_buyer = stmts.Require true some_left ∷ stmts.Replace (stock_atom 0) (stock_atom 1) one_less ∷ []
 
 buyer_checked : checked (s.buyer (codes "a")) stock_schema ≡ Good normal_buyer
 unfolding stock_schema

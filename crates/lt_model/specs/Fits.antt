@@ -1,6 +1,7 @@
 -- Programs and marks that fit a state.
 use Rattle.std.specs.Prelude.{◌≡◌, ℕ, ◌<◌, ◌≤◌, ◌+◌, List, [], ◌∷◌, length, Some, slice_get, option_map, IsTrue}
 use Rattle.std.specs.List.{AllByRecursion}
+use Rattle.lt_face.specs.Limits.{most_columns, most_literals, most_statements, most_variables}
 use Rattle.lt_face.specs.Rows.{IsCell}
 use Rattle.lt_model.specs.declared.mark.Mark.{Mark}
 use Rattle.lt_model.specs.declared.normal.Term.{Term}
@@ -10,7 +11,7 @@ use Rattle.lt_model.specs.declared.normal.Test.{Test}
 use Rattle.lt_model.specs.declared.normal.Test.TheVariants.{Cmp, Sum}
 use Rattle.lt_model.specs.declared.normal.Body.{Body}
 use Rattle.lt_model.specs.declared.normal.Stmt.{Stmt}
-use Rattle.lt_model.specs.declared.normal.Stmt.TheVariants.{Insert, Delete, Replace, Need, Print}
+use Rattle.lt_model.specs.declared.normal.Stmt.TheVariants.{Insert, Delete, Replace, Require, Print}
 use Rattle.lt_face.specs.State.{State, Relation}
 use Rattle.lt_model.specs.Marks.{Marks}
 use Rattle.lt_model.specs.Bound.{are_bound}
@@ -38,8 +39,8 @@ pub record IsBodyOf (state : State) (body : Body) : Type 0 where
   pub atoms : AllByRecursion (IsAtomOf state body.vars) body.atoms
   pub tests : AllByRecursion (λ test. AllByRecursion (IsTermOf body.vars) (test_terms test)) body.tests
   pub is_bound : AllByRecursion (λ test. IsTrue (are_bound body (test_terms test))) body.tests
-  pub has_few_variables : body.vars ≤ 16
-  pub has_few_literals : length body.atoms + length body.tests ≤ 16
+  pub has_few_variables : body.vars ≤ most_variables
+  pub has_few_literals : length body.atoms + length body.tests ≤ most_literals
 
 -- a head's variables are bound by the body
 pub record IsHeadOf (state : State) (body : Body) (head : Atom) : Type 0 where
@@ -52,19 +53,19 @@ pub record ArePrintedOf (body : Body) (terms : List Term) (kinds : ℕ) : Type 0
   pub is_bound : IsTrue (are_bound body terms)
   pub is_wide : length terms ≡ kinds
   pub has_some : 1 ≤ kinds
-  pub has_few : kinds ≤ 8
+  pub has_few : kinds ≤ most_columns
 
 abbrev pub FitsStatement : State → Stmt → Type 0
 FitsStatement state (Insert head body) = IsBodyOf state body × IsHeadOf state body head
 FitsStatement state (Delete head body) = IsBodyOf state body × IsHeadOf state body head
 FitsStatement state (Replace gone come body) = IsBodyOf state body × IsHeadOf state body gone × IsHeadOf state body come
-FitsStatement state (Need some body) = IsBodyOf state body
+FitsStatement state (Require some body) = IsBodyOf state body
 FitsStatement state (Print terms kinds body) = IsBodyOf state body × ArePrintedOf body terms (length kinds)
 
 -- a program fits a state
 pub record Fits (state : State) (program : List Stmt) : Type 0 where
   pub each : AllByRecursion (FitsStatement state) program
-  pub has_few : length program ≤ 64
+  pub has_few : length program ≤ most_statements
 
 -- a mark's relation is there, and its row is as wide
 pub record IsMarkOf (state : State) (m : Mark) : Type 0 where

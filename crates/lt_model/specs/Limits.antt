@@ -1,6 +1,7 @@
 -- What the limits leave of an item that was read: how many things it has, and that its constants are cells.
 use Rattle.std.specs.Prelude.{ℕ, ◌≤◌, ◌<◌, ◌^◌, List, length, Option, Some, None}
 use Rattle.std.specs.List.{AllByRecursion}
+use Rattle.lt_face.specs.Limits.{most_columns, most_literals, most_programs, most_statements, most_variables}
 use Rattle.lt_face.specs.Rows.{IsCell}
 use Rattle.lt_model.specs.declared.syntax.Term.{Term}
 use Rattle.lt_model.specs.declared.syntax.Term.TheVariants.{Name, Cell}
@@ -21,7 +22,7 @@ HasCell (Cell kind cell) = IsCell cell
 -- 1 to 8 terms
 pub record AreTermsWithin (terms : List Term) : Type 0 where
   pub some : 1 ≤ length terms
-  pub few : length terms ≤ 8
+  pub few : length terms ≤ most_columns
   pub cells : AllByRecursion HasCell terms
 
 abbrev pub IsLiteralWithin : Literal → Type 0
@@ -38,13 +39,13 @@ pub record IsStatementWithin (s : Statement) : Type 0 where
   pub heads : AllByRecursion (λ (head : Head). AreTermsWithin head.terms) (heads_of s)
   pub printed : ArePrintedWithin s
   pub literals : AllByRecursion IsLiteralWithin (body_of s)
-  pub few_literals : length (body_of s) ≤ 16
-  pub few_variables : length (variables s) ≤ 16
+  pub few_literals : length (body_of s) ≤ most_literals
+  pub few_variables : length (variables s) ≤ most_variables
 
 -- at most 64 statements
 pub record IsProgramWithin (p : Program) : Type 0 where
   pub statements : AllByRecursion IsStatementWithin p.statements
-  pub few : length p.statements ≤ 64
+  pub few : length p.statements ≤ most_statements
 
 abbrev pub IsVersionWithin : Option ℕ → Type 0
 IsVersionWithin None = Unit {0}
@@ -52,6 +53,6 @@ IsVersionWithin (Some version) = version < 2 ^ 63
 
 -- 1 to 8 columns; at most 256 programs; a version that is an int
 abbrev pub IsWithinLimits : Item → Type 0
-IsWithinLimits (Relation name kinds) = (1 ≤ length kinds) × (length kinds ≤ 8)
-IsWithinLimits (Batch programs) = AllByRecursion IsProgramWithin programs × (length programs ≤ 256)
+IsWithinLimits (Relation name kinds) = (1 ≤ length kinds) × (length kinds ≤ most_columns)
+IsWithinLimits (Batch programs) = AllByRecursion IsProgramWithin programs × (length programs ≤ most_programs)
 IsWithinLimits (Show name version) = IsVersionWithin version

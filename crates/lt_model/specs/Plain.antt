@@ -1,6 +1,7 @@
 -- Plain scripts: relations of ints, batches of programs that insert numbers, and what is there.
 use Rattle.std.specs.Prelude.{◌≡◌, false, ℕ, ◌<◌, ◌≤◌, List, [], ◌∷◌, length, Some, None, IsSome, IsNone, unwrap_or}
 use Rattle.std.specs.List.{AllByRecursion}
+use Rattle.lt_face.specs.Limits.{most_relations}
 use Rattle.lt_model.specs.declared.kind.Kind.TheVariants.{Int}
 use Rattle.lt_model.specs.declared.syntax.Term.{Term}
 use Rattle.lt_model.specs.declared.syntax.Term.TheVariants.{Name, Cell}
@@ -35,7 +36,7 @@ IsGood (Bad code j) = ⊥
 
 -- the item has no code, and no program of it has one
 abbrev pub IsAccepted : World → Item → Type 0
-IsAccepted w (Relation name kinds) = IsNone (number_of w.schema name) × (length w.schema < 64)
+IsAccepted w (Relation name kinds) = IsNone (number_of w.schema name) × (length w.schema < most_relations)
 IsAccepted w (Batch programs) = AllByRecursion (λ (p : Program). IsGood (checked p w.schema)) programs
 IsAccepted w (Show name version) = IsSome (number_of w.schema name) × (unwrap_or version 0 ≤ length w.versions)
 

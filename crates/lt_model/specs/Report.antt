@@ -1,6 +1,7 @@
 -- The report: a left fold over the items of a script.
 use Rattle.std.specs.Prelude.{ℕ, ◌+◌, List, [], ◌∷◌, ◌++◌, length, map, zip, fold, flat_map, filter_map, codes, decimal, Bool, true, false, nat_lt, nat_le, if◌then◌else◌, Option, Some, None, unwrap_or, slice_index_or}
 use Rattle.std.specs.List.{join_with_byte}
+use Rattle.lt_face.specs.Limits.{most_relations}
 use Rattle.lt_model.specs.declared.kind.Kind.{Kind}
 use Rattle.lt_model.specs.declared.syntax.Program.{Program}
 use Rattle.lt_model.specs.declared.syntax.Item.{Item}
@@ -102,7 +103,7 @@ at_version w (Some version) = slice_index_or ([] ∷ w.versions) version []
 abbrev pub with_relation : World → Text → List Kind → Option ℕ → World
 with_relation w name kinds (Some relation) = says w (bad_text 24)
 with_relation w name kinds None =
-    if nat_le 64 (length w.schema) then says w (bad_text 25)
+    if nat_le most_relations (length w.schema) then says w (bad_text 25)
     else record w { schema = w.schema ++ (name, kinds) ∷ []; state = w.state ++ record { width = length kinds; rows = [] } ∷ [] }
 
 abbrev pub shown : World → Text → Option ℕ → Option ℕ → World

@@ -6,7 +6,7 @@ use Rattle.lt_model.specs.declared.reply.Reply.{Reply}
 use Rattle.lt_model.specs.declared.reply.Reply.TheVariants.{Done, Refused}
 use Rattle.lt_face.specs.State.{State}
 use Rattle.lt_model.specs.Marks.{Marks, and_then, laid}
-use Rattle.lt_model.specs.Effect.{Effect, Writes, Needs, Prints, effect}
+use Rattle.lt_model.specs.Effect.{Effect, Writes, Requires, Prints, effect}
 
 -- how far a run has come: the marks and the prints so far
 pub record Progress : Type 0 where
@@ -16,8 +16,8 @@ pub record Progress : Type 0 where
 -- statement j has this effect, and `rest` is the run of the statements after it
 abbrev pub run_on : ℕ → Progress → Effect → (Progress → Reply × Marks) → Reply × Marks
 run_on j p (Writes marks) rest = rest (record p { marks = and_then p.marks marks })
-run_on j p (Needs true) rest = rest p
-run_on j p (Needs false) rest = (Refused j, [])
+run_on j p (Requires true) rest = rest p
+run_on j p (Requires false) rest = (Refused j, [])
 run_on j p (Prints kinds rows) rest = rest (record p { prints = p.prints ++ record { statement = j; kinds = kinds; rows = rows } ∷ [] })
 
 -- the statements from number j on, each on the state with the marks so far laid on it

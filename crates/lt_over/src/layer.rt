@@ -1,5 +1,6 @@
 //! `Layer`: edits of a set of rows, made once and shared.
 ghost use Rattle.std.specs.Prelude.{◌≡◌, ◌≤◌, List, IfOk};
+ghost use Rattle.lt_face.specs.Limits.{most_columns};
 ghost use Rattle.lt_face.specs.Rows.{IsAscending, IsRowSet};
 ghost use Rattle.lt_face.specs.State.{Row as RowView};
 ghost use Rattle.lt_over.specs.Layers.{IsLayer, under};
@@ -29,7 +30,7 @@ impl Model for Layer {
 impl Layer {
     /// The layer of these rows, each list ascending.
     pub fn new(width: usize, gone: RowList, come: RowList) -> Result<Layer, NoMemory>
-        requires narrow { width ≤ 8 }
+        requires narrow { width ≤ most_columns }
         requires gone { IsRowSet width gone }
         requires come { IsRowSet width come }
         ensures { IfOk result (λ layer. layer ≡ record { width = width; gone = gone; come = come }) }

@@ -3,6 +3,7 @@ ghost use Rattle.std.specs.Prelude.{◌≡◌, ◌+◌, ◌<◌, ◌≤◌, ◌^
 ghost use Rattle.std.specs.Arc.{arc_value};
 ghost use Rattle.std.specs.List.{AllByRecursion};
 ghost use Rattle.std.specs.Option.{option_copied};
+ghost use Rattle.lt_face.specs.Limits.{most_columns};
 ghost use Rattle.lt_face.specs.Rows.{IsRow, first_above, has_row};
 ghost use Rattle.lt_over.specs.Layers.{IsLayer, stacked, under};
 
@@ -73,7 +74,7 @@ fn push_layer(
 
 /// The layer that puts one row in.
 fn put_one(alloc: Global, width: usize, row: Row) -> Result<Arc<Layer>, NoMemory>
-    requires narrow { width ≤ 8 }
+    requires narrow { width ≤ most_columns }
     requires row { IsRow width row }
     ensures { IfOk result (λ layer. arc_value layer ≡ record { width = width; gone = []; come = row ∷ [] }) }
 {
@@ -86,7 +87,7 @@ fn put_one(alloc: Global, width: usize, row: Row) -> Result<Arc<Layer>, NoMemory
 
 /// The layer that takes one row out.
 fn take_one(alloc: Global, width: usize, row: &Row) -> Result<Arc<Layer>, NoMemory>
-    requires narrow { width ≤ 8 }
+    requires narrow { width ≤ most_columns }
     requires row { IsRow width row.now }
     ensures { IfOk result (λ layer. arc_value layer ≡ record { width = width; gone = row.now ∷ []; come = [] }) }
 {

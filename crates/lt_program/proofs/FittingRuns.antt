@@ -13,9 +13,9 @@ use Rattle.lt_model.specs.declared.normal.Term.{Term}
 use Rattle.lt_model.specs.declared.normal.Atom.{Atom}
 use Rattle.lt_model.specs.declared.normal.Body.{Body}
 use Rattle.lt_model.specs.declared.normal.Stmt.{Stmt}
-use Rattle.lt_model.specs.declared.normal.Stmt.TheVariants.{Insert, Delete, Replace, Need, Print}
+use Rattle.lt_model.specs.declared.normal.Stmt.TheVariants.{Insert, Delete, Replace, Require, Print}
 use Rattle.lt_model.specs.Answers.{assignment_of, cells_of, cell_of, fits_pick, picks, answer_of, ascending, answers, some_answer}
-use Rattle.lt_model.specs.Effect.{Effect, Writes, Needs, Prints, marks_of, effect}
+use Rattle.lt_model.specs.Effect.{Effect, Writes, Requires, Prints, marks_of, effect}
 use Rattle.lt_model.specs.Fits.{IsWide, IsBodyOf, IsHeadOf, ArePrintedOf, FitsStatement, Fits, IsMarkOf, FitMarks}
 use Rattle.lt_model.specs.Marks.{Marks, AreMarks, and_then, laid}
 use Rattle.lt_model.proofs.Composition.{AreMarks-and_then}
@@ -104,7 +104,7 @@ effect_fits state is j p s h fits rest good = go s h
     more : (marks : Marks) → FitMarks state marks → IsGoodEnd state (rest (record p { marks = and_then p.marks marks }))
     more marks k = good (record p { marks = and_then p.marks marks }) (record { marks = each_after (IsMarkOf state) p.marks marks fits.marks k; prints = fits.prints })
 
-    needed : (b : Bool) → IsGoodEnd state (run_on j p (Needs b) rest)
+    needed : (b : Bool) → IsGoodEnd state (run_on j p (Requires b) rest)
     needed true = good p fits
     needed false = (tt, tt)
 
@@ -115,8 +115,8 @@ effect_fits state is j p s h fits rest good = go s h
         more (and_then (marks_of false gone body (laid state p.marks)) (marks_of true come body (laid state p.marks)))
         (each_after (IsMarkOf state) (marks_of false gone body (laid state p.marks)) (marks_of true come body (laid state p.marks))
         (head_fits state (laid state p.marks) cells false gone body (k.0, k.1)) (head_fits state (laid state p.marks) cells true come body (k.0, k.2)))
-    go (Need true body) k = needed (some_answer body (laid state p.marks))
-    go (Need false body) k = needed (not (some_answer body (laid state p.marks)))
+    go (Require true body) k = needed (some_answer body (laid state p.marks))
+    go (Require false body) k = needed (not (some_answer body (laid state p.marks)))
     go (Print terms kinds body) k =
         let rows = rows_fit state (laid state p.marks) cells terms body (length kinds) k.0 k.1 in
         good (record p { prints = p.prints ++ record { statement = j; kinds = kinds; rows = answers terms body (laid state p.marks) } ∷ [] })
@@ -134,8 +134,8 @@ run_fits state program is fits = run_from_fits state is 1 program (record { mark
 
 taken_ascends : (j : ℕ) (p : Progress) (e : Effect) (rest : Progress → Reply × Marks) → AreMarks p.marks → ((q : Progress) → AreMarks q.marks → AreMarks (rest q).1) → AreMarks (run_on j p e rest).1
 taken_ascends j p (Writes marks) rest up on = on (record p { marks = and_then p.marks marks }) (AreMarks-and_then p.marks marks up)
-taken_ascends j p (Needs true) rest up on = on p up
-taken_ascends j p (Needs false) rest up on = tt
+taken_ascends j p (Requires true) rest up on = on p up
+taken_ascends j p (Requires false) rest up on = tt
 taken_ascends j p (Prints kinds rows) rest up on = on (record p { prints = p.prints ++ record { statement = j; kinds = kinds; rows = rows } ∷ [] }) up
 
 from_ascends : (j : ℕ) (program : List Stmt) (state : State) (p : Progress) → AreMarks p.marks → AreMarks (run_from j program state p).1

@@ -10,7 +10,7 @@ use Rattle.lt_face.specs.Lists.{IsIn}
 use Rattle.lt_face.specs.State.{State, row_eq}
 use Rattle.lt_model.specs.declared.normal.Atom.{Atom}
 use Rattle.lt_model.specs.declared.normal.Stmt.{Stmt}
-use Rattle.lt_model.specs.declared.normal.Stmt.TheVariants.{Insert, Delete, Replace, Need, Print}
+use Rattle.lt_model.specs.declared.normal.Stmt.TheVariants.{Insert, Delete, Replace, Require, Print}
 use Rattle.lt_model.specs.Fits.{IsWide, IsAtomOf, IsBodyOf, FitsStatement, Fits}
 use Rattle.lt_delta.specs.Columns.{IsPermOf}
 use Rattle.lt_base.specs.Tables.{Table, has_index}
@@ -107,7 +107,7 @@ pub body_fits : (state : State) (stmt : Stmt) → FitsStatement state stmt → I
 body_fits state (Insert head body) h = h.0
 body_fits state (Delete head body) h = h.0
 body_fits state (Replace gone come body) h = h.0
-body_fits state (Need some body) h = h
+body_fits state (Require some body) h = h
 body_fits state (Print terms kinds body) h = h.0
 
 wide_there : (state : State) (relation width : ℕ) → IsWide state relation width → relation < length state

@@ -7,9 +7,9 @@ use Rattle.lt_model.specs.declared.normal.Term.{Term}
 use Rattle.lt_model.specs.declared.normal.Atom.{Atom}
 use Rattle.lt_model.specs.declared.normal.Body.{Body}
 use Rattle.lt_model.specs.declared.normal.Stmt.{Stmt}
-use Rattle.lt_model.specs.declared.normal.Stmt.TheVariants.{Insert, Delete, Replace, Need, Print}
+use Rattle.lt_model.specs.declared.normal.Stmt.TheVariants.{Insert, Delete, Replace, Require, Print}
 use Rattle.lt_model.specs.Answers.{picks, answer_of, ascending, answers, fits_pick, assignment_of, some_answer}
-use Rattle.lt_model.specs.Effect.{Writes, Needs, Prints, marks_of, effect}
+use Rattle.lt_model.specs.Effect.{Writes, Requires, Prints, marks_of, effect}
 use Rattle.lt_query.specs.Needs.{body_of}
 use Rattle.lt_query.specs.Stated.{stated_plan}
 use Rattle.lt_sense.specs.Kept.{Sense}
@@ -41,15 +41,15 @@ module _ (s t : State) where
   effect_same (Insert head body) e = ap Writes (marks_same true head body e)
   effect_same (Delete head body) e = ap Writes (marks_same false head body e)
   effect_same (Replace gone come body) e = let a = marks_same false gone body e in let b = marks_same true come body e in cc
-  effect_same (Need true body) e = ap Needs (some_same body e)
-  effect_same (Need false body) e = ap (λ b. Needs (not b)) (some_same body e)
+  effect_same (Require true body) e = ap Requires (some_same body e)
+  effect_same (Require false body) e = ap (λ b. Requires (not b)) (some_same body e)
   effect_same (Print terms kinds body) e = ap (Prints kinds) (answers_same terms body e)
 
   pub outcome_same : (stmt : Stmt) → (body_of stmt).atoms ≡ [] → outcome_on stmt s ≡ outcome_on stmt t
   outcome_same (Insert head body) e = ap Rows (answers_same head.terms body e)
   outcome_same (Delete head body) e = ap Rows (answers_same head.terms body e)
   outcome_same (Replace gone come body) e = let a = answers_same gone.terms body e in let b = answers_same come.terms body e in cc
-  outcome_same (Need some body) e = ap Truth (some_same body e)
+  outcome_same (Require some body) e = ap Truth (some_same body e)
   outcome_same (Print terms kinds body) e = ap Rows (answers_same terms body e)
 
   no_bound : (body : Body) (state : State) → body.atoms ≡ [] → bound (stated_plan body) state ≡ 0
@@ -59,7 +59,7 @@ module _ (s t : State) where
   cost_same (Insert head body) e = no_bound body s e ∙ sym (no_bound body t e)
   cost_same (Delete head body) e = no_bound body s e ∙ sym (no_bound body t e)
   cost_same (Replace gone come body) e = let a = no_bound body s e in let b = no_bound body t e in cc
-  cost_same (Need some body) e = no_bound body s e ∙ sym (no_bound body t e)
+  cost_same (Require some body) e = no_bound body s e ∙ sym (no_bound body t e)
   cost_same (Print terms kinds body) e = no_bound body s e ∙ sym (no_bound body t e)
 
   certifies_same : (body : Body) → body.atoms ≡ [] → Certifies nothing body t
@@ -70,7 +70,7 @@ module _ (s t : State) where
   vouches_same sense (Delete head body) e h = certifies_same body e
   vouches_same sense (Replace gone come body) e h = certifies_same body e
   vouches_same sense (Print terms kinds body) e h = certifies_same body e
-  vouches_same sense (Need some body) e h = record {
+  vouches_same sense (Require some body) e h = record {
     when_true = λ there. let w = h.when_true (some_same body e ∙ there) in (w.0, w.1, subst (AllByRecursion (IsMet nothing t w.0)) (sym e) tt);
     when_false = λ _. certifies_same body e;
   }

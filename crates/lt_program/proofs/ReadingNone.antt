@@ -8,9 +8,9 @@ use Rattle.lt_model.specs.declared.normal.Term.{Term}
 use Rattle.lt_model.specs.declared.normal.Atom.{Atom}
 use Rattle.lt_model.specs.declared.normal.Body.{Body}
 use Rattle.lt_model.specs.declared.normal.Stmt.{Stmt}
-use Rattle.lt_model.specs.declared.normal.Stmt.TheVariants.{Insert, Delete, Replace, Need, Print}
+use Rattle.lt_model.specs.declared.normal.Stmt.TheVariants.{Insert, Delete, Replace, Require, Print}
 use Rattle.lt_model.specs.Answers.{picks, answer_of, ascending, answers, fits_pick, assignment_of, some_answer}
-use Rattle.lt_model.specs.Effect.{Writes, Needs, Prints, marks_of, effect}
+use Rattle.lt_model.specs.Effect.{Writes, Requires, Prints, marks_of, effect}
 use Rattle.lt_model.specs.Marks.{and_then, laid}
 use Rattle.lt_model.specs.Run.{Progress, run_on, run_from, run}
 use Rattle.lt_query.specs.Needs.{body_of}
@@ -42,8 +42,8 @@ module _ (s t : State) where
   effect-none (Replace gone come body) none =
       ap (λ m. Writes (and_then m (marks_of true come body s))) (marks_of-none false gone body none)
       ∙ ap (λ m. Writes (and_then (marks_of false gone body t) m)) (marks_of-none true come body none)
-  effect-none (Need true body) none = ap Needs (some-none body none)
-  effect-none (Need false body) none = ap (λ b. Needs (not b)) (some-none body none)
+  effect-none (Require true body) none = ap Requires (some-none body none)
+  effect-none (Require false body) none = ap (λ b. Requires (not b)) (some-none body none)
   effect-none (Print terms kinds body) none = ap (Prints kinds) (answers-none terms body none)
 
 neither : (a b : Bool) → (a || b) ≡ false → (a ≡ false) × (b ≡ false)

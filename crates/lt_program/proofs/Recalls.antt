@@ -4,10 +4,10 @@ use Rattle.std.specs.Prelude.{slice_get, if◌then◌else◌}
 use Rattle.lt_face.specs.Rows.{IsAscending}
 use Rattle.lt_face.specs.State.{State}
 use Rattle.lt_model.specs.declared.normal.Stmt.{Stmt}
-use Rattle.lt_model.specs.declared.normal.Stmt.TheVariants.{Insert, Delete, Replace, Need, Print}
+use Rattle.lt_model.specs.declared.normal.Stmt.TheVariants.{Insert, Delete, Replace, Require, Print}
 use Rattle.lt_model.specs.declared.reply.Reply.{Reply}
 use Rattle.lt_model.specs.declared.reply.Reply.TheVariants.{Done, Refused}
-use Rattle.lt_model.specs.Effect.{Effect, Needs, effect}
+use Rattle.lt_model.specs.Effect.{Effect, Requires, effect}
 use Rattle.lt_model.specs.Marks.{Marks, laid}
 use Rattle.lt_base.specs.Tables.{state_of}
 use Rattle.lt_program.specs.declared.course.Course.{Course}
@@ -22,14 +22,14 @@ first_rise : (stmt : Stmt) (state : State) → IsAscending (first_rows (outcome_
 first_rise (Insert head body) state = answers_rise head.terms body state _ refl
 first_rise (Delete head body) state = answers_rise head.terms body state _ refl
 first_rise (Replace gone come body) state = answers_rise gone.terms body state _ refl
-first_rise (Need some body) state = tt
+first_rise (Require some body) state = tt
 first_rise (Print terms kinds body) state = answers_rise terms body state _ refl
 
 second_rise : (stmt : Stmt) (state : State) → IsAscending (second_rows (outcome_on stmt state))
 second_rise (Insert head body) state = tt
 second_rise (Delete head body) state = tt
 second_rise (Replace gone come body) state = answers_rise come.terms body state _ refl
-second_rise (Need some body) state = tt
+second_rise (Require some body) state = tt
 second_rise (Print terms kinds body) state = tt
 
 pub first_ascends : (stmt : Stmt) (state : State) (part : Part) → IsPartOn stmt state part → IsAscending (first_rows part.outcome)
@@ -46,8 +46,8 @@ effect_on : (stmt : Stmt) (state : State) → effect_by stmt (outcome_on stmt st
 effect_on (Insert head body) state = refl
 effect_on (Delete head body) state = refl
 effect_on (Replace gone come body) state = refl
-effect_on (Need true body) state = rw twice_not refl
-effect_on (Need false body) state = refl
+effect_on (Require true body) state = rw twice_not refl
+effect_on (Require false body) state = refl
 effect_on (Print terms kinds body) state = refl
 
 pub effect_recalled : (stmt : Stmt) (state : State) (part : Part) → IsPartOn stmt state part → effect_by stmt part.outcome ≡ effect stmt state
@@ -71,9 +71,9 @@ next_marks number stmt outcome (Refused j) before going = cc
 next_marks number (Insert head body) outcome (Done prints) before going = refl
 next_marks number (Delete head body) outcome (Done prints) before going = refl
 next_marks number (Replace gone come body) outcome (Done prints) before going = refl
-next_marks number (Need some body) outcome (Done prints) before going = by (refused_by (Need some body) outcome)
+next_marks number (Require some body) outcome (Done prints) before going = by (refused_by (Require some body) outcome)
   where
-    by : (b : Bool) → (next number (Needs (not b)) (Done prints, before)).1 ≡ (if b then [] else before)
+    by : (b : Bool) → (next number (Requires (not b)) (Done prints, before)).1 ≡ (if b then [] else before)
     by true = refl
     by false = refl
 next_marks number (Print terms kinds body) outcome (Done prints) before going = refl
@@ -83,9 +83,9 @@ next_refused number stmt outcome (Refused j) before going = cc
 next_refused number (Insert head body) outcome (Done prints) before going = refl
 next_refused number (Delete head body) outcome (Done prints) before going = refl
 next_refused number (Replace gone come body) outcome (Done prints) before going = refl
-next_refused number (Need some body) outcome (Done prints) before going = by (refused_by (Need some body) outcome)
+next_refused number (Require some body) outcome (Done prints) before going = by (refused_by (Require some body) outcome)
   where
-    by : (b : Bool) → is_refused (next number (Needs (not b)) (Done prints, before)).0 ≡ b
+    by : (b : Bool) → is_refused (next number (Requires (not b)) (Done prints, before)).0 ≡ b
     by true = refl
     by false = refl
 next_refused number (Print terms kinds body) outcome (Done prints) before going = refl

@@ -8,7 +8,7 @@ use Rattle.lt_face.specs.State.{State}
 use Rattle.lt_model.specs.declared.normal.Stmt.{Stmt}
 use Rattle.lt_model.specs.declared.reply.Reply.{Reply}
 use Rattle.lt_model.specs.declared.reply.Reply.TheVariants.{Done, Refused}
-use Rattle.lt_model.specs.Effect.{Effect, Writes, Needs, Prints, effect}
+use Rattle.lt_model.specs.Effect.{Effect, Writes, Requires, Prints, effect}
 use Rattle.lt_model.specs.Marks.{Marks, and_then, laid}
 use Rattle.lt_model.specs.Run.{Progress, run_on, run_from, run}
 use Rattle.lt_program.specs.Tally.{next, is_refused, run_of_first, state_before}
@@ -27,8 +27,8 @@ module _ (base : State) (s : Stmt) where
       on : (e : Effect) → ((q : Progress) → run_from (j + 1) (xs ++ s ∷ []) base q ≡ followed (j + suc (length xs)) (run_from (j + 1) xs base q))
           → run_on j p e (run_from (j + 1) (xs ++ s ∷ []) base) ≡ followed (j + suc (length xs)) (run_on j p e (run_from (j + 1) xs base))
       on (Writes marks) later = later (record p { marks = and_then p.marks marks })
-      on (Needs true) later = later p
-      on (Needs false) later = refl
+      on (Requires true) later = later p
+      on (Requires false) later = refl
       on (Prints kinds rows) later = later (record p { prints = p.prints ++ record { statement = j; kinds = kinds; rows = rows } ∷ [] })
 
 pub first_more : (n : ℕ) (program : List Stmt) (s : Stmt) (state : State) → slice_get program n ≡ Some s

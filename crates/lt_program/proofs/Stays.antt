@@ -2,7 +2,7 @@
 use Rattle.std.proofs.Common.{ap, ◌∙◌}
 use Rattle.lt_face.specs.State.{State}
 use Rattle.lt_model.specs.declared.normal.Stmt.{Stmt}
-use Rattle.lt_model.specs.declared.normal.Stmt.TheVariants.{Insert, Delete, Replace, Need, Print}
+use Rattle.lt_model.specs.declared.normal.Stmt.TheVariants.{Insert, Delete, Replace, Require, Print}
 use Rattle.lt_model.specs.Answers.{answers}
 use Rattle.lt_model.specs.Fits.{FitsStatement}
 use Rattle.lt_sense.specs.Sense.{AgreeWhereCovered}
@@ -30,7 +30,7 @@ part_stays base s t (Replace gone come body) part fits agree is = record {
   vouches = Certifies-moved part.sense s t agree body is.vouches;
   tight = IsTight-moved part.sense s t agree is.tight;
 }
-part_stays base s t (Need some body) part fits agree is =
+part_stays base s t (Require some body) part fits agree is =
     let kept = some_answer_kept part.sense body s t fits.is_bound agree is.vouches in
     record {
       outcome = is.outcome ∙ ap Truth kept.0;

@@ -5,7 +5,7 @@ use Rattle.lt_face.proofs.RowLemmas.{each_weaker}
 use Rattle.lt_model.specs.declared.normal.Atom.{Atom}
 use Rattle.lt_model.specs.declared.normal.Body.{Body}
 use Rattle.lt_model.specs.declared.normal.Stmt.{Stmt}
-use Rattle.lt_model.specs.declared.normal.Stmt.TheVariants.{Insert, Delete, Replace, Need, Print}
+use Rattle.lt_model.specs.declared.normal.Stmt.TheVariants.{Insert, Delete, Replace, Require, Print}
 use Rattle.lt_model.specs.Fits.{IsWide, IsAtomOf, IsBodyOf, IsHeadOf, FitsStatement}
 use Rattle.lt_model.specs.Marks.{Marks, write, change, lay, laid}
 use Rattle.lt_delta.proofs.Kept.{IsWide-change}
@@ -44,7 +44,7 @@ module _ (state : State) (marks : Marks) where
   FitsStatement-laid (Insert head body) h = (body_laid body h.0, head_laid body head h.1)
   FitsStatement-laid (Delete head body) h = (body_laid body h.0, head_laid body head h.1)
   FitsStatement-laid (Replace gone come body) h = (body_laid body h.0, head_laid body gone h.1, head_laid body come h.2)
-  FitsStatement-laid (Need some body) h = body_laid body h
+  FitsStatement-laid (Require some body) h = body_laid body h
   FitsStatement-laid (Print terms kinds body) h = (body_laid body h.0, h.1)
 
 some_is : (x y : ℕ) → Some x ≡ Some y → x ≡ y

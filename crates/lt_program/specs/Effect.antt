@@ -5,12 +5,12 @@ use Rattle.lt_model.specs.declared.mark.Mark.{Mark}
 use Rattle.lt_model.specs.Marks.{Marks}
 use Rattle.lt_model.specs.Effect as model
 use Rattle.lt_program.specs.declared.effect.Effect.{Effect}
-use Rattle.lt_program.specs.declared.effect.Effect.TheVariants.{Writes, Needs, Prints}
+use Rattle.lt_program.specs.declared.effect.Effect.TheVariants.{Writes, Requires, Prints}
 
 -- the model's effect
 abbrev pub view : Effect → model.Effect
 view (Writes marks) = model.Writes marks
-view (Needs holds) = model.Needs holds
+view (Requires holds) = model.Requires holds
 view (Prints kinds rows) = model.Prints kinds rows
 
 -- the rows of marks are of cells

@@ -2,8 +2,8 @@
 use Rattle.std.specs.Prelude.{ℕ, Bool, true, false, not, if◌then◌else◌, List, [], map}
 use Rattle.lt_face.specs.State.{Row}
 use Rattle.lt_model.specs.declared.normal.Stmt.{Stmt}
-use Rattle.lt_model.specs.declared.normal.Stmt.TheVariants.{Insert, Delete, Replace, Need, Print}
-use Rattle.lt_model.specs.Effect.{Effect, Writes, Needs, Prints}
+use Rattle.lt_model.specs.declared.normal.Stmt.TheVariants.{Insert, Delete, Replace, Require, Print}
+use Rattle.lt_model.specs.Effect.{Effect, Writes, Requires, Prints}
 use Rattle.lt_model.specs.Marks.{Marks, and_then}
 use Rattle.lt_program.specs.declared.part.Outcome.{Outcome}
 use Rattle.lt_program.specs.declared.part.Outcome.TheVariants.{Rows, Both, Truth}
@@ -34,7 +34,7 @@ abbrev pub written_by : Stmt → Outcome → Marks
 written_by (Insert head body) outcome = marks_on head.relation true (first_rows outcome)
 written_by (Delete head body) outcome = marks_on head.relation false (first_rows outcome)
 written_by (Replace gone come body) outcome = and_then (marks_on gone.relation false (first_rows outcome)) (marks_on come.relation true (second_rows outcome))
-written_by (Need some body) outcome = []
+written_by (Require some body) outcome = []
 written_by (Print terms kinds body) outcome = []
 
 -- whether it is a requirement that isn't met
@@ -42,7 +42,7 @@ abbrev pub refused_by : Stmt → Outcome → Bool
 refused_by (Insert head body) outcome = false
 refused_by (Delete head body) outcome = false
 refused_by (Replace gone come body) outcome = false
-refused_by (Need some body) outcome = if some then not (truth_in outcome) else truth_in outcome
+refused_by (Require some body) outcome = if some then not (truth_in outcome) else truth_in outcome
 refused_by (Print terms kinds body) outcome = false
 
 -- the marks after it, of those before it
@@ -54,5 +54,5 @@ abbrev pub effect_by : Stmt → Outcome → Effect
 effect_by (Insert head body) outcome = Writes (written_by (Insert head body) outcome)
 effect_by (Delete head body) outcome = Writes (written_by (Delete head body) outcome)
 effect_by (Replace gone come body) outcome = Writes (written_by (Replace gone come body) outcome)
-effect_by (Need some body) outcome = Needs (not (refused_by (Need some body) outcome))
+effect_by (Require some body) outcome = Requires (not (refused_by (Require some body) outcome))
 effect_by (Print terms kinds body) outcome = Prints kinds (first_rows outcome)

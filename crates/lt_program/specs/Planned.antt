@@ -1,6 +1,7 @@
 -- What a join is given: the plan of a body, and terms that are answered.
 use Rattle.std.specs.Prelude.{◌≡◌, ◌≤◌, List, length, IsTrue}
 use Rattle.std.specs.List.{AllByRecursion}
+use Rattle.lt_face.specs.Limits.{most_columns}
 use Rattle.lt_model.specs.declared.normal.Term.{Term}
 use Rattle.lt_model.specs.declared.normal.Body.{Body}
 use Rattle.lt_model.specs.Bound.{are_bound}
@@ -18,6 +19,6 @@ pub record IsPlanned (body : Body) (plan : Plan) : Type 0 where
 
 -- at most 8 terms of the body, each bound by it
 pub record ArePicked (body : Body) (terms : List Term) : Type 0 where
-  pub narrow : length terms ≤ 8
+  pub narrow : length terms ≤ most_columns
   pub within : AllByRecursion (IsTermOf body.vars) terms
   pub bound : IsTrue (are_bound body terms)

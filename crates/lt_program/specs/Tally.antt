@@ -4,7 +4,7 @@ use Rattle.std.specs.List.{AllByRecursion}
 use Rattle.lt_face.specs.State.{State}
 use Rattle.lt_model.specs.declared.normal.Body.{Body}
 use Rattle.lt_model.specs.declared.normal.Stmt.{Stmt}
-use Rattle.lt_model.specs.declared.normal.Stmt.TheVariants.{Insert, Delete, Replace, Need, Print}
+use Rattle.lt_model.specs.declared.normal.Stmt.TheVariants.{Insert, Delete, Replace, Require, Print}
 use Rattle.lt_model.specs.declared.reply.Printed.{Printed}
 use Rattle.lt_model.specs.declared.reply.Reply.{Reply}
 use Rattle.lt_model.specs.declared.reply.Reply.TheVariants.{Done, Refused}
@@ -33,7 +33,7 @@ abbrev pub outcome_on : Stmt → State → Outcome
 outcome_on (Insert head body) state = Rows (answers head.terms body state)
 outcome_on (Delete head body) state = Rows (answers head.terms body state)
 outcome_on (Replace gone come body) state = Both (answers gone.terms body state) (answers come.terms body state)
-outcome_on (Need some body) state = Truth (some_answer body state)
+outcome_on (Require some body) state = Truth (some_answer body state)
 outcome_on (Print terms kinds body) state = Rows (answers terms body state)
 
 -- what the outcome was sensitive to, on this state
@@ -41,7 +41,7 @@ abbrev pub VouchesFor : Sense → Stmt → State → Type 0
 VouchesFor sense (Insert head body) state = Certifies sense body state
 VouchesFor sense (Delete head body) state = Certifies sense body state
 VouchesFor sense (Replace gone come body) state = Certifies sense body state
-VouchesFor sense (Need some body) state = Vouches sense body state
+VouchesFor sense (Require some body) state = Vouches sense body state
 VouchesFor sense (Print terms kinds body) state = Certifies sense body state
 
 -- the part is the statement's on this state

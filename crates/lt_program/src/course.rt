@@ -226,11 +226,11 @@ impl Course {
     {
         match effect {
             Effect::Writes(marks) => self.write(part, &marks),
-            Effect::Needs(true) => {
+            Effect::Requires(true) => {
                 self.parts.push(part)?;
                 Ok(())
             }
-            Effect::Needs(false) => self.refuse(number, part),
+            Effect::Requires(false) => self.refuse(number, part),
             Effect::Prints(kinds, rows) => self.print(
                 part,
                 Printed {

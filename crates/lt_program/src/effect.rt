@@ -13,7 +13,7 @@ use std::alloc::Global;
 #[derive(Drop)]
 pub enum Effect {
     Writes(Marks),
-    Needs(bool),
+    Requires(bool),
     Prints(KindList, RowList),
 }
 

@@ -175,8 +175,8 @@ fn required<L>(
     requires wide { AreWide (state_of tables.now) }
     requires indexes { HasIndexesOf tables.now body.now }
     requires fits { IsBodyOf (state_of tables.now) body.now }
-    ensures part { IfOk result (λ e. IsPartOn (Stmt.Need some body.now) (state_of tables.now) e.part) }
-    ensures effect { IfOk result (λ e. view e.effect ≡ effect_of (Stmt.Need some body.now) (state_of tables.now)) }
+    ensures part { IfOk result (λ e. IsPartOn (Stmt.Require some body.now) (state_of tables.now) e.part) }
+    ensures effect { IfOk result (λ e. view e.effect ≡ effect_of (Stmt.Require some body.now) (state_of tables.now)) }
     ensures cost { moves.new ≤ moves.old + bound (stated_plan body.now) (state_of tables.now) }
     ensures moves { moves.old ≤ moves.new }
 {
@@ -187,7 +187,7 @@ fn required<L>(
             outcome: Outcome::Truth(truth),
             sense,
         },
-        effect: Effect::Needs(truth == some),
+        effect: Effect::Requires(truth == some),
     })
 }
 
@@ -254,7 +254,7 @@ pub(crate) fn evaluated<L>(
             let evaluated = replaced(alloc, tables, gone, come, body, &plan, moves)?;
             Ok(evaluated)
         }
-        Stmt::Need { some, body } => {
+        Stmt::Require { some, body } => {
             let evaluated = required(alloc, tables, *some, body, &plan, moves)?;
             Ok(evaluated)
         }

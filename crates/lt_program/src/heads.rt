@@ -1,6 +1,7 @@
 //! The answers of a statement's heads by a join of its body. The two heads of a `replace` are answered by one join, where the
 //! cells of both have room in a row. What is said of moves holds also where memory is refused.
 ghost use Rattle.std.specs.Prelude.{◌≡◌, ◌+◌, ◌≤◌, ◌++◌, length, map, take, drop, IfOk};
+ghost use Rattle.lt_face.specs.Limits.{most_columns};
 ghost use Rattle.lt_model.specs.Answers.{answers as answers_of};
 ghost use Rattle.lt_model.specs.Fits.{IsBodyOf};
 ghost use Rattle.lt_base.specs.Tables.{state_of};
@@ -13,6 +14,7 @@ ghost use Rattle.lt_program.specs.Tally.{HasIndexesOf};
 
 use lt_base::Database;
 use lt_face::items::RowList;
+use lt_face::limits::MOST_COLUMNS;
 use lt_face::memory::NoMemory;
 use lt_face::moves::Moves;
 use lt_face::row::Row;
@@ -22,9 +24,6 @@ use lt_model::normal::{Body, TermList};
 use lt_query::Plan;
 use lt_sense::Sense;
 use std::alloc::Global;
-
-/// How many cells a row has room for.
-const MOST_CELLS: usize = 8;
 
 /// The answers of two heads, and what they were sensitive to.
 #[derive(Drop)]
@@ -111,7 +110,7 @@ fn found_once<L>(
     requires fits { IsBodyOf (state_of tables.now) body.now }
     requires first { ArePicked body.now first.now }
     requires second { ArePicked body.now second.now }
-    requires narrow { length first.now + length second.now ≤ 8 }
+    requires narrow { length first.now + length second.now ≤ most_columns }
     ensures first { IfOk result (λ pair. pair.first ≡ answers_of first.now body.now (state_of tables.now)) }
     ensures second { IfOk result (λ pair. pair.second ≡ answers_of second.now body.now (state_of tables.now)) }
     ensures certified { IfOk result (λ pair. Certifies pair.sense body.now (state_of tables.now)) }
@@ -188,7 +187,7 @@ pub(crate) fn found_both<L>(
     ensures cost { moves.new ≤ moves.old + (bound (stated_plan body.now) (state_of tables.now) + bound (stated_plan body.now) (state_of tables.now)) }
     ensures moves { moves.old ≤ moves.new }
 {
-    if first.len() + second.len() <= MOST_CELLS {
+    if first.len() + second.len() <= MOST_COLUMNS {
         let pair = found_once(alloc, tables, body, plan, first, second, moves)?;
         return Ok(pair);
     }

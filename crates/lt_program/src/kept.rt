@@ -119,7 +119,7 @@ fn written_by(alloc: Global, stmt: &Stmt, outcome: &Outcome) -> Result<Marks, No
             let marks = Marks::and_then(&minus, &plus)?;
             Ok(marks)
         }
-        Stmt::Need { some: _, body: _ } => {
+        Stmt::Require { some: _, body: _ } => {
             let none = Marks::empty(alloc)?;
             Ok(none)
         }
@@ -139,7 +139,7 @@ fn refused_by(stmt: &Stmt, outcome: &Outcome) -> bool
     ensures { result ≡ refuses stmt.now outcome.now }
 {
     match stmt {
-        Stmt::Need { some, body: _ } => {
+        Stmt::Require { some, body: _ } => {
             if *some {
                 !is_met(outcome)
             } else {
@@ -204,7 +204,7 @@ pub(crate) fn effect_by(alloc: Global, stmt: &Stmt, outcome: &Outcome) -> Result
             let marks = written_by(alloc, stmt, outcome)?;
             Ok(Effect::Writes(marks))
         }
-        Stmt::Need { some: _, body: _ } => Ok(Effect::Needs(!refused_by(stmt, outcome))),
+        Stmt::Require { some: _, body: _ } => Ok(Effect::Requires(!refused_by(stmt, outcome))),
         Stmt::Print {
             terms: _,
             kinds,

@@ -7,7 +7,7 @@ use Rattle.lt_model.specs.declared.normal.Body.{Body}
 use Rattle.lt_model.specs.declared.kind.Kind.TheVariants.{Int}
 use Rattle.lt_model.specs.declared.syntax.Op.TheVariants.{Eq}
 use Rattle.lt_model.specs.declared.normal.Test.TheVariants.{Cmp}
-use Rattle.lt_model.specs.declared.normal.Stmt.TheVariants.{Need, Replace, Print}
+use Rattle.lt_model.specs.declared.normal.Stmt.TheVariants.{Require, Replace, Print}
 use Rattle.lt_query.specs.Needs.{with_names, names_of}
 
 -- e(a, b), e(b, c), e(a, c)
@@ -18,7 +18,7 @@ triangle = record { atoms = record { relation = 0; terms = Var 0 ∷ Var 1 ∷ [
 abbrev second_pinned : Body
 second_pinned = record { atoms = record { relation = 0; terms = Var 0 ∷ Var 1 ∷ [] } ∷ []; tests = Cmp (Var 1) Eq (Cell 3) ∷ []; vars = 2 }
 
-both : with_names [] (names_of (Need true triangle ∷ Need false second_pinned ∷ Need true triangle ∷ [])) ≡ record { relation = 0; columns = 0 ∷ 1 ∷ [] } ∷ record { relation = 0; columns = 1 ∷ 0 ∷ [] } ∷ []
+both : with_names [] (names_of (Require true triangle ∷ Require false second_pinned ∷ Require true triangle ∷ [])) ≡ record { relation = 0; columns = 0 ∷ 1 ∷ [] } ∷ record { relation = 0; columns = 1 ∷ 0 ∷ [] } ∷ []
 both = refl
 
 -- a head needs no index: replace e(x, y) by f(x, y) where e(x, y), y = 3

@@ -6,7 +6,7 @@ use Rattle.lt_model.specs.declared.normal.Body.{Body}
 use Rattle.lt_query.specs.declared.plans.Guide.{Guide}
 use Rattle.lt_query.specs.declared.plans.Plan.{Plan}
 use Rattle.lt_model.specs.declared.normal.Stmt.{Stmt}
-use Rattle.lt_model.specs.declared.normal.Stmt.TheVariants.{Insert, Delete, Replace, Need, Print}
+use Rattle.lt_model.specs.declared.normal.Stmt.TheVariants.{Insert, Delete, Replace, Require, Print}
 use Rattle.lt_query.specs.declared.plans.IndexName.{IndexName}
 use Rattle.lt_face.specs.Lists.{IsIn}
 use Rattle.lt_query.specs.Plan.{IsPlanOf}
@@ -16,7 +16,7 @@ abbrev pub body_of : Stmt → Body
 body_of (Insert head body) = body
 body_of (Delete head body) = body
 body_of (Replace gone come body) = body
-body_of (Need some body) = body
+body_of (Require some body) = body
 body_of (Print terms kinds body) = body
 
 -- the index that an atom is gone through

@@ -1,6 +1,7 @@
 -- What a join asks of a plan besides that it is the body's.
 use Rattle.std.specs.Prelude.{◌≡◌, ℕ, ◌+◌, ◌<◌, ◌≤◌, ◌^◌, length, IsTrue}
 use Rattle.std.specs.List.{AllByRecursion}
+use Rattle.lt_face.specs.Limits.{most_columns}
 use Rattle.lt_face.specs.Rows.{IsCell}
 use Rattle.lt_face.specs.State.{State, Relation}
 use Rattle.lt_model.specs.declared.normal.Term.TheVariants.{Var}
@@ -18,7 +19,7 @@ use Rattle.lt_query.specs.Plan.{term_at}
 
 -- 1 to 8
 abbrev pub IsWidth : ℕ → Type 0
-IsWidth n = (1 ≤ n) × (n ≤ 8)
+IsWidth n = (1 ≤ n) × (n ≤ most_columns)
 
 -- each atom has 1 to 8 columns
 abbrev pub HasWidths : Body → Type 0

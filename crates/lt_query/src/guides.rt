@@ -2,6 +2,7 @@
 
 ghost use Rattle.std.specs.Prelude.{◌≡◌, ℕ, ◌+◌, ◌<◌, ◌≤◌, [], ◌∷◌, ◌++◌, length, OnOk, IfOk};
 ghost use Rattle.std.specs.List.{AllByRecursion};
+ghost use Rattle.lt_face.specs.Limits.{most_columns};
 ghost use Rattle.lt_model.specs.declared.normal.Atom.{Atom as AtomType};
 ghost use Rattle.lt_query.specs.Order.{places_of};
 ghost use Rattle.lt_query.specs.Runnable.{IsWidth};
@@ -45,7 +46,7 @@ fn column_levels(
 
 /// Adds the columns at a level.
 fn add_columns_at(columns: &mut Perm, levels: &[usize], level: usize) -> Result<(), NoMemory>
-    requires { length levels.now ≤ 8 }
+    requires { length levels.now ≤ most_columns }
     ensures { OnOk result (columns.new ≡ columns.old ++ columns_at levels.now level) }
 {
     for column in 0..levels.len() {
@@ -58,7 +59,7 @@ fn add_columns_at(columns: &mut Perm, levels: &[usize], level: usize) -> Result<
 
 /// The columns in the order of their levels, of which there are so many.
 fn sorted_columns(alloc: Global, levels: &[usize], count: usize) -> Result<Perm, NoMemory>
-    requires { length levels.now ≤ 8 }
+    requires { length levels.now ≤ most_columns }
     ensures { IfOk result (λ columns. columns ≡ columns_by levels.now count) }
 {
     let mut columns = Items::from_vec(Vec::with_capacity(alloc, levels.len())?);
@@ -77,7 +78,7 @@ fn guide(
     from: usize,
 ) -> Result<Guide, NoMemory>
     requires within { from + length atom.now.terms ≤ length places.now }
-    requires narrow { length atom.now.terms ≤ 8 }
+    requires narrow { length atom.now.terms ≤ most_columns }
     ensures { IfOk result (λ guide. guide ≡ guide_of places.now order.now from atom.now) }
 {
     let levels = column_levels(alloc, places, order, from, atom.terms.as_slice().len())?;

@@ -13,7 +13,7 @@ pub fn body_of(stmt: &Stmt) -> &Body
         Stmt::Insert { body, .. } => body,
         Stmt::Delete { body, .. } => body,
         Stmt::Replace { body, .. } => body,
-        Stmt::Need { body, .. } => body,
+        Stmt::Require { body, .. } => body,
         Stmt::Print { body, .. } => body,
     }
 }

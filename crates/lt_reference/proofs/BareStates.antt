@@ -8,9 +8,9 @@ use Rattle.lt_model.specs.declared.normal.Term.{Term}
 use Rattle.lt_model.specs.declared.normal.Atom.{Atom}
 use Rattle.lt_model.specs.declared.normal.Body.{Body}
 use Rattle.lt_model.specs.declared.normal.Stmt.{Stmt}
-use Rattle.lt_model.specs.declared.normal.Stmt.TheVariants.{Insert, Delete, Replace, Need, Print}
+use Rattle.lt_model.specs.declared.normal.Stmt.TheVariants.{Insert, Delete, Replace, Require, Print}
 use Rattle.lt_model.specs.Answers.{picks, answer_of, ascending, answers, fits_pick, assignment_of, some_answer}
-use Rattle.lt_model.specs.Effect.{Writes, Needs, Prints, marks_of, effect}
+use Rattle.lt_model.specs.Effect.{Writes, Requires, Prints, marks_of, effect}
 use Rattle.lt_model.specs.Marks.{Marks, and_then, write, change, lay, laid}
 use Rattle.lt_model.specs.Run.{Progress, run_on, run_from, run}
 use Rattle.lt_reference.specs.Run.{lists}
@@ -47,8 +47,8 @@ effect-plain (Delete head body) state = ap Writes (marks_of-plain false head bod
 effect-plain (Replace gone come body) state =
     ap (λ m. Writes (and_then m (marks_of true come body (plain state)))) (marks_of-plain false gone body state)
     ∙ ap (λ m. Writes (and_then (marks_of false gone body state) m)) (marks_of-plain true come body state)
-effect-plain (Need true body) state = ap Needs (some-plain body state)
-effect-plain (Need false body) state = ap (λ b. Needs (not b)) (some-plain body state)
+effect-plain (Require true body) state = ap Requires (some-plain body state)
+effect-plain (Require false body) state = ap (λ b. Requires (not b)) (some-plain body state)
 effect-plain (Print terms kinds body) state = ap (Prints kinds) (answers-plain terms body state)
 
 change-plain : (n : ℕ) (f : List Row → List Row) (state : State) → change n f (plain state) ≡ plain (change n f state)

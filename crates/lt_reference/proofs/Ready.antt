@@ -9,7 +9,7 @@ use Rattle.lt_model.specs.declared.normal.Term.TheVariants.{Var, Cell}
 use Rattle.lt_model.specs.declared.normal.Atom.{Atom}
 use Rattle.lt_model.specs.declared.normal.Body.{Body}
 use Rattle.lt_model.specs.declared.normal.Stmt.{Stmt}
-use Rattle.lt_model.specs.declared.normal.Stmt.TheVariants.{Insert, Delete, Replace, Need, Print}
+use Rattle.lt_model.specs.declared.normal.Stmt.TheVariants.{Insert, Delete, Replace, Require, Print}
 use Rattle.lt_model.specs.Fits.{IsWide, IsTermOf, IsAtomOf, IsBodyOf, IsHeadOf, test_terms, FitsStatement}
 use Rattle.lt_model.specs.Laws.{Rises}
 use Rattle.lt_reference.specs.Ready.{IsBody, AreTerms, IsReady}
@@ -54,7 +54,7 @@ pub statement_of : (state : State) (stmt : Stmt) → IsNarrow state → FitsStat
 statement_of state (Insert head body) narrow h = (body_of state body h.0, head_of state body head narrow h.0 h.1)
 statement_of state (Delete head body) narrow h = (body_of state body h.0, head_of state body head narrow h.0 h.1)
 statement_of state (Replace gone come body) narrow h = (body_of state body h.0, head_of state body gone narrow h.0 h.1, head_of state body come narrow h.0 h.2)
-statement_of state (Need some body) narrow h = body_of state body h
+statement_of state (Require some body) narrow h = body_of state body h
 statement_of state (Print terms kinds body) narrow h = (
   body_of state body h.0,
   record {

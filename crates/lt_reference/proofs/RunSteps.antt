@@ -12,7 +12,7 @@ use Rattle.lt_model.specs.Marks.{Marks, AreMarks, laid}
 use Rattle.lt_model.specs.Run.{run_on, run_from}
 use Rattle.lt_model.proofs.Composition.{laid_twice, AreMarks-and_then}
 use Rattle.lt_program.specs.declared.effect.Effect.{Effect}
-use Rattle.lt_program.specs.declared.effect.Effect.TheVariants.{Writes, Needs, Prints}
+use Rattle.lt_program.specs.declared.effect.Effect.TheVariants.{Writes, Requires, Prints}
 use Rattle.lt_reference.specs.declared.progress.Progress.{Progress}
 use Rattle.lt_program.specs.Effect.{view, HaveCells}
 use Rattle.lt_program.proofs.LaidRows.{HasCells, HasCells-laid}
@@ -23,14 +23,14 @@ use Rattle.lt_reference.proofs.LaidRows.{Rises-laid, bare_each, each_bare}
 
 written_cells : (e : Effect) → WritesCells e → HaveCells (written e)
 written_cells (Writes marks) h = h
-written_cells (Needs holds) h = tt
+written_cells (Requires holds) h = tt
 written_cells (Prints kinds rows) h = tt
 
 -- a requirement that isn't met ends the run
-pub refused_step : (base : State) (e : Effect) (p : Progress) (prog : List Stmt) (i : ℕ) (stmt : Stmt) (all : Reply × Marks) → bare p.relations.items ≡ laid base p.marks → view e ≡ model.Needs false → i < length prog → stmt ≡ get_or prog i stmt
+pub refused_step : (base : State) (e : Effect) (p : Progress) (prog : List Stmt) (i : ℕ) (stmt : Stmt) (all : Reply × Marks) → bare p.relations.items ≡ laid base p.marks → view e ≡ model.Requires false → i < length prog → stmt ≡ get_or prog i stmt
     → view e ≡ model.effect stmt (bare p.relations.items) → run_from (i + 1) (drop i prog) base (so_far p) ≡ all → (Refused (i + 1), []) ≡ all
 refused_step base e p prog i stmt all lays unmet lt is told h =
-    let seen : model.Needs false ≡ model.effect stmt (laid base p.marks) = sym unmet ∙ (told ∙ ap (model.effect stmt) lays) in
+    let seen : model.Requires false ≡ model.effect stmt (laid base p.marks) = sym unmet ∙ (told ∙ ap (model.effect stmt) lays) in
     let left : drop i prog ≡ stmt ∷ drop (i + 1) prog = rw add-one (drop-cons prog i stmt lt ∙ ap (λ s. s ∷ drop (suc i) prog) (sym is)) in
     ap (λ v. run_on (i + 1) (so_far p) v (run_from (i + 1 + 1) (drop (i + 1) prog) base)) seen
     ∙ (sym (ap (λ (stmts : List Stmt). run_from (i + 1) stmts base (so_far p)) left) ∙ h)

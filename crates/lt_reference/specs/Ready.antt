@@ -1,14 +1,15 @@
 -- Statements whose effect is computed.
 use Rattle.std.specs.Prelude.{◌≤◌, List, length, IsTrue}
 use Rattle.std.specs.List.{AllByRecursion}
+use Rattle.lt_face.specs.Limits.{most_columns, most_variables}
 use Rattle.lt_model.specs.declared.normal.Term.{Term}
 use Rattle.lt_model.specs.declared.normal.Body.{Body}
 use Rattle.lt_model.specs.declared.normal.Stmt.{Stmt}
-use Rattle.lt_model.specs.declared.normal.Stmt.TheVariants.{Insert, Delete, Replace, Need, Print}
+use Rattle.lt_model.specs.declared.normal.Stmt.TheVariants.{Insert, Delete, Replace, Require, Print}
 use Rattle.lt_model.specs.Bound.{are_bound}
 use Rattle.lt_model.specs.Fits.{IsTermOf}
 use Rattle.lt_program.specs.declared.effect.Effect.{Effect}
-use Rattle.lt_program.specs.declared.effect.Effect.TheVariants.{Writes, Needs, Prints}
+use Rattle.lt_program.specs.declared.effect.Effect.TheVariants.{Writes, Requires, Prints}
 use Rattle.lt_program.specs.Effect.{HaveCells}
 use Rattle.lt_join.specs.Values.{IsTest}
 use Rattle.lt_reference.specs.Walk.{IsAtom}
@@ -19,8 +20,8 @@ pub record IsBody (body : Body) : Type 0 where
 
 -- terms whose cells make a row
 pub record AreTerms (body : Body) (terms : List Term) : Type 0 where
-  pub narrow : length terms ≤ 8
-  pub cells : AllByRecursion (IsTermOf 16) terms
+  pub narrow : length terms ≤ most_columns
+  pub cells : AllByRecursion (IsTermOf most_variables) terms
   pub bound : IsTrue (are_bound body terms)
 
 -- what is needed of a statement
@@ -28,11 +29,11 @@ abbrev pub IsReady : Stmt → Type 0
 IsReady (Insert head body) = IsBody body × AreTerms body head.terms
 IsReady (Delete head body) = IsBody body × AreTerms body head.terms
 IsReady (Replace gone come body) = IsBody body × AreTerms body gone.terms × AreTerms body come.terms
-IsReady (Need some body) = IsBody body
+IsReady (Require some body) = IsBody body
 IsReady (Print terms kinds body) = IsBody body × AreTerms body terms
 
 -- the rows that it writes are of cells
 abbrev pub WritesCells : Effect → Type 0
 WritesCells (Writes marks) = HaveCells marks
-WritesCells (Needs holds) = Unit {0}
+WritesCells (Requires holds) = Unit {0}
 WritesCells (Prints kinds rows) = Unit {0}

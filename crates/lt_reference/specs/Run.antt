@@ -1,6 +1,7 @@
 -- The run of a program on lists of rows.
 use Rattle.std.specs.Prelude.{◌≡◌, ℕ, ◌≤◌, List, [], map}
 use Rattle.std.specs.List.{AllByRecursion}
+use Rattle.lt_face.specs.Limits.{most_columns}
 use Rattle.lt_face.specs.State.{Row, Relation, State}
 use Rattle.lt_model.specs.declared.normal.Stmt.{Stmt}
 use Rattle.lt_model.specs.declared.reply.Reply.{Reply}
@@ -9,7 +10,7 @@ use Rattle.lt_model.specs.Fits.{Fits}
 use Rattle.lt_model.specs.Marks.{Marks, and_then, laid}
 use Rattle.lt_model.specs.Run as model
 use Rattle.lt_program.specs.declared.effect.Effect.{Effect}
-use Rattle.lt_program.specs.declared.effect.Effect.TheVariants.{Writes, Needs, Prints}
+use Rattle.lt_program.specs.declared.effect.Effect.TheVariants.{Writes, Requires, Prints}
 use Rattle.lt_program.specs.Effect.{view}
 use Rattle.lt_reference.specs.declared.progress.Progress.{Progress}
 use Rattle.lt_reference.specs.Walk.{bare}
@@ -23,7 +24,7 @@ pub record IsFitting (rows : List (List Row)) (program : List Stmt) : Type 0 whe
   pub state : State
   pub has : lists state ≡ rows
   pub is_state : IsState state
-  pub narrow : AllByRecursion (λ (relation : Relation). relation.width ≤ 8) state
+  pub narrow : AllByRecursion (λ (relation : Relation). relation.width ≤ most_columns) state
   pub fits : Fits state program
 
 -- the marks and the prints so far
@@ -33,7 +34,7 @@ so_far p = record { marks = p.marks; prints = p.prints }
 -- what an effect writes
 abbrev pub written : Effect → Marks
 written (Writes marks) = marks
-written (Needs holds) = []
+written (Requires holds) = []
 written (Prints kinds rows) = []
 
 -- a statement's effect was taken in: the run goes on from there, and the relations have its marks laid on them

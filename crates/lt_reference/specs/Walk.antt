@@ -1,6 +1,7 @@
 -- A body's answers, row by row of its atoms, while the variables met so far have values.
 use Rattle.std.specs.Prelude.{Bool, ◌&&◌, if◌then◌else◌, List, map, Option, Some, None, filter_map, flat_map}
 use Rattle.std.specs.List.{AllByRecursion, list_all, list_any}
+use Rattle.lt_face.specs.Limits.{most_variables}
 use Rattle.lt_face.specs.Rows.{IsCell}
 use Rattle.lt_face.specs.State.{Row, State}
 use Rattle.lt_model.specs.declared.normal.Term.{Term}
@@ -22,7 +23,7 @@ AreCells relations = AllByRecursion (AllByRecursion (AllByRecursion IsCell)) rel
 
 -- its variables' numbers are below 16, and its constants are cells
 abbrev pub IsAtom : Atom → Type 0
-IsAtom atom = AllByRecursion (IsTermOf 16) atom.terms
+IsAtom atom = AllByRecursion (IsTermOf most_variables) atom.terms
 
 -- the answer of the values, once all atoms are met
 abbrev pub leaf : List Term → Values → List Test → Option Row

@@ -1,6 +1,7 @@
 //! The answers of a body by nested loops: one atom after another, leaving a row as soon as it can't match.
 ghost use Rattle.std.specs.Prelude.{◌≡◌, ◌≤◌, ◌++◌, length, OnOk, IfOk};
 ghost use Rattle.std.specs.List.{AllByRecursion};
+ghost use Rattle.lt_face.specs.Limits.{most_columns};
 ghost use Rattle.lt_model.specs.Answers.{answers as answers_of, some_answer as some_answer_of};
 ghost use Rattle.lt_face.specs.State.{rows_in};
 ghost use Rattle.lt_join.specs.Values.{values_in, IsTest};
@@ -28,7 +29,7 @@ fn rows_of(relations: &[RowList], relation: u32) -> &[Row]
 
 /// The answer where the atoms have given their values, if the conditions hold.
 fn answer(alloc: Global, terms: &[Term], values: &Values, tests: &[Test]) -> Option<Row>
-    requires narrow { length terms.now ≤ 8 }
+    requires narrow { length terms.now ≤ most_columns }
     requires tests { AllByRecursion IsTest tests.now }
     ensures { result ≡ leaf terms.now (values_in values.now.cells) tests.now }
 {
@@ -50,7 +51,7 @@ fn find_answers(
     values: &Values,
     found: &mut Vec<Row>,
 ) -> Result<(), NoMemory>
-    requires narrow { length terms.now ≤ 8 }
+    requires narrow { length terms.now ≤ most_columns }
     requires tests { AllByRecursion IsTest tests.now }
     requires atoms { AllByRecursion IsAtom atoms.now }
     ensures { OnOk result (found.new.items ≡ found.old.items ++ found_from terms.now (values_in values.now.cells) atoms.now tests.now (bare relations.now)) }
@@ -96,7 +97,7 @@ pub(crate) fn answers(
     body: &Body,
 ) -> Result<RowList, NoMemory>
     requires cells { AreCells relations.now }
-    requires narrow { length terms.now ≤ 8 }
+    requires narrow { length terms.now ≤ most_columns }
     requires tests { AllByRecursion IsTest body.now.tests }
     requires atoms { AllByRecursion IsAtom body.now.atoms }
     ensures { IfOk result (λ rows. rows ≡ answers_of terms.now body.now (bare relations.now)) }

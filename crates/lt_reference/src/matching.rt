@@ -1,6 +1,7 @@
 //! A row of a relation against the terms of an atom.
 ghost use Rattle.std.specs.Prelude.{◌≡◌, Some, None, MatchBool, MatchOption};
 ghost use Rattle.std.specs.List.{AllByRecursion};
+ghost use Rattle.lt_face.specs.Limits.{most_variables};
 ghost use Rattle.lt_model.specs.Fits.{IsTermOf};
 ghost use Rattle.lt_join.specs.Values.{values_in};
 ghost use Rattle.lt_reference.specs.Values.{accept as accepted, matched as matched_from};
@@ -12,7 +13,7 @@ use lt_model::normal::Term;
 
 /// Whether the term can be this cell. A variable without a value gets it.
 fn accept(values: &mut Values, term: Term, cell: Key) -> bool
-    requires { IsTermOf 16 term }
+    requires { IsTermOf most_variables term }
     ensures { MatchBool result (accepted (values_in values.old.cells) term cell ≡ Some (values_in values.new.cells)) (accepted (values_in values.old.cells) term cell ≡ None) }
 {
     match term {
@@ -29,7 +30,7 @@ fn accept(values: &mut Values, term: Term, cell: Key) -> bool
 
 /// The values with those that the row gives the terms' variables, or `None` where the row is none of the atom's.
 pub(crate) fn matched(values: &Values, terms: &[Term], row: &Row) -> Option<Values>
-    requires { AllByRecursion (IsTermOf 16) terms.now }
+    requires { AllByRecursion (IsTermOf most_variables) terms.now }
     ensures { MatchOption result (matched_from (values_in values.now.cells) terms.now row.now ≡ None) (λ next. matched_from (values_in values.now.cells) terms.now row.now ≡ Some (values_in next.cells)) }
 {
     let cells = row.cells();

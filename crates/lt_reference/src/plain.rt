@@ -1,6 +1,7 @@
 //! The run of a program, computed as it is defined.
 ghost use Rattle.std.specs.Prelude.{◌≡◌, ◌≤◌, length, IfOk};
 ghost use Rattle.std.specs.List.{AllByRecursion};
+ghost use Rattle.lt_face.specs.Limits.{most_statements};
 ghost use Rattle.lt_face.specs.State.{State};
 ghost use Rattle.lt_model.specs.Fits.{FitMarks};
 ghost use Rattle.lt_model.specs.Laws.{Rises};
@@ -34,7 +35,7 @@ fn all_copied(alloc: Global, relations: &[RowList]) -> Result<Vec<RowList>, NoMe
 
 /// The run of a program on relations that it may change.
 fn run_on(alloc: Global, prog: &[Stmt], relations: Vec<RowList>) -> Result<(Reply, Marks), NoMemory>
-    requires few { length prog.now ≤ 64 }
+    requires few { length prog.now ≤ most_statements }
     requires ready { AllByRecursion IsReady prog.now }
     requires rises { Rises (bare relations.items) }
     requires cells { AreCells relations.items }

@@ -25,7 +25,7 @@ impl Progress {
     /// Takes in the effect of statement `number`. False where that is a requirement that isn't met.
     pub(crate) fn accept(&mut self, number: u32, effect: Effect) -> Result<bool, NoMemory>
         requires { Rises (bare self.old.relations.items) }
-        ensures { IfOk result (λ met. MatchBool met (Follows number effect self.old self.new) (view effect ≡ model.Needs false)) }
+        ensures { IfOk result (λ met. MatchBool met (Follows number effect self.old self.new) (view effect ≡ model.Requires false)) }
     {
         match effect {
             Effect::Writes(marks) => {
@@ -33,7 +33,7 @@ impl Progress {
                 self.marks = Marks::and_then(&self.marks, &marks)?;
                 Ok(true)
             }
-            Effect::Needs(met) => Ok(met),
+            Effect::Requires(met) => Ok(met),
             Effect::Prints(kinds, rows) => {
                 self.prints.push(Printed {
                     statement: number,

@@ -1,6 +1,7 @@
 //! Rows, each on its line.
 ghost use Rattle.std.specs.Prelude.{◌≤◌, length};
 ghost use Rattle.std.specs.List.{AllByRecursion};
+ghost use Rattle.lt_face.specs.Limits.{most_columns};
 ghost use Rattle.lt_face.specs.Rows.{IsRow};
 ghost use Rattle.lt_model.specs.Report.{cell_texts, line as line_of, rows_text};
 ghost use Rattle.lt_report.specs.Puts.{Puts};
@@ -20,7 +21,7 @@ pub fn put_cells<K: Sink>(
     kinds: &[Kind],
     cells: &[Key],
 ) -> Result<(), Failed>
-    requires few { before ≤ 8 }
+    requires few { before ≤ most_columns }
     requires row { IsRow (length kinds.now) cells.now }
     ensures { Puts result (K.holds sink.old) (K.holds sink.new) (K.faults sink.old) (K.faults sink.new) (joined before (cell_texts kinds.now cells.now)) }
 {

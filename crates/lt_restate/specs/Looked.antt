@@ -2,6 +2,7 @@
 use Rattle.std.specs.Prelude.{◌≡◌, ℕ, ◌<◌, Bool, true, false, nat_lt, if◌then◌else◌, [], ◌∷◌, ◌++◌, length, slice_index, slice_get, Some}
 use Rattle.std.specs.Ordering.{is_lt}
 use Rattle.std.specs.declared.cmp.Ordering.TheVariants.{Less}
+use Rattle.lt_face.specs.Limits.{most_columns}
 use Rattle.lt_face.specs.Rows.{row_cmp}
 use Rattle.lt_face.specs.State.{Row, State, permuted}
 use Rattle.lt_model.specs.declared.mark.Mark.{Mark}
@@ -49,7 +50,7 @@ StandTogether gap first = (row other : Row) → is_lt (row_cmp row first) ≡ fa
 
 -- the columns are the first ones in text order, as far as the prefix and one further, and no cell of the prefix is 0
 pub record IsInOrder (gap : KeptGap) : Type 0 where
-  pub narrow : length gap.prefix < 8
+  pub narrow : length gap.prefix < most_columns
   pub wide : length gap.prefix < length gap.columns
   pub columns : (k : ℕ) → k < length gap.prefix → slice_index gap.columns k ≡ k
   pub cells : (k : ℕ) → k < length gap.prefix → 0 < slice_index gap.prefix k

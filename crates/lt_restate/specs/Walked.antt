@@ -1,5 +1,6 @@
 -- What is so while a program is restated.
 use Rattle.std.specs.Prelude.{◌≡◌, ℕ, ◌<◌, ◌≤◌, ◌⊎◌, Bool, true, length, is_some}
+use Rattle.lt_face.specs.Limits.{most_statements}
 use Rattle.lt_face.specs.State.{Row}
 use Rattle.lt_model.specs.declared.mark.Mark.{Mark}
 use Rattle.lt_model.specs.Fits.{FitMarks}
@@ -24,7 +25,7 @@ pub record IsUnderWay (old new : TallyView) (old_on new_on : Marks) (walk : Walk
   pub program : new.program ≡ old.program
   pub old_run : IsRun old
   pub run : IsRun new
-  pub few : length old.program ≤ 64
+  pub few : length old.program ≤ most_statements
   pub past : length new.parts < length old.parts → walk.past ≡ (run_of_first (length new.parts) old.program (state_of old.base)).1
   pub past_fits : FitMarks (state_of old.base) walk.past
   pub bases : (relation : ℕ) (row : Row) → differ_on (state_of old.base) (state_of new.base) relation row ≡ true → (is_named old_on relation row ≡ true) ⊎ (is_named new_on relation row ≡ true)

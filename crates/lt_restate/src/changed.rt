@@ -1,5 +1,6 @@
 //! The changed rows before a statement, and what touches it.
 ghost use Rattle.std.specs.Prelude.{◌≡◌, ◌<◌, ◌⊎◌, ℕ, [], ◌∷◌, true, false, map, length, IfOk, IfSome, IfNone};
+ghost use Rattle.lt_face.specs.Limits.{most_statements};
 ghost use Rattle.lt_face.specs.State.{Row as RowView, AgreeOn};
 ghost use Rattle.lt_model.specs.Fits.{FitMarks};
 ghost use Rattle.lt_model.specs.Marks.{and_then, laid};
@@ -204,7 +205,7 @@ pub(crate) fn touch_of(
     part: &SharedPart,
 ) -> Result<Option<Touch>, NoMemory>
     requires fits { FitMarks (state_of old.now.base) past.now }
-    requires few { length new.now.parts < 64 }
+    requires few { length new.now.parts < most_statements }
     requires bases { (relation : ℕ) (row : RowView) → differ_on (state_of old.now.base) (state_of new.now.base) relation row ≡ true → (is_named old_on.now relation row ≡ true) ⊎ (is_named new_on.now relation row ≡ true) }
     ensures none { IfOk result (λ found. IfNone found (AgreeWhereCovered part.now.sense (laid (state_of old.now.base) past.now) (state_before (length new.now.parts) new.now.program (state_of new.now.base)))) }
     ensures some { IfOk result (λ found. IfSome found (IsTouchOn (length new.now.parts) part.now (laid (state_of old.now.base) past.now) (state_before (length new.now.parts) new.now.program (state_of new.now.base)))) }

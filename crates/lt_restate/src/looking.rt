@@ -2,6 +2,7 @@
 ghost use Rattle.std.specs.Prelude.{◌≡◌, ◌<◌, ◌≤◌, ◌∷◌, [], true, false, length};
 ghost use Rattle.std.specs.List.{AllByRecursion};
 ghost use Rattle.std.specs.Ordering.{is_eq};
+ghost use Rattle.lt_face.specs.Limits.{most_columns};
 ghost use Rattle.lt_face.specs.Lists.{IsIn};
 ghost use Rattle.lt_face.specs.Rows.{row_cmp};
 ghost use Rattle.lt_sense.specs.declared.covering.KeptGap.{KeptGap as KeptGapView};
@@ -16,6 +17,7 @@ ghost use Rattle.lt_restate.specs.Looked.{in_gap as lies_in_gap, on_hit as lies_
 use crate::changed::{Found, found_at, is_changed};
 use lt_delta::Marks;
 use lt_face::items::Items;
+use lt_face::limits::MOST_COLUMNS;
 use lt_face::row::Row;
 use lt_program::Tally;
 use lt_sense::{Hit, KeptGap, Sense};
@@ -29,7 +31,7 @@ fn is_in_order(gap: &KeptGap) -> bool
     let columns = gap.columns.as_slice();
     let prefix = gap.prefix.cells();
     let width = prefix.len();
-    if width == 8 || columns.len() <= width {
+    if width == MOST_COLUMNS || columns.len() <= width {
         return false;
     }
     for i in 0..width {
@@ -42,7 +44,7 @@ fn is_in_order(gap: &KeptGap) -> bool
 
 /// The least row that a gap in order can have.
 fn least_row(gap: &KeptGap) -> Row
-    requires { length gap.now.prefix < 8 }
+    requires { length gap.now.prefix < most_columns }
     ensures { result ≡ first_of gap.now.prefix gap.now.lo }
 {
     let mut row = gap.prefix.copy_row();

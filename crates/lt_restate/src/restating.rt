@@ -1,5 +1,6 @@
 //! The restatement of a program.
 ghost use Rattle.std.specs.Prelude.{◌≡◌, ◌<◌, ◌≤◌, ◌+◌, ◌⊎◌, ◌∷◌, ◌++◌, ℕ, [], true, false, length, slice_get, Some, IfOk, OnOk};
+ghost use Rattle.lt_face.specs.Limits.{most_statements};
 ghost use Rattle.lt_face.specs.Lists.{IsIn};
 ghost use Rattle.lt_face.specs.State.{Row as RowView, AgreeOn};
 ghost use Rattle.lt_model.specs.Fits.{Fits};
@@ -29,7 +30,7 @@ fn begun(
     _old_on: &Marks,
     _new_on: &Marks,
 ) -> Result<Walk, NoMemory>
-    requires few { length _old.now.program ≤ 64 }
+    requires few { length _old.now.program ≤ most_statements }
     requires program { _new.now.program ≡ _old.now.program }
     requires none { _new.now.parts ≡ [] }
     requires bases { (relation : ℕ) (row : RowView) → (AgreeOn (state_of _old.now.base) (state_of _new.now.base) relation row) ⊎ ((is_named _old_on.now relation row ≡ true) ⊎ (is_named _new_on.now relation row ≡ true)) }

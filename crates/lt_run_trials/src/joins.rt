@@ -83,7 +83,7 @@ fn evaluated(alloc: Global, db: &Database, stmt: &Stmt) -> Result<Finding, NoMem
 {
     match stmt {
         Stmt::Print { terms, body, .. } => answered(alloc, db, body, terms),
-        Stmt::Need { body, .. } => asked(alloc, db, body),
+        Stmt::Require { body, .. } => asked(alloc, db, body),
         _ => Err(NoMemory),
     }
 }

@@ -43,7 +43,7 @@ head_of h = record { relation = h.relation.bytes.now; first = (terms_of h.terms.
 abbrev pub literal_of : Literal → grammar.Literal
 literal_of (Atom h) = grammar.atom (head_of h)
 literal_of (Compare left op right) = grammar.compare (term_of left) op (term_of right)
-literal_of (Sum name left minus right) = grammar.total name.bytes.now (term_of left) minus (term_of right)
+literal_of (Sum name left minus right) = grammar.sum name.bytes.now (term_of left) minus (term_of right)
 
 abbrev pub literals_of : List Literal → List grammar.Literal
 literals_of ls = map literal_of ls

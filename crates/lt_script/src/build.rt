@@ -167,7 +167,7 @@ fn statement(alloc: Global, statement: &tree::Statement) -> Result<Statement, No
         tree::Statement::Replace { gone, come, body } => replace(alloc, gone, come, body),
         tree::Statement::Require { some, body } => {
             let body = self::body(alloc, body)?;
-            Ok(Statement::Need { some: *some, body })
+            Ok(Statement::Require { some: *some, body })
         }
         tree::Statement::Print { terms, body } => print(alloc, terms.as_slice(), body),
     }

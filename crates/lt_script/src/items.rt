@@ -1,5 +1,6 @@
 //! The items of a script: declarations, batches and questions.
-ghost use Rattle.std.specs.Prelude.{◌≡◌, ◌∷◌, IfOk, drop, map, false};
+ghost use Rattle.std.specs.Prelude.{◌≡◌, ◌∷◌, ◌-◌, IfOk, drop, map, false};
+ghost use Rattle.lt_face.specs.Limits.{most_columns, most_programs};
 ghost use Rattle.lt_reading.specs.Reading.{next_is, led, past_comma, given, many, at_once, maybe};
 ghost use Rattle.lt_model.specs.Grammar.{comma};
 ghost use Rattle.lt_grammar.specs.Tokens.{same_shape, at_word};
@@ -12,6 +13,7 @@ ghost use Rattle.lt_script.specs.Parsed.{Parses, Refuses, further};
 use crate::cursor::Cursor;
 use crate::refusal::{Cause, Refusal};
 use crate::tree::{Item, Program};
+use lt_face::limits::{MOST_COLUMNS, MOST_PROGRAMS};
 use lt_model::kind::Kind;
 use std::alloc::Global;
 
@@ -49,13 +51,13 @@ impl<'a> Cursor<'a> {
 
     // The kinds after the first.
     fn further_kinds(&mut self, alloc: Global, first: Kind) -> Result<Vec<Kind>, Refusal>
-        ensures read { Parses (λ v. drop 1 v.items) result self.old self.new (further begins_kind kind_at 7) }
+        ensures read { Parses (λ v. drop 1 v.items) result self.old self.new (further begins_kind kind_at (most_columns - 1)) }
         ensures first { IfOk result (λ v. v.items ≡ first ∷ drop 1 v.items) }
     {
         let mut kinds = Vec::new(alloc);
         kinds.push(first)?;
         'kinds: while self.sign_stands(b",") {
-            if kinds.len() == 8 {
+            if kinds.len() == MOST_COLUMNS {
                 return Err(self.too_many_kinds());
             }
             let kind = self.next_kind()?;
@@ -78,11 +80,11 @@ impl<'a> Cursor<'a> {
 
     // The programs of a batch, at most two hundred and fifty-six.
     fn programs(&mut self, alloc: Global) -> Result<Vec<Program<'a>>, Refusal>
-        ensures { Parses (λ v. map program_of v.items) result self.old self.new (many is_program program_at at_once 256) }
+        ensures { Parses (λ v. map program_of v.items) result self.old self.new (many is_program program_at at_once most_programs) }
     {
         let mut programs = Vec::new(alloc);
         'programs: while self.word_stands(b"program") {
-            if programs.len() == 256 {
+            if programs.len() == MOST_PROGRAMS {
                 return Err(Refusal::Fault(Cause::TooMany));
             }
             let program = self.program(alloc)?;

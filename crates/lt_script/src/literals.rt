@@ -1,6 +1,7 @@
 //! The parts of a body.
 ghost use mathlib.Core.Logic.{inl};
-ghost use Rattle.std.specs.Prelude.{◌≡◌, ◌∷◌, IfOk, drop, map};
+ghost use Rattle.std.specs.Prelude.{◌≡◌, ◌∷◌, ◌-◌, IfOk, drop, map};
+ghost use Rattle.lt_face.specs.Limits.{most_literals};
 ghost use Rattle.lt_reading.specs.Reading.{led, given};
 ghost use Rattle.lt_model.specs.Grammar.{comma};
 ghost use Rattle.lt_grammar.specs.Tokens.{same_shape};
@@ -12,6 +13,7 @@ use crate::cursor::Cursor;
 use crate::label::Label;
 use crate::refusal::Refusal;
 use crate::tree::{Head, Literal, Term};
+use lt_face::limits::MOST_LITERALS;
 use lt_model::syntax::Op;
 use std::alloc::Global;
 
@@ -92,13 +94,13 @@ impl<'a> Cursor<'a> {
         alloc: Global,
         first: Literal<'a>,
     ) -> Result<Vec<Literal<'a>>, Refusal>
-        ensures read { Parses (λ v. map literal_of (drop 1 v.items)) result self.old self.new (further begins_term literal_at 15) }
+        ensures read { Parses (λ v. map literal_of (drop 1 v.items)) result self.old self.new (further begins_term literal_at (most_literals - 1)) }
         ensures first { IfOk result (λ v. v.items ≡ first.entry ∷ drop 1 v.items) }
     {
         let mut literals = Vec::new(alloc);
         literals.push(first)?;
         'literals: while self.sign_stands(b",") {
-            if literals.len() == 16 {
+            if literals.len() == MOST_LITERALS {
                 return Err(self.too_many_terms());
             }
             let literal = self.next_literal(alloc)?;

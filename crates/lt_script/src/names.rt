@@ -8,6 +8,7 @@ ghost use Rattle.lt_script.specs.Tree.{term_of, literal_of, statement_of};
 
 use crate::among::contains;
 use crate::tree::{Literal, Statement, Term};
+use lt_face::limits::MOST_VARIABLES;
 use std::alloc::{AllocError, Global};
 
 fn push_term<'a>(names: &mut Vec<&'a [u8]>, term: Term<'a>) -> Result<(), AllocError>
@@ -179,10 +180,10 @@ fn room_behind_statement(room: usize, statement: &Statement) -> Option<usize>
 pub fn has_few_names(alloc: Global, statement: &Statement) -> Result<bool, AllocError>
     ensures { IfOk result (λ b. b ≡ few_names (statement_of statement.now)) }
 {
-    if room_behind_statement(16, statement).is_some() {
+    if room_behind_statement(MOST_VARIABLES, statement).is_some() {
         return Ok(true);
     }
     let mut names = Vec::new(alloc);
     push_statement(&mut names, statement)?;
-    Ok(without_repeats(alloc, &names)?.len() <= 16)
+    Ok(without_repeats(alloc, &names)?.len() <= MOST_VARIABLES)
 }

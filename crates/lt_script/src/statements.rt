@@ -1,5 +1,6 @@
 //! Statements up to the semicolon, where their variables are counted.
 ghost use Rattle.std.specs.Prelude.{◌≡◌, map};
+ghost use Rattle.lt_face.specs.Limits.{most_statements};
 ghost use Rattle.lt_reading.specs.Reading.{next_is, given, both, close as closing, many, at_once};
 ghost use Rattle.lt_model.specs.Grammar.{semicolon};
 ghost use Rattle.lt_grammar.specs.Tokens.{same_shape};
@@ -14,6 +15,7 @@ use crate::names::has_few_names;
 use crate::one_token::not_allowed;
 use crate::refusal::{Cause, Refusal};
 use crate::tree::{Head, Literal, Statement};
+use lt_face::limits::MOST_STATEMENTS;
 use std::alloc::Global;
 
 impl<'a> Cursor<'a> {
@@ -138,11 +140,11 @@ impl<'a> Cursor<'a> {
 
     /// The statements of a program, at most sixty-four.
     pub fn statements(&mut self, alloc: Global) -> Result<Vec<Statement<'a>>, Refusal>
-        ensures { Parses (λ v. map statement_of v.items) result self.old self.new (many begins_statement statement_at at_once 64) }
+        ensures { Parses (λ v. map statement_of v.items) result self.old self.new (many begins_statement statement_at at_once most_statements) }
     {
         let mut statements = Vec::new(alloc);
         'statements: while self.starts_statement() {
-            if statements.len() == 64 {
+            if statements.len() == MOST_STATEMENTS {
                 return Err(Refusal::Fault(Cause::TooMany));
             }
             let statement = self.statement(alloc)?;

@@ -1,5 +1,6 @@
 //! Terms, and relations with their arguments.
-ghost use Rattle.std.specs.Prelude.{◌≡◌, ◌∷◌, IfOk, drop, map};
+ghost use Rattle.std.specs.Prelude.{◌≡◌, ◌∷◌, ◌-◌, IfOk, drop, map};
+ghost use Rattle.lt_face.specs.Limits.{most_columns};
 ghost use Rattle.lt_reading.specs.Reading.{next_is, given, led, past_comma};
 ghost use Rattle.lt_model.specs.Grammar.{comma};
 ghost use Rattle.lt_grammar.specs.Tokens.{same_shape};
@@ -14,6 +15,7 @@ use crate::one_token::is_reserved;
 use crate::refusal::{Cause, Refusal};
 use crate::token::Lexeme;
 use crate::tree::{Head, Term, Terms};
+use lt_face::limits::MOST_COLUMNS;
 use std::alloc::Global;
 
 impl<'a> Cursor<'a> {
@@ -91,13 +93,13 @@ impl<'a> Cursor<'a> {
 
     // The terms after the first.
     fn further_terms(&mut self, alloc: Global, first: Term<'a>) -> Result<Terms<'a>, Refusal>
-        ensures read { Parses (λ v. map term_of (drop 1 v.items)) result self.old self.new (further begins_term term_at 7) }
+        ensures read { Parses (λ v. map term_of (drop 1 v.items)) result self.old self.new (further begins_term term_at (most_columns - 1)) }
         ensures first { IfOk result (λ v. v.items ≡ first.entry ∷ drop 1 v.items) }
     {
         let mut terms = Terms::new(alloc);
         terms.push(first)?;
         'terms: while self.sign_stands(b",") {
-            if terms.len() == 8 {
+            if terms.len() == MOST_COLUMNS {
                 return Err(self.too_many_terms());
             }
             let term = self.next_term()?;

@@ -4,6 +4,7 @@ use Rattle.std.specs.List.{AllByRecursion, list_any}
 use Rattle.std.specs.Ordering.{nat_cmp, is_eq, is_gt, then_cmp}
 use Rattle.std.specs.declared.cmp.Ordering.{Ordering}
 use Rattle.std.specs.declared.cmp.Ordering.TheVariants.{Less, Equal}
+use Rattle.lt_face.specs.Limits.{most_columns}
 use Rattle.lt_face.specs.Rows.{row_cmp}
 use Rattle.lt_face.specs.State.{Row}
 use Rattle.lt_sense.specs.declared.covering.KeptGap.{KeptGap}
@@ -64,7 +65,7 @@ orders_of relation (gap ∷ gaps) = (if gap.relation == relation && not (list_an
 
 -- no order has more columns than a row has cells
 abbrev pub AreNarrow : List KeptGap → Type 0
-AreNarrow gaps = AllByRecursion (λ (gap : KeptGap). length gap.columns ≤ 8) gaps
+AreNarrow gaps = AllByRecursion (λ (gap : KeptGap). length gap.columns ≤ most_columns) gaps
 
 -- they cover the same rows
 abbrev pub CoverAlike : {X : Type 0} → (X → ℕ → Row → Bool) → List X → List X → Type 0

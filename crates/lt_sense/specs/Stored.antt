@@ -1,6 +1,7 @@
 -- How a sense is kept: the cells of prefixes and rows stand in one list, and gaps under one prefix share it.
 use Rattle.std.specs.Prelude.{◌≡◌, ◌<◌, ◌≤◌, ◌+◌, ◌++◌, ℕ, List, [], length, map, slice_get, Option, Some, None}
 use Rattle.std.specs.List.{AllByRecursion, slice_range}
+use Rattle.lt_face.specs.Limits.{most_columns}
 use Rattle.lt_face.specs.State.{Row}
 use Rattle.lt_sense.specs.declared.covering.KeptGap.{KeptGap}
 use Rattle.lt_sense.specs.declared.covering.Hit.{Hit}
@@ -42,7 +43,7 @@ sense_of s = record { gaps = map (gap_of s.families.items s.runs.items s.cells.i
 
 -- the piece lies among the cells, and is no wider than a row
 abbrev pub IsPiece : List ℕ → Piece → Type 0
-IsPiece cells piece = (piece.start + piece.width ≤ length cells) × (piece.width ≤ 8)
+IsPiece cells piece = (piece.start + piece.width ≤ length cells) × (piece.width ≤ most_columns)
 
 abbrev pub IsRunAmong : List Family → List ℕ → Run → Type 0
 IsRunAmong families cells run = (run.family < length families) × IsPiece cells run.prefix

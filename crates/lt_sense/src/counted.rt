@@ -1,6 +1,7 @@
 //! A row looked up among gaps and hits in order, by binary searches. A step compares the row with one of them.
 ghost use Rattle.std.specs.Prelude.{◌≡◌, ◌<◌, ◌≤◌, ◌+◌, ◌*◌, ◌^◌, ◌==◌, if◌then◌else◌, ℕ, true, false, length, IfSome, IfNone};
 ghost use Rattle.std.specs.List.{list_any};
+ghost use Rattle.lt_face.specs.Limits.{most_columns};
 ghost use Rattle.lt_face.specs.State.{permuted};
 ghost use Rattle.lt_sense.specs.Sense.{gap_covers, hit_covers};
 ghost use Rattle.lt_sense.specs.Stored.{stored_gap, IsSound};
@@ -8,6 +9,7 @@ ghost use Rattle.lt_sense.specs.Ordered.{IsGapBefore, IsHitBefore, AreInOrder, A
 
 use crate::covering::cells_in;
 use crate::store::{Passed, Store};
+use lt_face::limits::MOST_COLUMNS;
 use lt_face::moves::Moves;
 use lt_face::row::Row;
 use std::alloc::Global;
@@ -83,10 +85,10 @@ impl Store {
         requires ordered { AreInOrder IsGapBefore (gaps_in self.now self.now.gaps.items) }
         ensures none { IfNone result (IsFamilyUncovered (gaps_in self.now self.now.gaps.items) (stored_gap self.now head) relation row.now) }
         ensures some { IfSome result (IsCoverIn self.now relation row.now) }
-        ensures steps { length (stored_gap self.now head).columns ≤ 8 → (d : ℕ) → length self.now.gaps.items < 2 ^ d → steps.new ≤ steps.old + 8 * d }
+        ensures steps { length (stored_gap self.now head).columns ≤ most_columns → (d : ℕ) → length self.now.gaps.items < 2 ^ d → steps.new ≤ steps.old + most_columns * d }
     {
         let columns = self.columns_of(head);
-        if columns.len() > 8 {
+        if columns.len() > MOST_COLUMNS {
             return self.gap_with(relation, row);
         }
         let cells = cells_in(*self.cells.allocator(), columns, row);
@@ -114,7 +116,7 @@ impl Store {
         requires ordered { AreInOrder IsGapBefore (gaps_in self.now self.now.gaps.items) }
         ensures none { IfNone result (IsFamilyUncovered (gaps_in self.now self.now.gaps.items) (stored_gap self.now head) relation row.now) }
         ensures some { IfSome result (IsCoverIn self.now relation row.now) }
-        ensures steps { length (stored_gap self.now head).columns ≤ 8 → (d : ℕ) → length self.now.gaps.items < 2 ^ d → steps.new ≤ steps.old + (if (stored_gap self.now head).relation == relation then 8 * d else 0) }
+        ensures steps { length (stored_gap self.now head).columns ≤ most_columns → (d : ℕ) → length self.now.gaps.items < 2 ^ d → steps.new ≤ steps.old + (if (stored_gap self.now head).relation == relation then most_columns * d else 0) }
     {
         if self.relation_of(head) != relation {
             return None;
@@ -155,7 +157,7 @@ impl Store {
         requires ordered { AreInOrder IsGapBefore (gaps_in self.now self.now.gaps.items) }
         ensures none { IfNone result (list_any (λ gap. gap_covers gap relation row.now) (gaps_in self.now self.now.gaps.items) ≡ false) }
         ensures some { IfSome result (IsCoverIn self.now relation row.now) }
-        ensures steps { AreNarrow (gaps_in self.now self.now.gaps.items) → (d : ℕ) → length self.now.gaps.items < 2 ^ d → steps.new ≤ steps.old + 8 * d * orders_of relation (gaps_in self.now self.now.gaps.items) }
+        ensures steps { AreNarrow (gaps_in self.now self.now.gaps.items) → (d : ℕ) → length self.now.gaps.items < 2 ^ d → steps.new ≤ steps.old + most_columns * d * orders_of relation (gaps_in self.now self.now.gaps.items) }
     {
         let mut at = 0;
         'families: while at < self.gaps.len() {

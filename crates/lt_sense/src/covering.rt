@@ -1,5 +1,6 @@
 //! The two kinds of thing that cover rows: gaps and hits.
 ghost use Rattle.std.specs.Prelude.{◌≡◌, ◌≤◌, length, slice_index};
+ghost use Rattle.lt_face.specs.Limits.{most_columns};
 ghost use Rattle.lt_face.specs.State.{permuted};
 ghost use Rattle.lt_sense.specs.Sense.{lies_in as lies_within, gap_covers};
 
@@ -56,7 +57,7 @@ fn cell_at(row: &Row, column: u32) -> Key
 
 /// The row's cells in an order of columns.
 pub(crate) fn cells_in(alloc: Global, columns: &[u32], row: &Row) -> Row
-    requires { length columns.now ≤ 8 }
+    requires { length columns.now ≤ most_columns }
     ensures { result ≡ permuted columns.now row.now }
 {
     let mut cells = Row::from_cells(alloc, &[]);

@@ -1,6 +1,7 @@
 //! The sense of an evaluation.
 ghost use Rattle.std.specs.Prelude.{◌≡◌, ℕ, ◌<◌, ◌≤◌, ◌+◌, ◌*◌, ◌^◌, ◌∷◌, ◌++◌, [], length, IfOk, OnOk, OnErr, IfSome, IfNone, is_some, true};
 ghost use Rattle.std.specs.List.{list_any};
+ghost use Rattle.lt_face.specs.Limits.{most_columns};
 
 use crate::covering::{Hit, KeptGap};
 use crate::spot::Spot;
@@ -188,7 +189,7 @@ impl Sense {
         requires { IsSealed self.now }
         ensures covered { is_some result ≡ covers self.now relation row.now }
         ensures spot { IfSome result (IsSpotOf self.now relation row.now) }
-        ensures steps { AreNarrow self.now.gaps → (d : ℕ) → length self.now.gaps + length self.now.hits < 2 ^ d → steps.new ≤ steps.old + (8 * orders_of relation self.now.gaps + 1) * d }
+        ensures steps { AreNarrow self.now.gaps → (d : ℕ) → length self.now.gaps + length self.now.hits < 2 ^ d → steps.new ≤ steps.old + (most_columns * orders_of relation self.now.gaps + 1) * d }
     {
         match self.store.sealed_gap_with(relation, row, steps) {
             Some(gap) => {
@@ -212,7 +213,7 @@ impl Sense {
     pub fn covers_counted<L>(&self, relation: u32, row: &Row, steps: &mut Moves<L>) -> bool
         requires { IsSealed self.now }
         ensures value { result ≡ covers self.now relation row.now }
-        ensures steps { AreNarrow self.now.gaps → (d : ℕ) → length self.now.gaps + length self.now.hits < 2 ^ d → steps.new ≤ steps.old + (8 * orders_of relation self.now.gaps + 1) * d }
+        ensures steps { AreNarrow self.now.gaps → (d : ℕ) → length self.now.gaps + length self.now.hits < 2 ^ d → steps.new ≤ steps.old + (most_columns * orders_of relation self.now.gaps + 1) * d }
     {
         self.spot_counted(relation, row, steps).is_some()
     }

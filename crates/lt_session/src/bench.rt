@@ -1,6 +1,7 @@
 //! The generated script, run by the same engine, and what comes of it.
 ghost use Rattle.std.specs.Prelude.{◌≡◌, ◌≤◌, ◌++◌, List, length, map, false, IfOk, OnOk};
 ghost use Rattle.std.specs.List.{AllByRecursion};
+ghost use Rattle.lt_face.specs.Limits.{most_programs, most_workers};
 ghost use Rattle.lt_model.specs.Limits.{IsWithinLimits};
 ghost use Rattle.lt_model.specs.Report.{World as ModelWorld, step};
 ghost use Rattle.lt_gen.specs.Answered.{Answer, answers_to};
@@ -59,10 +60,10 @@ fn count_item<R: Threads + Wait + Sync, G: Gate>(
     workers: u32,
     gate: &G,
 ) -> Result<(), NoMemory>
-    requires workers { (1 ≤ workers) × (workers ≤ 16) }
+    requires workers { (1 ≤ workers) × (workers ≤ most_workers) }
     requires world { IsWorld world.old }
     requires within { IsWithinLimits item }
-    requires room { HasRoomFor summary.old 256 }
+    requires room { HasRoomFor summary.old most_programs }
     ensures world { OnOk result ((m : ModelWorld) → ShowsNow world.old m → ShowsNow world.new (step false m item)) }
     ensures counts { OnOk result ((m : ModelWorld) (answers : List Answer) → ShowsNow world.old m → Counts summary.old answers → Counts summary.new (answers ++ answers_to m item)) }
     ensures programs { OnOk result (summary.new.programs ≡ summary.old.programs) }
@@ -106,7 +107,7 @@ pub fn summarize<R: Threads + Wait + Sync, G: Gate>(
 ) -> Result<Summary, NoMemory>
     requires items { (1 ≤ generated.items) × (generated.items ≤ 16384) }
     requires programs { (1 ≤ generated.programs) × (generated.programs ≤ 65536) }
-    requires workers { (1 ≤ workers) × (workers ≤ 16) }
+    requires workers { (1 ≤ workers) × (workers ≤ most_workers) }
     ensures { IfOk result (λ summary. summary ≡ summary_of generated.seed generated.items generated.programs) }
 {
     let Generated {

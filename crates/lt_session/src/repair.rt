@@ -1,6 +1,7 @@
 //! The call that runs a command.
 ghost use Rattle.std.specs.Prelude.{◌≡◌, ◌≤◌, IsTrue, IfSome, IsSome, map, string_bytes, length, false, ◌⊎◌};
 ghost use Rattle.std.specs.Io.KnownBytes.{Appends, Keeps};
+ghost use Rattle.lt_face.specs.Limits.{most_workers};
 ghost use Rattle.lt_edges.specs.Causes.{Rose};
 ghost use Rattle.lt_model.specs.Report.{usage_text};
 ghost use Rattle.lt_command.specs.Command.{command, is_taken};
@@ -54,7 +55,7 @@ fn run_script<R: Threads + Wait + Sync, S: Source, K: Sink, G: Gate>(
     options: Options,
     gate: &G,
 ) -> Status
-    requires workers { (1 ≤ options.workers) × (options.workers ≤ 16) }
+    requires workers { (1 ≤ options.workers) × (options.workers ≤ most_workers) }
     ensures { EndsAs options.marks result (S.left source.old) (S.left source.new) (S.faults source.old) (S.faults source.new)
         (K.holds sink.old) (K.holds sink.new) (K.faults sink.old) (K.faults sink.new) }
 {
@@ -95,7 +96,7 @@ fn run_bench<R: Threads + Wait + Sync, K: Sink, G: Gate>(
 ) -> Status
     requires items { (1 ≤ generated.items) × (generated.items ≤ 16384) }
     requires programs { (1 ≤ generated.programs) × (generated.programs ≤ 65536) }
-    requires workers { (1 ≤ workers) × (workers ≤ 16) }
+    requires workers { (1 ≤ workers) × (workers ≤ most_workers) }
     ensures { BenchEndsAs (bench_text generated.seed generated.items generated.programs) result (K.holds sink.old) (K.holds sink.new) (K.faults sink.old) (K.faults sink.new) }
 {
     let Ok(summary) = summarize(rt, alloc, generated, workers, gate) else {

@@ -1,5 +1,6 @@
 //! Scripts and their reports.
 ghost use Rattle.std.specs.Prelude.{◌≤◌, IfOk, IsErrOf, OnErr};
+ghost use Rattle.lt_face.specs.Limits.{most_workers};
 ghost use Rattle.lt_edges.specs.Causes.{Rose};
 ghost use Rattle.lt_session.specs.declared.halt.Halt.TheVariants as halts;
 ghost use Rattle.lt_session.specs.Reports.{IsFrontOf, IsReportOf};
@@ -23,7 +24,7 @@ pub fn write_report<R: Threads + Wait + Sync, K: Sink, G: Gate>(
     options: Options,
     gate: &G,
 ) -> Result<bool, Halt>
-    requires workers { (1 ≤ options.workers) × (options.workers ≤ 16) }
+    requires workers { (1 ≤ options.workers) × (options.workers ≤ most_workers) }
     ensures ok { IfOk result (λ faulty. IsReportOf options.marks bytes.now faulty (K.holds sink.old) (K.holds sink.new)) }
     ensures err { OnErr result (IsFrontOf options.marks bytes.now (K.holds sink.old) (K.holds sink.new)) }
     ensures later { K.faults sink.old ≤ K.faults sink.new }

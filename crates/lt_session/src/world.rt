@@ -2,6 +2,7 @@
 ghost use Rattle.std.specs.Prelude.{◌≡◌, ◌≤◌, ◌++◌, ◌∷◌, [], length, false, Bool, IfOk, OnOk, OnErr};
 ghost use Rattle.std.specs.List.{AllByRecursion};
 ghost use Rattle.std.specs.Option.{option_copied, option_map_or};
+ghost use Rattle.lt_face.specs.Limits.{most_programs, most_workers};
 ghost use Rattle.lt_model.specs.declared.syntax.Item.TheVariants as items;
 ghost use Rattle.lt_model.specs.Limits.{IsWithinLimits, IsProgramWithin};
 ghost use Rattle.lt_model.specs.Report.{bad_text, opening};
@@ -161,10 +162,10 @@ impl World {
         workers: u32,
         gate: &G,
     ) -> Result<Ran, NoMemory>
-        requires workers { (1 ≤ workers) × (workers ≤ 16) }
+        requires workers { (1 ≤ workers) × (workers ≤ most_workers) }
         requires world { IsWorld self.old }
         requires within { AllByRecursion IsProgramWithin programs.now }
-        requires few { length programs.now ≤ 256 }
+        requires few { length programs.now ≤ most_programs }
         ensures ran { IfOk result (λ ran. IsRun self.old programs.now ran) }
         ensures world { OnOk result (Takes self.old (items.Batch programs.now) self.new) }
         ensures schema { OnOk result (self.new.schema ≡ self.old.schema) }
@@ -200,10 +201,10 @@ impl World {
         options: Options,
         gate: &G,
     ) -> Result<(), Halt>
-        requires workers { (1 ≤ options.workers) × (options.workers ≤ 16) }
+        requires workers { (1 ≤ options.workers) × (options.workers ≤ most_workers) }
         requires world { IsWorld self.old }
         requires within { AllByRecursion IsProgramWithin programs.now }
-        requires few { length programs.now ≤ 256 }
+        requires few { length programs.now ≤ most_programs }
         ensures world { OnOk result (Takes self.old (items.Batch programs.now) self.new) }
         ensures text { (m : model.World) → Shows self.old m → Writes result (K.holds sink.old) (K.holds sink.new) (K.faults sink.old) (K.faults sink.new) (said options.marks m (items.Batch programs.now)) }
     {
@@ -222,7 +223,7 @@ impl World {
         options: Options,
         gate: &G,
     ) -> Result<(), Halt>
-        requires workers { (1 ≤ options.workers) × (options.workers ≤ 16) }
+        requires workers { (1 ≤ options.workers) × (options.workers ≤ most_workers) }
         requires world { IsWorld self.old }
         requires within { IsWithinLimits item }
         ensures world { OnOk result (Takes self.old item self.new) }

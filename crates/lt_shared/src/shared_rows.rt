@@ -1,5 +1,6 @@
 //! `SharedRows`, and what it does as a set of rows.
 ghost use Rattle.std.specs.Prelude.{◌≡◌, ◌≤◌, ◌+◌, ◌/◌, length, not, IfOk, OnOk, OnErr};
+ghost use Rattle.lt_face.specs.Limits.{most_columns};
 ghost use Rattle.lt_face.specs.Rows.{IsAscending, IsRow, IsRowSet, has_row, with_row, without_row};
 ghost use Rattle.lt_shared.specs.Laid.{laid};
 ghost use Rattle.lt_shared.specs.Shared.{root_rows, IsGrown};
@@ -26,6 +27,7 @@ pub struct SharedRows {
 impl Model for SharedRows {
     ghost use Rattle.std.specs.Prelude.{◌≡◌, ◌≤◌, length};
     ghost use Rattle.std.specs.Arc.{arc_value};
+    ghost use Rattle.lt_face.specs.Limits.{most_columns};
     ghost use Rattle.lt_face.specs.Rows.{IsRowSet};
     ghost use Rattle.lt_shared.specs.Shared.{SharedView, root_rows};
 
@@ -33,7 +35,7 @@ impl Model for SharedRows {
 
     ghost view = { λ s. record { width = s.width; nodes = (arc_value s.nodes).items } };
 
-    ghost invariant = { λ s. (s.width ≤ 8) × IsRowSet s.width (root_rows (arc_value s.nodes).items) × (s.count ≡ length (root_rows (arc_value s.nodes).items)) };
+    ghost invariant = { λ s. (s.width ≤ most_columns) × IsRowSet s.width (root_rows (arc_value s.nodes).items) × (s.count ≡ length (root_rows (arc_value s.nodes).items)) };
 }
 
 /// A count with so many more, and then so many less.
@@ -152,7 +154,7 @@ impl RowSet for SharedRows {
 
     /// The set of these rows. Its pages are full, and its nodes too, but for the last.
     fn from_sorted(width: usize, rows: RowList) -> Result<SharedRows, NoMemory>
-        requires narrow { width ≤ 8 }
+        requires narrow { width ≤ most_columns }
         requires sorted { IsRowSet width rows }
         ensures rows { IfOk result (λ set. root_rows set.nodes ≡ rows) }
         ensures width { IfOk result (λ set. set.width ≡ width) }

@@ -88,7 +88,7 @@ fn write_statement(text: &mut String, statement: &Statement) -> Result<(), Fail>
             write_head(text, come)?;
             write_body(text, body)?;
         }
-        Statement::Need { some, body } => {
+        Statement::Require { some, body } => {
             write!(text, "need {some}")?;
             write_body(text, body)?;
         }

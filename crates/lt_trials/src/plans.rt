@@ -197,7 +197,7 @@ fn program(alloc: Global) -> Result<Prog, NoMemory>
         body: at_three,
     })?;
     let body = triangle(alloc)?;
-    prog.push(Stmt::Need { some: true, body })?;
+    prog.push(Stmt::Require { some: true, body })?;
     let again = pair(alloc, &[equal(Y, Term::Cell(3))])?;
     let head = atom(alloc, 1, &[X])?;
     prog.push(Stmt::Delete { head, body: again })?;

@@ -1,6 +1,7 @@
 //! `TrieIter`: the trie iterator of Veldhuizen, Leapfrog Triejoin (ICDT 2014), over a sorted set of rows.
 ghost use Rattle.std.specs.Prelude.{◌≡◌, ◌≢◌, ◌<◌, ◌≤◌, ◌+◌, ◌↔◌, [], ◌∷◌, ◌++◌, length, IsTrue};
 ghost use Rattle.lt_face.specs.Keys.{end_key, least_from};
+ghost use Rattle.lt_face.specs.Limits.{most_columns};
 ghost use Rattle.lt_face.specs.Rows.{IsRowSet};
 ghost use Rattle.lt_trie.specs.Under.{keys_under};
 ghost use Rattle.lt_trie.specs.Trie.{keys_of};
@@ -64,7 +65,7 @@ impl<'a, R: RowReads> TrieIter<'a, R> {
         ensures prefix { result.prefix ≡ [] }
         ensures here { result.here ≡ end_key }
         ensures is_set { IsRowSet result.width result.rows }
-        ensures narrow { result.width ≤ 8 }
+        ensures narrow { result.width ≤ most_columns }
     {
         let _ = rows.width();
         TrieIter {

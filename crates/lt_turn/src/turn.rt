@@ -1,5 +1,6 @@
 //! The turn and its seats.
 ghost use Rattle.std.specs.Prelude.{◌≡◌, ◌<◌, ◌≤◌, [], ◌∷◌, Some, None};
+ghost use Rattle.lt_face.specs.Limits.{most_workers};
 
 use crate::origin::Origin;
 use crate::plays::Turns;
@@ -31,7 +32,7 @@ pub struct Seat<T: Story> {
     ghost first_is: { token.me.0.first ≡ first },
     ghost end_is: { token.me.0.end ≡ end },
     ghost some_number: { first < end },
-    ghost few: { end ≤ 16 },
+    ghost few: { end ≤ most_workers },
     ghost calm: { token.me.0.met ≡ None },
     ghost slot: { (token.me.0.taken ≡ None → token.me.1 ≡ []) × ((log : _) → token.me.0.taken ≡ Some log → token.me.1 ≡ (0, None) ∷ []) },
 }

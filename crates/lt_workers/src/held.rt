@@ -1,5 +1,6 @@
 //! The circuit that is handed on, and its one event in a turn.
 ghost use Rattle.std.specs.Prelude.{◌≡◌, ◌≢◌, ℕ, ◌<◌, ◌^◌, [], ◌∷◌, ◌++◌, Some, None, length};
+ghost use Rattle.lt_face.specs.Limits.{most_workers};
 ghost use Rattle.lt_net.specs.Net.{abandoned, finished};
 ghost use Rattle.lt_net.specs.Tree.{circuit_net, tree_of};
 ghost use Rattle.lt_circuit.specs.Circuit.{state, IsReplay};
@@ -40,7 +41,7 @@ impl<W: LeafWork> Story for Held<W> {
 impl<W: LeafWork> Held<W> {
     /// The worker asks for a job.
     pub(crate) fn claim(&mut self, worker: u32) -> Claim<W>
-        requires worker { worker < 16 }
+        requires worker { worker < most_workers }
         requires free { (state self.old.circuit).claim worker ≡ None }
         ensures before { IsReplay (W.does self.old.circuit.work) self.old.circuit.board self.old.circuit.journal }
         ensures after { IsReplay (W.does self.new.circuit.work) self.new.circuit.board self.new.circuit.journal }
@@ -58,7 +59,7 @@ impl<W: LeafWork> Held<W> {
 
     /// The worker's job is done. What it answers may be dropped later.
     pub(crate) fn finish(&mut self, worker: u32, output: Output<W>) -> Spent<W>
-        requires worker { worker < 16 }
+        requires worker { worker < most_workers }
         requires work { output.work ≡ self.old.circuit.work }
         requires claim { (state self.old.circuit).claim worker ≡ Some (claim_of_output output) }
         ensures before { IsReplay (W.does self.old.circuit.work) self.old.circuit.board self.old.circuit.journal }
@@ -79,7 +80,7 @@ impl<W: LeafWork> Held<W> {
 
     /// The worker gives its job up.
     pub(crate) fn abandon(&mut self, worker: u32, job: Job<W>)
-        requires worker { worker < 16 }
+        requires worker { worker < most_workers }
         requires work { job.work ≡ self.old.circuit.work }
         requires claim { (state self.old.circuit).claim worker ≡ Some (claim_of_job job) }
         ensures before { IsReplay (W.does self.old.circuit.work) self.old.circuit.board self.old.circuit.journal }

@@ -1,5 +1,6 @@
 //! A circuit settled by several workers.
 ghost use Rattle.std.specs.Prelude.{◌≡◌, ◌≤◌, IfOk};
+ghost use Rattle.lt_face.specs.Limits.{most_workers};
 ghost use Rattle.lt_net.specs.Alone.{IsUnclaimed};
 ghost use Rattle.lt_circuit.specs.Circuit.{state};
 ghost use Rattle.lt_net.specs.Net.{IsSettled};
@@ -37,7 +38,7 @@ pub fn settle<R: Threads + Wait + Sync, W: LeafWork + Send + Sync, G: Gate>(
 ) -> Result<Circuit<W>, NoMemory>
 where
     W::Tally: Send + Sync,
-    requires workers { (1 ≤ workers) × (workers ≤ 16) }
+    requires workers { (1 ≤ workers) × (workers ≤ most_workers) }
     requires free { IsUnclaimed (state circuit) }
     ensures work { IfOk result (λ done. done.work ≡ circuit.work) }
     ensures leaves { IfOk result (λ done. done.board.leaves ≡ circuit.board.leaves) }

@@ -1,5 +1,6 @@
 //! A circuit that workers hand on from turn to turn.
 ghost use Rattle.std.specs.Prelude.{◌≡◌, ℕ, ◌<◌, ◌≤◌, ◌^◌, length, Option, Some, None, IfOk};
+ghost use Rattle.lt_face.specs.Limits.{most_workers};
 ghost use Rattle.lt_net.specs.Alone.{IsUnclaimed};
 ghost use Rattle.lt_circuit.specs.Circuit.{state, IsReplay};
 ghost use Rattle.lt_circuit.specs.Job.{claim_of_job, claim_of_output};
@@ -31,7 +32,7 @@ impl<W: LeafWork> Shared<W> {
         circuit: Circuit<W>,
         workers: u32,
     ) -> Result<(Shared<W>, Seat<Held<W>>), NoMemory>
-        requires workers { (1 ≤ workers) × (workers ≤ 16) }
+        requires workers { (1 ≤ workers) × (workers ≤ most_workers) }
         requires free { IsUnclaimed (state circuit) }
         ensures turn { IfOk result (λ r. IsSeatOf r.0 r.1) }
         ensures view { IfOk result (λ r. view r.1 ≡ opening_view (basis_of circuit) (pairs_of circuit) workers) }

@@ -5,6 +5,7 @@
 #![tactic(auto)]
 
 ghost use Rattle.std.specs.Prelude.{◌≡◌, ◌≢◌, ℕ, true, false, ◌<◌, ◌^◌, None, IfSome};
+ghost use Rattle.lt_face.specs.Limits.{most_programs};
 ghost use Rattle.lt_net.specs.declared.job.JobState.TheVariants.{Pending};
 ghost use Rattle.lt_net.specs.declared.job.JobName.TheVariants.{Leaf};
 ghost use Rattle.lt_net.specs.Codes.{code_of};
@@ -25,7 +26,7 @@ impl Board {
     // The lowest leaf that is Pending and never ran, among those that weren't met before.
     fn fresh_leaf(&self) -> Option<u32>
         ensures some { IfSome result (λ leaf. (state_of self.now).status (code_of (Leaf leaf)) ≡ Pending) }
-        ensures small { IfSome result (λ leaf. leaf < 256) }
+        ensures small { IfSome result (λ leaf. leaf < most_programs) }
     {
         for leaf in self.next_fresh..self.leaves {
             if self.is_fresh(leaf) {
@@ -39,7 +40,7 @@ impl Board {
     fn next_fresh_leaf(&mut self) -> Option<u32>
         ensures same { self.new ≡ self.old }
         ensures some { IfSome result (λ leaf. (state_of self.old).status (code_of (Leaf leaf)) ≡ Pending) }
-        ensures small { IfSome result (λ leaf. leaf < 256) }
+        ensures small { IfSome result (λ leaf. leaf < most_programs) }
     {
         let found = self.fresh_leaf();
         match found {

@@ -2,6 +2,7 @@
 #![tactic(auto)]
 
 ghost use Rattle.std.specs.Prelude.{◌≡◌, ℕ, ◌+◌, ◌*◌, ◌-◌, ◌<◌, ◌≤◌, ◌≢◌, List, [], ◌∷◌, Some, None, slice_set};
+ghost use Rattle.lt_face.specs.Limits.{most_workers};
 ghost use Rattle.lt_model.specs.declared.mark.Mark.{Mark as MarkType};
 ghost use Rattle.lt_model.specs.Marks.{and_then};
 ghost use Rattle.lt_net.specs.Net.{Claim, Correction, finished};
@@ -20,7 +21,7 @@ use lt_net::JobName;
 impl Board {
     /// The worker's Merge gave its node's effect. It answers what stood.
     pub fn finish_merge(&mut self, worker: u32, node: u32, effect: Marks) -> Stood
-        requires worker { worker < 16 }
+        requires worker { worker < most_workers }
         requires node { node + 2 < 2 * self.old.leaves }
         requires inner { right_in (tree_of self.old.leaves) node ≢ None }
         ensures leaves { self.new.leaves ≡ self.old.leaves }
@@ -41,7 +42,7 @@ impl Board {
 
     /// The worker's leaf gave the effect of its node, on the correction that is kept. It answers what stood.
     pub fn finish_leaf(&mut self, worker: u32, leaf: u32, kept: Marks, effect: Marks) -> Stood
-        requires worker { worker < 16 }
+        requires worker { worker < most_workers }
         requires leaf { leaf < self.old.leaves }
         ensures leaves { self.new.leaves ≡ self.old.leaves }
         ensures claims { self.new.claims ≡ slice_set self.old.claims worker None }
@@ -68,7 +69,7 @@ impl Board {
         to_left: Marks,
         to_right: Marks,
     ) -> Stood
-        requires worker { worker < 16 }
+        requires worker { worker < most_workers }
         requires node { node + 2 < 2 * self.old.leaves }
         requires inner { right_in (tree_of self.old.leaves) node ≢ None }
         requires current { (state_of self.old).status (code_of (Correct node)) ≡ Running → to_left ≡ (state_of self.old).value (Correction node) }

@@ -2,6 +2,7 @@
 #![tactic(auto)]
 
 ghost use Rattle.std.specs.Prelude.{◌≡◌, ℕ, ◌<◌, List, Some, None, slice_set};
+ghost use Rattle.lt_face.specs.Limits.{most_workers};
 ghost use Rattle.lt_model.specs.declared.mark.Mark.{Mark as MarkType};
 ghost use Rattle.lt_net.specs.Net.{Claim, read, claimed, abandoned};
 ghost use Rattle.lt_net.specs.Tree.{circuit_net, tree_of};
@@ -17,7 +18,7 @@ use lt_net::{JobName, JobState};
 impl Board {
     /// The worker holds the job, on inputs that stand now.
     pub fn hold(&mut self, worker: u32, job: JobName, inputs: Inputs, prior: Option<Marks>)
-        requires worker { worker < 16 }
+        requires worker { worker < most_workers }
         requires job { code_of job < codes_over self.old.leaves }
         requires inputs { (effect : ℕ → List MarkType → List MarkType) →
             inputs_list inputs ≡ read (state_of self.old).value ((circuit_net effect (tree_of self.old.leaves)).inputs (code_of job)) }
@@ -34,7 +35,7 @@ impl Board {
 
     /// The worker gives its job up: the job is Pending again. It answers what the worker held.
     pub fn abandon(&mut self, worker: u32, job: JobName) -> Option<Held>
-        requires worker { worker < 16 }
+        requires worker { worker < most_workers }
         requires job { code_of job < codes_over self.old.leaves }
         ensures leaves { self.new.leaves ≡ self.old.leaves }
         ensures claims { self.new.claims ≡ slice_set self.old.claims worker None }

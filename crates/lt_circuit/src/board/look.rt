@@ -2,6 +2,7 @@
 #![tactic(auto)]
 
 ghost use Rattle.std.specs.Prelude.{◌≡◌, true, ◌<◌, ◌≤◌, ◌^◌, IsTrue, ◌↔◌, max};
+ghost use Rattle.lt_face.specs.Limits.{most_workers};
 ghost use Rattle.lt_net.specs.Codes.{code_of, codes_over, nodes_over};
 ghost use Rattle.lt_net.specs.Net.{Effect, Correction};
 ghost use Rattle.lt_circuit.specs.Board.{standing, state_of};
@@ -39,7 +40,7 @@ impl Board {
     /// How many claims stand.
     pub fn in_flight(&self) -> u32
         ensures count { result ≡ standing self.now.claims }
-        ensures few { result ≤ 16 }
+        ensures few { result ≤ most_workers }
     {
         self.holders.count()
     }

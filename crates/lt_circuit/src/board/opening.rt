@@ -1,5 +1,6 @@
 //! The opening of a circuit.
 ghost use Rattle.std.specs.Prelude.{◌≡◌, ◌≤◌, ℕ, List, None, IfOk, max};
+ghost use Rattle.lt_face.specs.Limits.{most_programs};
 ghost use Rattle.lt_model.specs.declared.mark.Mark.{Mark as MarkType};
 ghost use Rattle.lt_net.specs.Net.{opening};
 ghost use Rattle.lt_net.specs.Tree.{circuit_net, tree_of};
@@ -23,7 +24,7 @@ impl Board {
     /// The opening: all corrections and effects are empty, the leaves' jobs are Pending, the others Clean, and no claim
     /// stands.
     pub fn opening(alloc: Global, leaves: u32) -> Result<Board, NoMemory>
-        requires { leaves ≤ 256 }
+        requires { leaves ≤ most_programs }
         ensures leaves { IfOk result (λ board. board.leaves ≡ leaves) }
         ensures free { IfOk result (λ board. standing board.claims ≡ 0) }
         ensures state { IfOk result (λ board. (effect : ℕ → List MarkType → List MarkType) → state_of board ≡ opening (circuit_net effect (tree_of leaves))) }

@@ -2,6 +2,7 @@
 #![tactic(auto)]
 
 ghost use Rattle.std.specs.Prelude.{◌≡◌, ◌≢◌, ℕ, true, false, ◌+◌, ◌*◌, ◌<◌, ◌≤◌, List, Some, None, slice_set, if◌then◌else◌};
+ghost use Rattle.lt_face.specs.Limits.{most_workers};
 ghost use Rattle.lt_model.specs.declared.mark.Mark.{Mark as MarkType};
 ghost use Rattle.lt_net.specs.Net.{Claim, Effect, Correction, update, woken, ended};
 ghost use Rattle.lt_net.specs.Tree.{circuit_net, tree_of, halved_tree};
@@ -140,7 +141,7 @@ impl Board {
 
     /// The job's claim ends, and where an input changed since, the job is to be done again. It answers what the worker held.
     pub(crate) fn close(&mut self, worker: u32, job: JobName) -> Option<Held>
-        requires worker { worker < 16 }
+        requires worker { worker < most_workers }
         requires job { code_of job < codes_over self.old.leaves }
         ensures leaves { self.new.leaves ≡ self.old.leaves }
         ensures claims { self.new.claims ≡ slice_set self.old.claims worker None }

@@ -1,5 +1,6 @@
 //! What a seat tells.
 ghost use Rattle.std.specs.Prelude.{◌≡◌, ◌<◌, ◌≤◌};
+ghost use Rattle.lt_face.specs.Limits.{most_workers};
 ghost use Rattle.lt_turn.specs.Seats.{view};
 
 use super::{Seat, Token};
@@ -20,7 +21,7 @@ impl<T: Story> Seat<T> {
 
     pub fn first(&self) -> u32
         ensures first { result ≡ (view self.now).first }
-        ensures few { result < 16 }
+        ensures few { result < most_workers }
     {
         self.first
     }
@@ -28,7 +29,7 @@ impl<T: Story> Seat<T> {
     pub fn end(&self) -> u32
         ensures end { result ≡ (view self.now).end }
         ensures later { (view self.now).first < result }
-        ensures few { result ≤ 16 }
+        ensures few { result ≤ most_workers }
     {
         self.end
     }

@@ -1,5 +1,6 @@
 //! What is done with a turn.
 ghost use Rattle.std.specs.Prelude.{◌≡◌, ◌<◌, ◌≤◌, ◌^◌, [], ◌∷◌, length, IfOk, IfErr, IfSome, IfNone, Some, None};
+ghost use Rattle.lt_face.specs.Limits.{most_workers};
 ghost use Rattle.lt_turn.specs.Journal.{Extends, GoesOn};
 ghost use Rattle.lt_turn.specs.Rule.{opening_view, holding, settled, below, above, joined};
 ghost use Rattle.lt_turn.specs.Seats.{view, IsSeatOf, IsIdle, MayGive};
@@ -22,7 +23,7 @@ impl<T: Story> Turn<T> {
     pub fn new(alloc: Global, value: T, workers: u32) -> Result<(Turn<T>, Seat<T>), NoMemory>
     where
         T: Drop,
-        requires workers { (0 < workers) × (workers ≤ 16) }
+        requires workers { (0 < workers) × (workers ≤ most_workers) }
         requires short { length (T.journal value) < 2 ^ 62 }
         ensures { IfOk result (λ r. IsSeatOf r.0 r.1 × (view r.1 ≡ opening_view (T.opening value) (T.journal value) workers)) }
     {
