@@ -22,6 +22,6 @@ pub literals-init : goal.literals-init
 literals-init c =
     listing_begins literal_of starts_term literal_at 15 c.args.self.now c.args.first c.push.new.self.items (c.in_ok-push.ensures.items ∙ ap (λ v. v ++ c.args.first ∷ []) c.new-literals.ensures.items)
 
-pub returns-then-len-eq16-clause-read : goal.returns-then-len-eq16-clause-read
-returns-then-len-eq16-clause-read c =
-    listing_exceeds literal_of starts_term literal_at 15 c.args.self.now c.too_many_terms.result c.args.first c.literals.literals.items c.literals.self c.too_many_terms.new.self (sym c.literals-test.ensures) c.too_many_terms.ensures (omega (arith, c.if-len-eq16.true, c.len.ensures)) c.literals.invariant
+pub returns-then-len-eq-MOST_LITERALS-clause-read : goal.returns-then-len-eq-MOST_LITERALS-clause-read
+returns-then-len-eq-MOST_LITERALS-clause-read c =
+    listing_exceeds literal_of starts_term literal_at 15 c.args.self.now c.too_many_terms.result c.args.first c.literals.literals.items c.literals.self c.too_many_terms.new.self (sym c.literals-test.ensures) c.too_many_terms.ensures (omega (arith, c.if-len-eq-MOST_LITERALS.true, c.len.ensures)) c.literals.invariant
