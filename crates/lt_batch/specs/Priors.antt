@@ -22,8 +22,8 @@ pub record IsPriorOf (prog : List Stmt) (next : State) (on : Marks) (old : LeafT
 abbrev pub IsRestated : TallyView → TallyView → Type 0
 IsRestated old new = (touches : List Touch) × AreTouches old new touches
 
--- the moves that a run of the program on the state takes at most: where there is a prior tally, those of the statements that a
--- changed row touches and of those that the prior didn't reach, else those of all statements up to where it ends
+-- the moves that a run of the program on the state takes at most: where there is a prior tally, those of its restatement, else
+-- those of all statements up to where it ends
 abbrev pub run_bound : Option LeafTally → List Stmt → State → ℕ
 run_bound None program state = cost_of_first (ends_at program state) program state
 run_bound (Some old) program state = cost_again old.run state (ends_at program state)

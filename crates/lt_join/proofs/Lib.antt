@@ -28,3 +28,12 @@ pub mod SliceLaws
 pub mod KeyByKey
 pub mod MendedGaps
 pub mod MendLaws
+pub mod Spotted
+pub mod SlicedRows
+pub mod MendKeys
+pub mod MendMerge
+pub mod MendWith
+pub mod PinnedPlan
+pub mod MendCopies
+pub mod MendJoin
+mod MendSamples

@@ -23,13 +23,15 @@ use Rattle.lt_sense.specs.Sense.{lies_in, gap_covers, AgreeWhereCovered, IsTight
 use Rattle.lt_join.specs.declared.slicing.Slice.{Slice}
 use Rattle.lt_join.specs.Certify.{Certifies}
 use Rattle.lt_join.specs.Explored.{IsPassed}
-use Rattle.lt_join.specs.Mended.{AreSlicesOn, HaveTouched, cut, AreMended, AreJoinedOn}
+use Rattle.lt_sense.specs.Cut.{cut}
+use Rattle.lt_join.specs.Mended.{AreSlicesOn, HaveTouched, AreMended, AreJoinedOn}
 use Rattle.lt_join.specs.Sliced.{pinned, slice_keys, united, sliced_rows, CertifiesBut, IsSliceOf, AreRooted}
 use Rattle.lt_join.proofs.Gaps.{next_in}
 use Rattle.lt_join.proofs.MendedGaps.{IsPartOf, cut_from, cut_with}
 use Rattle.lt_join.proofs.Pinned.{term_in}
 use Rattle.lt_join.proofs.Repair.{All_of, All_at, GapIsTight, Certifies-moved, answers_same, IsTight-moved}
-use Rattle.lt_join.proofs.SliceLaws.{but_rooted, certified_whole, tight_whole, answers_whole}
+use Rattle.lt_join.proofs.SliceLaws.{grows_root, grows_slice, but_rooted, certified_whole, tight_whole, answers_whole}
+use Rattle.lt_join.proofs.Steps.{covers_grows}
 
 -- ---- what can be told
 
@@ -165,6 +167,19 @@ slice_stays terms body term s t slice agree h = record {
   rows = h.rows ∙ answers_same slice.sense terms (pinned term slice.key body) s t agree h.certified;
   certified = Certifies-moved slice.sense s t agree (pinned term slice.key body) h.certified;
   tight = IsTight-moved slice.sense s t agree h.tight;
+}
+
+-- slices stay where states agree on all that they and the root gaps cover
+pub stay_slices : (terms : List Term) (body : Body) (plan : Plan) (s t : State) (root : Sense) (slices : List Slice) → AreSlicesOn terms body plan s root slices → AgreeWhereCovered (united root slices) s t → AreSlicesOn terms body plan t root slices
+stay_slices terms body plan s t root slices were agree = record {
+  ascending = were.ascending;
+  each = All_of (IsSliceOf terms body (term_at plan.levels 0) t) slices (λ slice at.
+      slice_stays terms body (term_at plan.levels 0) s t slice
+      (λ relation row covered. agree relation row (covers_grows slice.sense (united root slices) (grows_slice root slices slice at) relation row covered))
+      (All_at (IsSliceOf terms body (term_at plan.levels 0) s) slices slice were.each at));
+  rooted = were.rooted;
+  tight = IsTight-moved root s t (λ relation row covered. agree relation row (covers_grows root (united root slices) (grows_root root slices) relation row covered)) were.tight;
+  root_hits = were.root_hits;
 }
 
 -- root gaps cut at the touched keys and mended slices are those of the new state

@@ -8,7 +8,7 @@ use Rattle.lt_face.proofs.Membership.{IsIn-flat_map, IsIn-flat_map_from}
 use Rattle.lt_query.proofs.Distinct.{IsIn-filter, IsIn-filter_from}
 use Rattle.lt_sense.specs.declared.covering.KeptGap.{KeptGap}
 use Rattle.lt_sense.specs.Kept.{Sense}
-use Rattle.lt_join.specs.Mended.{without_key, without_keys, has_room, cut}
+use Rattle.lt_sense.specs.Cut.{without_key, without_keys, has_room, cut}
 
 -- the part is of the gap's relation, order and prefix, and lies within its bounds
 pub record IsPartOf (gap part : KeptGap) : Type 0 where

@@ -44,13 +44,13 @@ missed_grows s t grows state a [] h = h
 missed_grows s t grows state a (atom ∷ atoms) h =
     elim h [ inl m ↦ inl (m.0, covers_grows s t grows atom.relation (cells_of a atom.terms) m.1) | inr r ↦ inr (missed_grows s t grows state a atoms r) ]
 
-grows_root : (root : Sense) (slices : List Slice) → Grows root (united root slices)
+pub grows_root : (root : Sense) (slices : List Slice) → Grows root (united root slices)
 grows_root root slices = record {
   gaps = λ gap h. IsIn-append_left gap root.gaps (flat_map (λ (slice : Slice). slice.sense.gaps) slices) h;
   hits = λ hit h. IsIn-append_left hit root.hits (flat_map (λ (slice : Slice). slice.sense.hits) slices) h;
 }
 
-grows_slice : (root : Sense) (slices : List Slice) (slice : Slice) → IsIn slice slices → Grows slice.sense (united root slices)
+pub grows_slice : (root : Sense) (slices : List Slice) (slice : Slice) → IsIn slice slices → Grows slice.sense (united root slices)
 grows_slice root slices slice at = record {
   gaps = λ gap h. IsIn-append_right gap root.gaps (flat_map (λ (s : Slice). s.sense.gaps) slices) (IsIn-flat_map (λ (s : Slice). s.sense.gaps) slice gap slices at h);
   hits = λ hit h. IsIn-append_right hit root.hits (flat_map (λ (s : Slice). s.sense.hits) slices) (IsIn-flat_map (λ (s : Slice). s.sense.hits) slice hit slices at h);
@@ -119,7 +119,7 @@ first_of : (levels : List Level) → 0 < length levels → (level : Level) × (s
 first_of [] lt = absurd (omega arith)
 first_of (level ∷ levels) lt = (level, refl)
 
-first_is : (body : Body) (all levels : List Level) (level : Level) → AreLevelsFrom body all 0 levels → slice_get levels 0 ≡ Some level → IsLevelOf body all 0 level
+pub first_is : (body : Body) (all levels : List Level) (level : Level) → AreLevelsFrom body all 0 levels → slice_get levels 0 ≡ Some level → IsLevelOf body all 0 level
 first_is body all [] level are e = cc
 first_is body all (x ∷ levels) level are e = subst (IsLevelOf body all 0) (some_is x level e) are.0
 

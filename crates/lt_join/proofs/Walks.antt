@@ -84,7 +84,7 @@ module _ (body : Body) (plan : Plan) (sense : Sense) (state : State) (tight : Is
       let tests_hold : list_all (passes a) body.tests ≡ true = (and_parts _ (list_all (passes a) body.tests) held).1 in
       sym (eqb-true (a v) pin (all_tests body.tests (Cmp (Var v) Eq (Cell pin)) tests_hold h))
 
-  pins_fit : (term : Term) (pins : List ℕ) (k : ℕ) → cell_of a term ≡ k → AllByRecursion (IsPinOf body.tests term) pins → AllByRecursion (λ pin. pin ≡ k) pins
+  pub pins_fit : (term : Term) (pins : List ℕ) (k : ℕ) → cell_of a term ≡ k → AllByRecursion (IsPinOf body.tests term) pins → AllByRecursion (λ pin. pin ≡ k) pins
   pins_fit term [] k e h = tt
   pins_fit term (pin ∷ pins) k e h = (pin_holds term pin h.0 ∙ e, pins_fit term pins k e h.1)
 
@@ -137,7 +137,7 @@ module _ (body : Body) (plan : Plan) (sense : Sense) (state : State) (tight : Is
   key_in [] l at = absurd at
   key_in (m ∷ places) l at = elim at [ inl e ↦ inl (ap (keys_under a plan.levels) e) | inr r ↦ inr (key_in places l r) ]
 
-  key_is_cell : (l : ℕ) (guide : Guide) → IsIn l guide.places → (atoms : List Atom) (guides : List Guide) → AllZip (IsGuideOf plan.levels) atoms guides → list_all (λ row. list_all is_cell row) (rows_under a atoms) ≡ true → IsIn guide guides → is_cell (keys_under a plan.levels l) ≡ true
+  pub key_is_cell : (l : ℕ) (guide : Guide) → IsIn l guide.places → (atoms : List Atom) (guides : List Guide) → AllZip (IsGuideOf plan.levels) atoms guides → list_all (λ row. list_all is_cell row) (rows_under a atoms) ≡ true → IsIn guide guides → is_cell (keys_under a plan.levels l) ≡ true
   key_is_cell l guide at [] [] z h in_guides = absurd in_guides
   key_is_cell l guide at [] (g ∷ guides) z h in_guides = absurd z
   key_is_cell l guide at (atom ∷ atoms) [] z h in_guides = absurd z

@@ -4,6 +4,9 @@ pub mod Explored
 pub mod Holders
 pub mod Lone
 pub mod Mended
+pub mod MendedKeys
+pub mod MendedMerge
+pub mod MendedPlan
 pub mod Seat
 pub mod Sliced
 pub mod Values

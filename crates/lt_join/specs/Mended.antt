@@ -38,25 +38,6 @@ Touches root slices relation row k =
 abbrev pub HaveTouched : List ℕ → Sense → List Slice → State → State → Type 0
 HaveTouched keys root slices s t = (relation : ℕ) (row : Row) (k : ℕ) → (AgreeOn s t relation row → ⊥) → Touches root slices relation row k → IsIn k keys
 
--- ---- cut gaps
-
--- the gap without the key: what lies before it, and what lies behind it
-abbrev pub without_key : ℕ → KeptGap → List KeptGap
-without_key k gap = if nat_le gap.lo k && nat_lt k gap.hi then record gap { hi = k } ∷ record gap { lo = k + 1 } ∷ [] else gap ∷ []
-
--- the gaps without the keys
-abbrev pub without_keys : List ℕ → List KeptGap → List KeptGap
-without_keys [] gaps = gaps
-without_keys (k ∷ ks) gaps = without_keys ks (flat_map (without_key k) gaps)
-
--- whether a cell can lie in it
-abbrev pub has_room : KeptGap → Bool
-has_room gap = nat_lt gap.lo gap.hi
-
--- the root gaps cut at the keys; what is left empty goes
-abbrev pub cut : List ℕ → Sense → Sense
-cut keys root = record { gaps = filter has_room (without_keys keys root.gaps); hits = [] }
-
 -- ---- mended slices
 
 -- slices of keys that aren't among these stay as they were, no others come, and each of these keys has a slice

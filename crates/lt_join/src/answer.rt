@@ -5,11 +5,13 @@ ghost use Rattle.lt_face.specs.Limits.{most_columns};
 ghost use Rattle.lt_model.specs.Answers.{answers as answers_of, some_answer};
 ghost use Rattle.lt_model.specs.Bound.{are_bound};
 ghost use Rattle.lt_model.specs.Fits.{IsBodyOf};
+ghost use Rattle.lt_query.specs.Answering.{AreTestsBound};
 ghost use Rattle.lt_query.specs.Plan.{IsPlanOf};
 ghost use Rattle.lt_query.specs.Runnable.{IsRunnable};
 ghost use Rattle.lt_sense.specs.Sense.{IsTight};
 ghost use Rattle.lt_join.specs.Certify.{Certifies, Vouches};
 ghost use Rattle.lt_join.specs.Cost.{bound};
+ghost use Rattle.lt_join.specs.Holders.{IsPrepared};
 
 use crate::Found;
 use crate::ascending::ascending;
@@ -22,6 +24,44 @@ use lt_face::moves::Moves;
 use lt_query::{Body, Plan, TermList};
 use lt_sense::Sense;
 use std::alloc::Global;
+
+/// As `answers`, of a body and a plan that can be walked, however many literals there are.
+pub(crate) fn answers_prepared<I: Indexes, L>(
+    alloc: Global,
+    body: &Body,
+    plan: &Plan,
+    terms: &TermList,
+    indexes: &I,
+    moves: &mut Moves<L>,
+) -> Result<(RowList, Sense), NoMemory>
+    requires of_body { IsPlanOf body.now plan.now }
+    requires prepared { IsPrepared body.now plan.now terms.now }
+    requires has_indexes { AllByRecursion (λ guide. I.has_index indexes.now guide.relation guide.columns ≡ true) plan.now.guides }
+    requires tests { AreTestsBound body.now }
+    requires are_bound { IsTrue (are_bound body.now terms.now) }
+    ensures rows { IfOk result (λ found. found.0 ≡ answers_of terms.now body.now (I.state indexes.now)) }
+    ensures certified { IfOk result (λ found. Certifies found.1 body.now (I.state indexes.now)) }
+    ensures tight { IfOk result (λ found. IsTight found.1 (I.state indexes.now)) }
+    ensures gaps { IfOk result (λ found. moves.old + length found.1.gaps ≤ moves.new) }
+    ensures hits { IfOk result (λ found. moves.old + length found.1.hits ≤ moves.new) }
+    // also where memory is refused
+    ensures cost { moves.new ≤ moves.old + bound plan.now (I.state indexes.now) }
+    ensures moves { moves.old ≤ moves.new }
+{
+    let mut keys = Items::new(alloc);
+    let mut noted = NotedGaps::new(alloc);
+    let mut iters = roots_of(alloc, indexes, plan)?;
+    let mut found = Found {
+        sense: Sense::new(alloc),
+        rows: Items::new(alloc),
+    };
+    descend(
+        alloc, indexes, &mut iters, body, plan, terms, &mut keys, &mut noted, &mut found, moves,
+        false,
+    )?;
+    let rows = ascending(found.rows.into_vec())?;
+    Ok((rows, found.sense))
+}
 
 /// The answers of a body, ascending and each once: the terms' cells under the assignments that hold and whose rows are in
 /// the indexes' state; and what they were sensitive to. The plan is any of the body's, and each index that it goes through
@@ -49,19 +89,7 @@ pub fn answers<I: Indexes, L>(
     ensures cost { moves.new ≤ moves.old + bound plan.now (I.state indexes.now) }
     ensures moves { moves.old ≤ moves.new }
 {
-    let mut keys = Items::new(alloc);
-    let mut noted = NotedGaps::new(alloc);
-    let mut iters = roots_of(alloc, indexes, plan)?;
-    let mut found = Found {
-        sense: Sense::new(alloc),
-        rows: Items::new(alloc),
-    };
-    descend(
-        alloc, indexes, &mut iters, body, plan, terms, &mut keys, &mut noted, &mut found, moves,
-        false,
-    )?;
-    let rows = ascending(found.rows.into_vec())?;
-    Ok((rows, found.sense))
+    answers_prepared(alloc, body, plan, terms, indexes, moves)
 }
 
 /// Whether the body has an answer, and what that was sensitive to. It stops at the first.

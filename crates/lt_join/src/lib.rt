@@ -9,6 +9,13 @@ mod keeping;
 mod leaf;
 mod level;
 mod mending;
+mod mending_copy;
+mod mending_join;
+mod mending_merged;
+mod mending_plan;
+mod mending_read;
+mod mending_shared;
+mod mending_touched;
 mod noted;
 mod seat;
 mod slicing;
@@ -19,9 +26,14 @@ pub use answer::{answers, some};
 pub use covering::agreeing_states_answer_alike;
 use lt_face::items::RowList;
 use lt_sense::Sense;
-pub use mending::mended_slices_are_slices;
+pub use mending::{mended_slices_are_slices, slices_stay};
+pub use mending_join::mend;
+pub use mending_plan::pinned_plans_are_plans;
+pub use mending_read::{rows_of_slices, spot_in};
+pub use mending_shared::{SharedSlice, SharedSlices};
+pub use mending_touched::touched_keys;
 pub use seat::{LoneKey, Seat, Walk};
-pub use slicing::{Slice, SliceList, slices, slices_make_the_whole};
+pub use slicing::{Slice, slices, slices_make_the_whole};
 
 /// What a walk has found so far: the sense, and rows that are answers.
 #[derive(Drop)]

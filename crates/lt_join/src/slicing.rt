@@ -27,6 +27,7 @@ ghost use Rattle.lt_join.specs.Sliced.{pinned, slice_keys, united, sliced_rows, 
 use crate::Found;
 use crate::ascending::ascending;
 use crate::level::{Joined, next_key, open_level};
+use crate::mending_shared::{SharedSlice, SharedSlices};
 use crate::noted::NotedGaps;
 use crate::walk::{add_hits, descend, enter, leave, roots_of};
 use lt_face::indexes::Indexes;
@@ -46,9 +47,6 @@ pub struct Slice {
     pub rows: RowList,
     pub sense: Sense,
 }
-
-/// Slices, ascending by their keys.
-pub type SliceList = Items<Slice>;
 
 /// Where a sense certifies a body but for some keys of a term of its atoms, it and slices for these keys certify the whole
 /// body; they are tight together, and the body's answers are those of the slices.
@@ -122,7 +120,7 @@ pub fn slices<I: Indexes, L>(
     terms: &TermList,
     indexes: &I,
     moves: &mut Moves<L>,
-) -> Result<(Sense, SliceList), NoMemory>
+) -> Result<(Sense, SharedSlices), NoMemory>
     requires of_body { IsPlanOf body.now plan.now }
     requires runnable { IsRunnable body.now plan.now }
     requires fits { IsBodyOf (I.state indexes.now) body.now }
@@ -159,7 +157,8 @@ pub fn slices<I: Indexes, L>(
             alloc, indexes, &mut iters, &joined, body, plan, level, terms, &mut keys, &mut noted,
             moves,
         )?;
-        slices.push(slice)?;
+        let shared = SharedSlice::new(alloc, slice)?;
+        slices.push(shared)?;
         next_key(
             indexes,
             &mut joined,

@@ -12,6 +12,8 @@ use Rattle.lt_query.specs.declared.plans.Guide.{Guide}
 use Rattle.lt_query.specs.Needs.{body_of}
 use Rattle.lt_query.specs.Runnable.{AreWide}
 use Rattle.lt_query.specs.Stated.{stated_plan}
+use Rattle.lt_join.specs.Mended.{HaveTouched}
+use Rattle.lt_join.specs.MendedPlan.{mending_cost}
 use Rattle.lt_program.specs.declared.course.Course.{Course}
 use Rattle.lt_program.specs.declared.course.Laid.{Laid}
 use Rattle.lt_program.specs.declared.part.Part.{Part}
@@ -33,6 +35,13 @@ module _ (base : List Table) (marks : Marks) (tables : List Table) (on : IsLaidO
   pub cost_on : (stmt : Stmt) (old new : ℕ) → new ≤ old + statement_cost stmt (state_of tables) → new ≤ old + statement_cost stmt (laid (state_of base) marks)
   cost_on stmt old new h = subst (λ (s : State). new ≤ old + statement_cost stmt s) on.state h
 
+  pub mending_on_laid : (stmt : Stmt) (keys : List ℕ) (old new : ℕ) → new ≤ old + mending_cost keys (stated_plan (body_of stmt)) (state_of tables) → new ≤ old + mending_cost keys (stated_plan (body_of stmt)) (laid (state_of base) marks)
+  mending_on_laid stmt keys old new h = subst (λ (s : State). new ≤ old + mending_cost keys (stated_plan (body_of stmt)) s) on.state h
+
+  -- the old part, and what is touched on the way to the state with the marks laid on it
+  pub old_on : (stmt : Stmt) (old : Part) (keys : List ℕ) → (s : State) × IsPartOn stmt s old × HaveTouched keys old.sense old.slices s (laid (state_of base) marks) → (s : State) × IsPartOn stmt s old × HaveTouched keys old.sense old.slices s (state_of tables)
+  old_on stmt old keys h = (h.0, h.1, subst (λ (t : State). HaveTouched keys old.sense old.slices h.0 t) (sym on.state) h.2)
+
   -- the part is that on the database with the marks laid on it
   pub grows_on : (number : ℕ) (stmt : Stmt) (part : Part) (e : Effect) (old new : Course) → old.marks ≡ marks → IsPartOn stmt (state_of tables) part → e ≡ effect stmt (state_of tables)
       → new.parts ≡ old.parts ++ part ∷ [] → new.reply ≡ (next number e (old.reply, old.marks)).0 → new.marks ≡ (next number e (old.reply, old.marks)).1 → Grows number stmt (state_of base) old new
@@ -48,7 +57,7 @@ module _ (base : List Table) (marks : Marks) (tables : List Table) (on : IsLaidO
       }
 
 -- the part of a statement that reads no relation is that on any state
-pub grows_alone : (base : State) (number : ℕ) (stmt : Stmt) (part own : Part) (e : Effect) (old new : Course) → (body_of stmt).atoms ≡ [] → IsPartOn stmt base part → e ≡ effect stmt base → own ≡ record { outcome = part.outcome; sense = nothing }
+pub grows_alone : (base : State) (number : ℕ) (stmt : Stmt) (part own : Part) (e : Effect) (old new : Course) → (body_of stmt).atoms ≡ [] → IsPartOn stmt base part → e ≡ effect stmt base → own ≡ record { outcome = part.outcome; sense = nothing; slices = [] }
     → new.parts ≡ old.parts ++ own ∷ [] → new.reply ≡ (next number e (old.reply, old.marks)).0 → new.marks ≡ (next number e (old.reply, old.marks)).1 → Grows number stmt base old new
 grows_alone base number stmt part own e old new none is is_effect is_own parts reply marks_are =
     let told : e ≡ effect stmt (laid base old.marks) = is_effect ∙ effect_same base (laid base old.marks) stmt none in

@@ -17,3 +17,4 @@ pub mod Stays
 pub mod Keeps
 pub mod LaterMarks
 pub mod TwoHeads
+pub mod KeptSlices

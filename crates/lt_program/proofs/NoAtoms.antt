@@ -1,5 +1,5 @@
 -- A statement that reads no relation does the same on all states.
-use Rattle.std.proofs.Common.{◌≡◌, Bool, true, false, List, [], sym, ap, ◌∙◌, subst, inl}
+use Rattle.std.proofs.Common.{◌≡◌, Bool, true, false, List, [], refl, sym, ap, ◌∙◌, subst, inl}
 use Rattle.std.specs.Prelude.{filter_map, not}
 use Rattle.std.specs.List.{AllByRecursion, list_any}
 use Rattle.lt_face.specs.State.{State}
@@ -17,7 +17,8 @@ use Rattle.lt_join.specs.Certify.{IsMet, Certifies}
 use Rattle.lt_join.specs.Cost.{bound}
 use Rattle.lt_program.specs.declared.part.Part.{Part}
 use Rattle.lt_program.specs.declared.part.Outcome.TheVariants.{Rows, Truth}
-use Rattle.lt_program.specs.Tally.{outcome_on, VouchesFor, IsPartOn, statement_cost}
+use Rattle.lt_program.specs.Tally.{outcome_on, VouchesFor, IsPartOn, sense_of, statement_cost}
+use Rattle.lt_program.proofs.KeptSlices.{not_sliced, kept_whole}
 
 -- sensitive to nothing
 abbrev pub nothing : Sense
@@ -76,9 +77,10 @@ module _ (s t : State) where
   }
 
   -- its part is that of the other state, and it was sensitive to nothing
-  pub part_same : (stmt : Stmt) (part : Part) → (body_of stmt).atoms ≡ [] → IsPartOn stmt s part → IsPartOn stmt t (record { outcome = part.outcome; sense = nothing })
+  pub part_same : (stmt : Stmt) (part : Part) → (body_of stmt).atoms ≡ [] → IsPartOn stmt s part → IsPartOn stmt t (record { outcome = part.outcome; sense = nothing; slices = [] })
   part_same stmt part e is = record {
     outcome = is.outcome ∙ outcome_same stmt e;
-    vouches = vouches_same part.sense stmt e is.vouches;
+    vouches = vouches_same (sense_of part) stmt e is.vouches;
     tight = record { gaps = tt; hits = tt };
+    sliced = kept_whole stmt t (record { outcome = part.outcome; sense = nothing; slices = [] }) (not_sliced stmt e) refl;
   }

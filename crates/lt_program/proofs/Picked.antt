@@ -1,5 +1,5 @@
 -- The terms that a join answers.
-use Rattle.std.proofs.Common.{◌≡◌, ℕ, true, false, List, map, length, sym, ap, ◌∙◌, subst, arith}
+use Rattle.std.proofs.Common.{◌≡◌, ℕ, List, length, sym, subst, arith}
 use Rattle.std.specs.Prelude.{filter_map}
 use Rattle.lt_face.specs.Rows.{IsAscending}
 use Rattle.lt_face.specs.State.{Row, State}
@@ -7,9 +7,6 @@ use Rattle.lt_model.specs.declared.normal.Term.{Term}
 use Rattle.lt_model.specs.declared.normal.Atom.{Atom}
 use Rattle.lt_model.specs.declared.normal.Body.{Body}
 use Rattle.lt_model.specs.Answers.{answers, answer_of, picks}
-use Rattle.lt_model.specs.declared.normal.Stmt.TheVariants.{Replace}
-use Rattle.lt_model.specs.Effect.{Writes, marks_of, effect}
-use Rattle.lt_model.specs.Marks.{Marks, and_then}
 use Rattle.lt_model.specs.Fits.{IsBodyOf, IsHeadOf, ArePrintedOf}
 use Rattle.lt_query.specs.Runnable.{AreWide}
 use Rattle.lt_program.specs.Planned.{ArePicked}
@@ -24,12 +21,3 @@ print_picked body terms kinds h = record { narrow = omega (arith, h.is_wide, h.h
 
 pub answers_rise : (terms : List Term) (body : Body) (state : State) (rows : List Row) → rows ≡ answers terms body state → IsAscending rows
 answers_rise terms body state rows is = subst IsAscending (sym is) (IsAscending-ascending (filter_map (answer_of terms body) (picks body.atoms state)))
-
--- the effect of a `replace`, of the answers of its two heads
-pub replace_effect : (gone come : Atom) (body : Body) (state : State) (old new : List Row) (minus plus marks : Marks) → old ≡ answers gone.terms body state → new ≡ answers come.terms body state
-    → minus ≡ map (λ row. record { relation = gone.relation; row = row; plus = false }) old → plus ≡ map (λ row. record { relation = come.relation; row = row; plus = true }) new → marks ≡ and_then minus plus
-    → Writes marks ≡ effect (Replace gone come body) state
-replace_effect gone come body state old new minus plus marks a b m p all =
-    let first : minus ≡ marks_of false gone body state = m ∙ ap (λ (rows : List Row). map (λ row. record { relation = gone.relation; row = row; plus = false }) rows) a in
-    let second : plus ≡ marks_of true come body state = p ∙ ap (λ (rows : List Row). map (λ row. record { relation = come.relation; row = row; plus = true }) rows) b in
-    ap Writes (all ∙ (ap (λ (x : Marks). and_then x plus) first ∙ ap (and_then (marks_of false gone body state)) second))

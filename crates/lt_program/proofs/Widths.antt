@@ -1,6 +1,6 @@
 -- A statement that fits a state fits it with marks laid on it.
 use Rattle.std.proofs.Common.{◌≡◌, ℕ, zero, suc, ◌≤◌, List, [], ◌∷◌, length, Some, subst}
-use Rattle.lt_face.specs.State.{Row, Relation, State}
+use Rattle.lt_face.specs.State.{Row, State}
 use Rattle.lt_face.proofs.RowLemmas.{each_weaker}
 use Rattle.lt_model.specs.declared.normal.Atom.{Atom}
 use Rattle.lt_model.specs.declared.normal.Body.{Body}
@@ -9,7 +9,7 @@ use Rattle.lt_model.specs.declared.normal.Stmt.TheVariants.{Insert, Delete, Repl
 use Rattle.lt_model.specs.Fits.{IsWide, IsAtomOf, IsBodyOf, IsHeadOf, FitsStatement}
 use Rattle.lt_model.specs.Marks.{Marks, write, change, lay, laid}
 use Rattle.lt_delta.proofs.Kept.{IsWide-change}
-use Rattle.lt_query.specs.Runnable.{IsWidth, AreWide}
+use Rattle.lt_query.specs.Runnable.{AreWide}
 
 IsWide-laid : (state : State) (marks : Marks) (r w : ℕ) → IsWide state r w → IsWide (laid state marks) r w
 IsWide-laid state [] r w h = h

@@ -1,7 +1,9 @@
 -- What a tally keeps of the run of a program.
-use Rattle.std.specs.Prelude.{◌≡◌, ℕ, zero, suc, ◌+◌, ◌<◌, ◌≤◌, ◌==◌, ◌||◌, Bool, true, false, if◌then◌else◌, List, [], ◌∷◌, ◌++◌, length, take, slice_get, Option, Some, None}
+use Rattle.std.specs.Prelude.{◌≡◌, ℕ, zero, suc, ◌+◌, ◌<◌, ◌≤◌, ◌==◌, ◌||◌, ◌&&◌, Bool, true, false, nat_lt, nat_le, if◌then◌else◌, List, [], ◌∷◌, ◌++◌, length, take, slice_get, Option, Some, None}
 use Rattle.std.specs.List.{AllByRecursion}
+use Rattle.lt_face.specs.Limits.{most_columns}
 use Rattle.lt_face.specs.State.{State}
+use Rattle.lt_model.specs.declared.normal.Term.{Term}
 use Rattle.lt_model.specs.declared.normal.Body.{Body}
 use Rattle.lt_model.specs.declared.normal.Stmt.{Stmt}
 use Rattle.lt_model.specs.declared.normal.Stmt.TheVariants.{Insert, Delete, Replace, Require, Print}
@@ -20,6 +22,10 @@ use Rattle.lt_sense.specs.Kept.{Sense}
 use Rattle.lt_sense.specs.Sense.{IsTight}
 use Rattle.lt_join.specs.Certify.{Certifies, Vouches}
 use Rattle.lt_join.specs.Cost.{bound}
+use Rattle.lt_sense.specs.Cut.{cut}
+use Rattle.lt_join.specs.Mended.{AreSlicesOn, AreMended}
+use Rattle.lt_join.specs.MendedPlan.{mending_cost}
+use Rattle.lt_join.specs.Sliced.{united}
 use Rattle.lt_program.specs.declared.course.Course.{Course}
 use Rattle.lt_program.specs.declared.course.Laid.{Laid}
 use Rattle.lt_program.specs.declared.part.Outcome.{Outcome}
@@ -44,11 +50,56 @@ VouchesFor sense (Replace gone come body) state = Certifies sense body state
 VouchesFor sense (Require some body) state = Vouches sense body state
 VouchesFor sense (Print terms kinds body) state = Certifies sense body state
 
+-- ---- statements kept by slices
+
+-- the plan of the body has a level
+abbrev pub has_level : Body → Bool
+has_level body = nat_lt 0 (length (stated_plan body).levels)
+
+-- whether the statement is kept by slices of its body: not a requirement, nor a `replace` whose heads' cells have no room in
+-- one row
+abbrev pub is_sliced : Stmt → Bool
+is_sliced (Insert head body) = has_level body
+is_sliced (Delete head body) = has_level body
+is_sliced (Replace gone come body) = has_level body && nat_le (length gone.terms + length come.terms) most_columns
+is_sliced (Require some body) = false
+is_sliced (Print terms kinds body) = has_level body
+
+-- the terms that its slices answer: the head's, of a `replace` those of both heads, one after the other
+abbrev pub slice_terms : Stmt → List Term
+slice_terms (Insert head body) = head.terms
+slice_terms (Delete head body) = head.terms
+slice_terms (Replace gone come body) = gone.terms ++ come.terms
+slice_terms (Require some body) = []
+slice_terms (Print terms kinds body) = terms
+
+-- there is a statement, and it is kept by slices
+abbrev pub is_sliced_at : Option Stmt → Bool
+is_sliced_at None = false
+is_sliced_at (Some stmt) = is_sliced stmt
+
+-- what a part was sensitive to: its slices together with its root gaps, and without slices the sense that it keeps
+abbrev pub sense_of : Part → Sense
+sense_of part = united part.sense part.slices
+
+-- of a statement kept by slices the part has the root gaps and the slices of its body, and of any other no slices
+pub record IsKeptAs (stmt : Stmt) (state : State) (part : Part) : Type 0 where
+  pub by_slices : is_sliced stmt ≡ true → AreSlicesOn (slice_terms stmt) (body_of stmt) (stated_plan (body_of stmt)) state part.sense part.slices
+  pub whole : is_sliced stmt ≡ false → part.slices ≡ []
+
+-- the part is the old one mended at the keys: the root gaps are cut there, and slices of other keys stay as they were
+pub record IsMendedPart (keys : List ℕ) (old new : Part) : Type 0 where
+  pub root : new.sense ≡ cut keys old.sense
+  pub slices : AreMended keys old.slices new.slices
+
+-- ---- parts
+
 -- the part is the statement's on this state
 pub record IsPartOn (stmt : Stmt) (state : State) (part : Part) : Type 0 where
   pub outcome : part.outcome ≡ outcome_on stmt state
-  pub vouches : VouchesFor part.sense stmt state
-  pub tight : IsTight part.sense state
+  pub vouches : VouchesFor (sense_of part) stmt state
+  pub tight : IsTight (sense_of part) state
+  pub sliced : IsKeptAs stmt state part
 
 -- so many moves its evaluation may take: what the join of its body may take, of a `replace` once for each head
 abbrev pub statement_cost : Stmt → State → ℕ
@@ -72,6 +123,11 @@ is_refused (Refused j) = true
 abbrev pub cost_on : Option Stmt → State → ℕ
 cost_on None state = 0
 cost_on (Some stmt) state = statement_cost stmt state
+
+-- so many moves the mending of a statement kept by slices may take: what the joins of the keys' slices may take
+abbrev pub mending_on : List ℕ → Option Stmt → State → ℕ
+mending_on keys None state = 0
+mending_on keys (Some stmt) state = mending_cost keys (stated_plan (body_of stmt)) state
 
 -- the moves that the first n statements may take, each on the state before it
 abbrev pub cost_of_first : ℕ → List Stmt → State → ℕ
@@ -107,6 +163,10 @@ pub record TallyView : Type 0 where
 -- every statement was evaluated, or a requirement was false
 abbrev pub has_ended : TallyView → Bool
 has_ended t = is_refused t.reply || length t.parts == length t.program
+
+-- the next statement is kept by slices
+abbrev pub is_next_sliced : TallyView → Bool
+is_next_sliced t = is_sliced_at (slice_get t.program (length t.parts))
 
 -- each part is its statement's, on the state before it
 abbrev pub ArePartsOf : TallyView → Type 0

@@ -1,22 +1,28 @@
 //! How far the run of a program has come on a database.
-ghost use Rattle.std.specs.Prelude.{◌≡◌, ◌≤◌, ◌+◌, ℕ, List, false, None, OnOk, OnErr, IfOk, ◌++◌, ◌∷◌, []};
+ghost use Rattle.std.specs.Prelude.{◌≡◌, ◌≤◌, ◌+◌, ℕ, List, true, false, None, OnOk, OnErr, IfOk, ◌++◌, ◌∷◌, []};
 ghost use Rattle.lt_face.specs.State.{State};
 ghost use Rattle.lt_model.specs.Fits.{FitMarks, FitsStatement};
 ghost use Rattle.lt_model.specs.Marks.{Marks as MarksView, AreMarks, and_then, laid};
 ghost use Rattle.lt_base.specs.Tables.{Table, state_of, has_index};
 ghost use Rattle.lt_query.specs.Needs.{body_of as body_in};
 ghost use Rattle.lt_query.specs.Planned.{route_of};
+ghost use Rattle.lt_query.specs.Lists.{IsRising};
 ghost use Rattle.lt_query.specs.Runnable.{AreWide};
+ghost use Rattle.lt_query.specs.Stated.{stated_plan};
+ghost use Rattle.lt_join.specs.Mended.{HaveTouched};
+ghost use Rattle.lt_join.specs.MendedPlan.{mending_cost};
+ghost use Rattle.lt_program.specs.declared.part.Part.{Part as PartType};
 ghost use Rattle.lt_program.specs.Effect.{view};
-ghost use Rattle.lt_program.specs.Tally.{HasIndexesOf, IsLaid, IsLaidOn, IsLaidUpTo, IsPartOn, Grows, is_refused, next, those, with_print, statement_cost};
+ghost use Rattle.lt_program.specs.Tally.{HasIndexesOf, IsLaid, IsLaidOn, IsLaidUpTo, IsPartOn, IsMendedPart, Grows, is_refused, is_sliced, next, those, with_print, statement_cost};
 
 use crate::effect::Effect;
-use crate::evaluation::{Step, evaluated};
+use crate::evaluation::{Step, evaluated, mended};
 use crate::kept::effect_by;
 use crate::part::{Part, SharedPart};
 use lt_base::Database;
 use lt_delta::Marks;
 use lt_face::items::Items;
+use lt_face::key::Key;
 use lt_face::memory::NoMemory;
 use lt_face::moves::Moves;
 use lt_model::normal::Stmt;
@@ -94,12 +100,17 @@ fn followed(laid: Laid, marks: &Marks) -> Option<Laid>
 
 /// The part, sensitive to nothing.
 fn insensitive(alloc: Global, part: Part) -> Part
-    ensures { result ≡ record { outcome = part.outcome; sense = record { gaps = []; hits = [] } } }
+    ensures { result ≡ record { outcome = part.outcome; sense = record { gaps = []; hits = [] }; slices = [] } }
 {
-    let Part { outcome, sense: _ } = part;
+    let Part {
+        outcome,
+        sense: _,
+        slices: _,
+    } = part;
     Part {
         outcome,
         sense: Sense::new(alloc),
+        slices: Items::new(alloc),
     }
 }
 
@@ -299,6 +310,49 @@ impl Course {
         let alloc = self.parts.allocator();
         let tables = self.take_laid(base)?;
         let step = evaluated(alloc, &tables, stmt, route, moves)?;
+        let Step { part, effect } = step;
+        let part = SharedPart::new(alloc, part)?;
+        self.laid = Some(Laid {
+            tables,
+            later: None,
+        });
+        self.accept(number, part, effect)?;
+        Ok(())
+    }
+
+    /// One more statement, kept by slices: this part of it, which is of some state, is mended at these keys.
+    pub(crate) fn mend<L>(
+        &mut self,
+        base: &Database,
+        number: u32,
+        stmt: &Stmt,
+        route: &Route,
+        old: &Part,
+        keys: &Items<Key>,
+        moves: &mut Moves<L>,
+    ) -> Result<(), NoMemory>
+        requires route { route.now ≡ route_of (body_in stmt.now) }
+        requires going { is_refused self.old.reply ≡ false }
+        requires wide { AreWide (state_of base.now) }
+        requires indexes { HasIndexesOf base.now (body_in stmt.now) }
+        requires fits { FitsStatement (state_of base.now) stmt.now }
+        requires marks { FitMarks (state_of base.now) self.old.marks }
+        requires laid { IsLaid base.now self.old.marks self.old.laid }
+        requires sliced { is_sliced stmt.now ≡ true }
+        requires old { (state : State) × IsPartOn stmt.now state old.now × HaveTouched keys.now old.now.sense old.now.slices state (laid (state_of base.now) self.old.marks) }
+        requires keys { IsRising keys.now }
+        ensures ok { OnOk result (Grows number stmt.now (state_of base.now) self.old self.new) }
+        ensures mended { OnOk result ((new : PartType) × (self.new.parts ≡ self.old.parts ++ new ∷ []) × IsMendedPart keys.now old.now new) }
+        ensures cost { moves.new ≤ moves.old + mending_cost keys.now (stated_plan (body_in stmt.now)) (laid (state_of base.now) self.old.marks) }
+        ensures moves { moves.old ≤ moves.new }
+        ensures laid { IsLaid base.now self.new.marks self.new.laid }
+        ensures parts_kept { OnErr result (self.new.parts ≡ self.old.parts) }
+        ensures reply_kept { OnErr result (self.new.reply ≡ self.old.reply) }
+        ensures marks_kept { OnErr result (self.new.marks ≡ self.old.marks) }
+    {
+        let alloc = self.parts.allocator();
+        let tables = self.take_laid(base)?;
+        let step = mended(alloc, &tables, stmt, route, old, keys, moves)?;
         let Step { part, effect } = step;
         let part = SharedPart::new(alloc, part)?;
         self.laid = Some(Laid {

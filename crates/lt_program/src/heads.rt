@@ -1,8 +1,7 @@
-//! The answers of a statement's heads by a join of its body. The two heads of a `replace` are answered by one join, where the
-//! cells of both have room in a row. What is said of moves holds also where memory is refused.
-ghost use Rattle.std.specs.Prelude.{◌≡◌, ◌+◌, ◌≤◌, ◌++◌, length, map, take, drop, IfOk};
-ghost use Rattle.lt_face.specs.Limits.{most_columns};
-ghost use Rattle.lt_model.specs.Answers.{answers as answers_of};
+//! The answers of a statement's heads by a join of its body, and those of two heads out of the answers of the terms of both.
+//! What is said of moves holds also where memory is refused.
+ghost use Rattle.std.specs.Prelude.{◌≡◌, ◌+◌, ◌≤◌, ◌++◌, map, take, drop, IfOk};
+ghost use Rattle.lt_model.specs.Answers.{answers as answers_of, ascending as ascending_rows};
 ghost use Rattle.lt_model.specs.Fits.{IsBodyOf};
 ghost use Rattle.lt_base.specs.Tables.{state_of};
 ghost use Rattle.lt_query.specs.Stated.{stated_plan};
@@ -14,7 +13,6 @@ ghost use Rattle.lt_program.specs.Tally.{HasIndexesOf};
 
 use lt_base::Database;
 use lt_face::items::RowList;
-use lt_face::limits::MOST_COLUMNS;
 use lt_face::memory::NoMemory;
 use lt_face::moves::Moves;
 use lt_face::row::Row;
@@ -57,7 +55,7 @@ pub(crate) fn found<L>(
 }
 
 /// The terms of both heads, in this order.
-fn terms_of_both(first: &TermList, second: &TermList) -> Result<TermList, NoMemory>
+pub(crate) fn terms_of_both(first: &TermList, second: &TermList) -> Result<TermList, NoMemory>
     ensures { IfOk result (λ both. both ≡ first.now ++ second.now) }
 {
     let mut both = first.copy()?;
@@ -95,45 +93,24 @@ fn parted(alloc: Global, rows: &RowList, at: usize) -> Result<(Vec<Row>, Vec<Row
     Ok((before, from))
 }
 
-/// The answers of two heads whose cells have room in one row, by one join.
-fn found_once<L>(
+/// The answers of two heads, of those of the terms of both: the cells before a column are the first head's.
+pub(crate) fn split_answers(
     alloc: Global,
-    tables: &Database,
-    body: &Body,
-    plan: &Plan,
-    first: &TermList,
-    second: &TermList,
-    moves: &mut Moves<L>,
-) -> Result<Pair, NoMemory>
-    requires plan { IsPlanned body.now plan.now }
-    requires indexes { HasIndexesOf tables.now body.now }
-    requires fits { IsBodyOf (state_of tables.now) body.now }
-    requires first { ArePicked body.now first.now }
-    requires second { ArePicked body.now second.now }
-    requires narrow { length first.now + length second.now ≤ most_columns }
-    ensures first { IfOk result (λ pair. pair.first ≡ answers_of first.now body.now (state_of tables.now)) }
-    ensures second { IfOk result (λ pair. pair.second ≡ answers_of second.now body.now (state_of tables.now)) }
-    ensures certified { IfOk result (λ pair. Certifies pair.sense body.now (state_of tables.now)) }
-    ensures tight { IfOk result (λ pair. IsTight pair.sense (state_of tables.now)) }
-    ensures cost { moves.new ≤ moves.old + bound (stated_plan body.now) (state_of tables.now) }
-    ensures moves { moves.old ≤ moves.new }
+    rows: &RowList,
+    at: usize,
+) -> Result<(RowList, RowList), NoMemory>
+    ensures first { IfOk result (λ parts. parts.0 ≡ ascending_rows (map (take at) rows.now)) }
+    ensures second { IfOk result (λ parts. parts.1 ≡ ascending_rows (map (drop at) rows.now)) }
 {
-    let terms = terms_of_both(first, second)?;
-    let found = found(alloc, tables, body, plan, &terms, moves)?;
-    let (rows, sense) = found;
-    let parts = parted(alloc, &rows, first.len())?;
+    let parts = parted(alloc, rows, at)?;
     let (before, from) = parts;
     let first = ascending(before)?;
     let second = ascending(from)?;
-    Ok(Pair {
-        first,
-        second,
-        sense,
-    })
+    Ok((first, second))
 }
 
 /// The answers of two heads, by a join for each.
-fn found_apart<L>(
+pub(crate) fn found_both<L>(
     alloc: Global,
     tables: &Database,
     body: &Body,
@@ -163,34 +140,4 @@ fn found_apart<L>(
         second,
         sense,
     })
-}
-
-/// The answers of two heads on the database.
-pub(crate) fn found_both<L>(
-    alloc: Global,
-    tables: &Database,
-    body: &Body,
-    plan: &Plan,
-    first: &TermList,
-    second: &TermList,
-    moves: &mut Moves<L>,
-) -> Result<Pair, NoMemory>
-    requires plan { IsPlanned body.now plan.now }
-    requires indexes { HasIndexesOf tables.now body.now }
-    requires fits { IsBodyOf (state_of tables.now) body.now }
-    requires first { ArePicked body.now first.now }
-    requires second { ArePicked body.now second.now }
-    ensures first { IfOk result (λ pair. pair.first ≡ answers_of first.now body.now (state_of tables.now)) }
-    ensures second { IfOk result (λ pair. pair.second ≡ answers_of second.now body.now (state_of tables.now)) }
-    ensures certified { IfOk result (λ pair. Certifies pair.sense body.now (state_of tables.now)) }
-    ensures tight { IfOk result (λ pair. IsTight pair.sense (state_of tables.now)) }
-    ensures cost { moves.new ≤ moves.old + (bound (stated_plan body.now) (state_of tables.now) + bound (stated_plan body.now) (state_of tables.now)) }
-    ensures moves { moves.old ≤ moves.new }
-{
-    if first.len() + second.len() <= MOST_COLUMNS {
-        let pair = found_once(alloc, tables, body, plan, first, second, moves)?;
-        return Ok(pair);
-    }
-    let pair = found_apart(alloc, tables, body, plan, first, second, moves)?;
-    Ok(pair)
 }

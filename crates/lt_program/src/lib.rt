@@ -10,6 +10,7 @@ mod indexing;
 mod kept;
 mod part;
 mod reading;
+mod slicing;
 mod tally;
 
 pub use copying::copied;

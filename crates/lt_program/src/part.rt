@@ -3,6 +3,7 @@ ghost use Rattle.std.specs.Prelude.{◌≡◌, IfOk};
 
 use lt_face::items::RowList;
 use lt_face::memory::NoMemory;
+use lt_join::SharedSlices;
 use lt_sense::Sense;
 use std::alloc::Global;
 use std::marker::Model;
@@ -23,7 +24,10 @@ pub enum Outcome {
 #[derive(Drop)]
 pub struct Part {
     pub outcome: Outcome,
+    /// Of a statement kept by slices the root gaps alone.
     pub sense: Sense,
+    /// The slices of a statement kept by slices, ascending by their keys; of any other none.
+    pub slices: SharedSlices,
 }
 
 /// A part that several tallies may own. Contracts see it as the part.

@@ -6,16 +6,21 @@ ghost use Rattle.lt_face.specs.State.{rows_in};
 ghost use Rattle.lt_model.specs.Fits.{Fits, FitMarks};
 ghost use Rattle.lt_model.specs.Run.{run as run_of};
 ghost use Rattle.lt_base.specs.Tables.{state_of};
+ghost use Rattle.lt_query.specs.Lists.{IsRising};
 ghost use Rattle.lt_sense.specs.Sense.{AgreeWhereCovered};
+ghost use Rattle.lt_join.specs.Mended.{HaveTouched};
 ghost use Rattle.lt_program.specs.declared.part.Part.{Part as PartType};
 ghost use Rattle.lt_program.specs.Run.{AreReplied};
-ghost use Rattle.lt_program.specs.Tally.{HasIndexes, IsRun, IsOneMore, has_ended, is_refused, cost_of_first, cost_on, ends_at, run_of_first, state_before};
+ghost use Rattle.lt_program.specs.Tally.{HasIndexes, IsRun, IsOneMore, IsMendedPart, has_ended, is_refused, is_next_sliced as is_sliced_next, cost_of_first, cost_on, mending_on, ends_at, run_of_first, sense_of, state_before};
 
 use crate::course::Course;
 use crate::kept::marks_past;
 use crate::part::SharedPart;
+use crate::slicing::is_sliced;
 use lt_base::Database;
 use lt_delta::Marks;
+use lt_face::items::Items;
+use lt_face::key::Key;
 use lt_face::memory::NoMemory;
 use lt_face::moves::Moves;
 use lt_face::row::Row;
@@ -102,7 +107,7 @@ impl Tally {
         requires going { has_ended self.old ≡ false }
         requires program { old.now.program ≡ self.old.program }
         requires evaluated { length self.old.parts < length old.now.parts }
-        requires agree { (part : PartType) → slice_get old.now.parts (length self.old.parts) ≡ Some part → AgreeWhereCovered part.sense (state_before (length self.old.parts) old.now.program (state_of old.now.base)) (state_before (length self.old.parts) self.old.program (state_of self.old.base)) }
+        requires agree { (part : PartType) → slice_get old.now.parts (length self.old.parts) ≡ Some part → AgreeWhereCovered (sense_of part) (state_before (length self.old.parts) old.now.program (state_of old.now.base)) (state_before (length self.old.parts) self.old.program (state_of self.old.base)) }
         ensures one { OnOk result (IsOneMore self.old self.new) }
         ensures kept { OnOk result ((part : PartType) → slice_get old.now.parts (length self.old.parts) ≡ Some part → self.new.parts ≡ self.old.parts ++ part ∷ []) }
         ensures err { OnErr result (self.new ≡ self.old) }
@@ -112,6 +117,57 @@ impl Tally {
         let part = &old.parts()[number];
         self.course.keep(&self.base, number as u32 + 1, stmt, part)?;
         Ok(())
+    }
+
+    /// Does the next statement, which is kept by slices, by mending what another tally of the program kept of it. The keys
+    /// ascend, and have each that is touched between the states before the statement. Their slices are joined anew and the root
+    /// gaps cut there; all other slices are shared. Want of memory leaves the tally as it was. `moves` rises by at most what the
+    /// joins of the keys' slices may take, also then, and never falls.
+    pub fn mend<L>(
+        &mut self,
+        old: &Tally,
+        keys: &Items<Key>,
+        moves: &mut Moves<L>,
+    ) -> Result<(), NoMemory>
+        requires going { has_ended self.old ≡ false }
+        requires sliced { is_sliced_next self.old ≡ true }
+        requires program { old.now.program ≡ self.old.program }
+        requires evaluated { length self.old.parts < length old.now.parts }
+        requires keys { IsRising keys.now }
+        requires touched { (part : PartType) → slice_get old.now.parts (length self.old.parts) ≡ Some part → HaveTouched keys.now part.sense part.slices (state_before (length self.old.parts) old.now.program (state_of old.now.base)) (state_before (length self.old.parts) self.old.program (state_of self.old.base)) }
+        ensures one { OnOk result (IsOneMore self.old self.new) }
+        ensures mended { OnOk result ((part : PartType) → slice_get old.now.parts (length self.old.parts) ≡ Some part → (new : PartType) × (self.new.parts ≡ self.old.parts ++ new ∷ []) × IsMendedPart keys.now part new) }
+        ensures moves { moves.new ≤ moves.old + mending_on keys.now (slice_get self.old.program (length self.old.parts)) (state_before (length self.old.parts) self.old.program (state_of self.old.base)) }
+        ensures rises { moves.old ≤ moves.new }
+        ensures err { OnErr result (self.new ≡ self.old) }
+    {
+        let number = self.course.parts.len();
+        let stmt: &Stmt = &self.prog.statements()[number];
+        let route: &Route = &self.prog.routes()[number];
+        let kept = &old.parts()[number];
+        self.course.mend(
+            &self.base,
+            number as u32 + 1,
+            stmt,
+            route,
+            kept.part(),
+            keys,
+            moves,
+        )?;
+        Ok(())
+    }
+
+    /// Whether there is a next statement that is kept by slices.
+    pub fn is_next_sliced(&self) -> bool
+        ensures { result ≡ is_sliced_next self.now }
+    {
+        let number = self.course.parts.len();
+        let stmts = self.prog.statements();
+        if number < stmts.len() {
+            let stmt: &Stmt = &stmts[number];
+            return is_sliced(stmt);
+        }
+        false
     }
 
     /// Whether the state with the marks so far laid on it has the row.

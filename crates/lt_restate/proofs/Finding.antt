@@ -1,12 +1,12 @@
 -- The first of marked rows that a sense covers and on which two states differ.
-use Rattle.std.proofs.Common.{◌≡◌, ℕ, zero, suc, ◌+◌, ◌≤◌, Bool, true, false, ◌&&◌, List, [], ◌∷◌, ◌++◌, length, take, Option, Some, None, refl, sym, ap, ◌∙◌, inl, inr, subst, arith}
+use Rattle.std.proofs.Common.{◌≡◌, ℕ, zero, suc, ◌+◌, ◌≤◌, Bool, true, false, List, [], ◌∷◌, ◌++◌, length, take, Option, Some, None, refl, sym, ap, ◌∙◌, inl, inr, subst, arith}
 use mathlib.Core.Bool.{true≢false}
-use Rattle.std.specs.Prelude.{slice_get, ◌||◌, ◌==◌, if◌then◌else◌}
+use Rattle.std.specs.Prelude.{slice_get, ◌||◌, if◌then◌else◌}
 use Rattle.std.specs.List.{AllByRecursion}
 use Rattle.std.specs.Ordering.{is_lt}
 use Rattle.std.specs.declared.cmp.Ordering.{Ordering}
 use Rattle.std.specs.declared.cmp.Ordering.TheVariants.{Less, Equal, Greater}
-use Rattle.std.proofs.lemmas.Bool.{or_cases, and_parts, cases_Bool, eqb-true}
+use Rattle.std.proofs.lemmas.Bool.{or_cases, cases_Bool}
 use Rattle.std.proofs.lemmas.List.Folds.{list_any-append}
 use Rattle.lt_face.specs.Lists.{IsIn}
 use Rattle.lt_face.specs.State.{Row, State}
@@ -15,11 +15,10 @@ use Rattle.lt_model.specs.Marks.{Marks, AreMarks, mark_cmp}
 use Rattle.lt_delta.proofs.MarkOrder.{mark_total, mark_turned, mark_back, tied_row}
 use Rattle.lt_base.specs.Changed.{differ_on}
 use Rattle.lt_base.proofs.Apart.{differ, alike}
-use Rattle.lt_sense.specs.declared.covering.KeptGap.{KeptGap}
-use Rattle.lt_sense.specs.declared.covering.Hit.{Hit}
 use Rattle.lt_sense.specs.Kept.{Sense}
 use Rattle.lt_sense.specs.Sense.{covers, AgreeWhereCovered}
 use Rattle.lt_program.specs.declared.part.Part.{Part}
+use Rattle.lt_program.specs.Tally.{sense_of}
 use Rattle.lt_restate.specs.declared.changed.Found.{Found}
 use Rattle.lt_restate.specs.declared.touch.Touch.{Touch}
 use Rattle.lt_restate.specs.Found.{IsFoundAt, IsFirst, IsFoundIn, is_among, comes_before, earlier_of}
@@ -49,14 +48,14 @@ below_before (x ∷ marks) zero m n up at there less =
 below_before (x ∷ marks) (suc i) m n up at there less =
     elim there [ inl same ↦ inl same | inr k ↦ inr (below_before marks i m n up.1 at k less) ]
 
-taken_more : (marks : Marks) (i : ℕ) (m : Mark) → slice_get marks i ≡ Some m → take (i + 1) marks ≡ take i marks ++ m ∷ []
+pub taken_more : (marks : Marks) (i : ℕ) (m : Mark) → slice_get marks i ≡ Some m → take (i + 1) marks ≡ take i marks ++ m ∷ []
 taken_more [] i m h = absurd cc
 taken_more (n ∷ marks) zero m h = (let e : n ≡ m = cc in ap (λ (x : Mark). x ∷ []) e)
 taken_more (n ∷ marks) (suc i) m h =
     let e : suc i + 1 ≡ suc (i + 1) = omega arith in
     ap (λ k. take k (n ∷ marks)) e ∙ ap (λ (l : Marks). n ∷ l) (taken_more marks i m h)
 
-taken_whole : (marks : Marks) (n : ℕ) → length marks ≤ n → take n marks ≡ marks
+pub taken_whole : (marks : Marks) (n : ℕ) → length marks ≤ n → take n marks ≡ marks
 taken_whole [] zero le = refl
 taken_whole [] (suc n) le = refl
 taken_whole (m ∷ marks) zero le = absurd (omega arith)
@@ -112,7 +111,7 @@ is_less Equal h = absurd (true≢false (sym h))
 is_less Greater h = absurd (true≢false (sym h))
 
 -- what comes before one comes before another that isn't before it
-before_other : (z : ℕ × Row) (a b : Found) → comes_before b a ≡ false → change_cmp z (a.relation, a.row) ≡ Less → change_cmp z (b.relation, b.row) ≡ Less
+pub before_other : (z : ℕ × Row) (a b : Found) → comes_before b a ≡ false → change_cmp z (a.relation, a.row) ≡ Less → change_cmp z (b.relation, b.row) ≡ Less
 unfolding key row_at
 before_other z a b off less = go (mark_cmp (key b) (key a)) refl
   where
@@ -123,7 +122,7 @@ before_other z a b off less = go (mark_cmp (key b) (key a)) refl
         ap (λ n. change_cmp z (n, b.row)) tied.0 ∙ ap (λ (r : Row). change_cmp z (a.relation, r)) tied.1 ∙ less
     go Greater e = mark_total.trans (row_at z) (key a) (key b) less (mark_back (key b) (key a) e)
 
-before_first : (z : ℕ × Row) (a b : Found) → comes_before b a ≡ true → change_cmp z (b.relation, b.row) ≡ Less → change_cmp z (a.relation, a.row) ≡ Less
+pub before_first : (z : ℕ × Row) (a b : Found) → comes_before b a ≡ true → change_cmp z (b.relation, b.row) ≡ Less → change_cmp z (a.relation, a.row) ≡ Less
 unfolding key row_at
 before_first z a b on less = mark_total.trans (row_at z) (key b) (key a) less (is_less (mark_cmp (key b) (key a)) on)
 
@@ -183,7 +182,7 @@ module _ (s t : State) (lists : List Marks) (all : (relation : ℕ) (row : Row) 
         | inr e ↦ alike s t relation row e
       ]
 
-  pub first_touches : (j : ℕ) (part : Part) (found : Found) (touch : Touch) → IsFirst part.sense s t lists found → touch ≡ record { statement = j + 1; relation = found.relation; row = found.row; spot = found.spot } → IsTouchOn j part s t touch
+  pub first_touches : (j : ℕ) (part : Part) (found : Found) (touch : Touch) → IsFirst (sense_of part) s t lists found → touch ≡ record { statement = j + 1; relation = found.relation; row = found.row; spot = found.spot } → IsTouchOn j part s t touch
   first_touches j part found touch is made = subst (IsTouchOn j part s t) (sym made) (record {
     numbered = refl;
     changed = λ agree. differ s t found.relation found.row is.differs agree;
@@ -195,14 +194,3 @@ module _ (s t : State) (lists : List Marks) (all : (relation : ℕ) (row : Row) 
           | inr e ↦ alike s t relation row e
         ];
   })
-
--- a sense of nothing covers nothing
-nothing_covered : (gaps : List KeptGap) (hits : List Hit) (relation : ℕ) (row : Row) → (length gaps == 0 && length hits == 0) ≡ true → covers (record { gaps = gaps; hits = hits }) relation row ≡ true → ⊥
-nothing_covered [] [] relation row h covered = true≢false (sym covered)
-nothing_covered [] (x ∷ hits) relation row h covered =
-    let e = eqb-true (length (x ∷ hits)) 0 (and_parts (0 == 0) (length (x ∷ hits) == 0) h).1 in omega arith
-nothing_covered (x ∷ gaps) hits relation row h covered =
-    let e = eqb-true (length (x ∷ gaps)) 0 (and_parts (length (x ∷ gaps) == 0) (length hits == 0) h).0 in omega arith
-
-pub nothing_touches : (sense : Sense) (s t : State) → (length sense.gaps == 0 && length sense.hits == 0) ≡ true → AgreeWhereCovered sense s t
-nothing_touches sense s t h relation row covered = absurd (nothing_covered sense.gaps sense.hits relation row h covered)

@@ -9,11 +9,11 @@ use Rattle.lt_base.specs.Tables.{Table, state_of}
 use Rattle.lt_base.proofs.Apart.{differ}
 use Rattle.lt_sense.specs.Sense.{AgreeWhereCovered}
 use Rattle.lt_program.specs.declared.part.Part.{Part}
-use Rattle.lt_program.specs.Tally.{TallyView, IsRun, IsOneMore, run_of_first}
+use Rattle.lt_program.specs.Tally.{TallyView, IsRun, IsOneMore, run_of_first, sense_of}
 use Rattle.lt_program.proofs.TallyCosts.{one_longer}
 use Rattle.lt_restate.specs.declared.touch.Touch.{Touch}
 use Rattle.lt_restate.specs.declared.walk.Walk.{Walk}
-use Rattle.lt_restate.specs.Touches.{IsTouchOn, AreTouches, before}
+use Rattle.lt_restate.specs.Touches.{IsTouchOn, AreMendedAt, AreTouches, before}
 use Rattle.lt_restate.specs.Walked.{is_named, IsUnderWay}
 use Rattle.lt_restate.proofs.Touching.{touches_begun, touches_first, touches_kept, touches_again}
 
@@ -72,10 +72,10 @@ module _ (old t new : TallyView) (old_on new_on : Marks) (walk : Walk) (h : IsUn
     touches = are;
   })
 
-  pub way_again : (part : Part) (touch : Touch) (past : Marks) (after : Walk) → slice_get old.parts (length t.parts) ≡ Some part → IsTouchOn (length t.parts) part (before (length t.parts) old) (before (length t.parts) t) touch
+  pub way_again : (part : Part) (touch : Touch) (past : Marks) (after : Walk) → slice_get old.parts (length t.parts) ≡ Some part → IsTouchOn (length t.parts) part (before (length t.parts) old) (before (length t.parts) t) touch → AreMendedAt old new (length t.parts)
       → past ≡ (run_of_first (length t.parts + 1) old.program (state_of old.base)).1 → FitMarks (state_of old.base) past → after ≡ record { past = past; touches = walk.touches ++ touch ∷ [] } → IsUnderWay old new old_on new_on after
-  way_again part touch past after at is past_is fit made = went past (walk.touches ++ touch ∷ []) after past_is fit (touches_again old t new one walk.touches h.touches part touch at is) made
+  way_again part touch past after at is mend past_is fit made = went past (walk.touches ++ touch ∷ []) after past_is fit (touches_again old t new one walk.touches h.touches part touch at is mend) made
 
-  pub way_kept : (part : Part) (past : Marks) (after : Walk) → slice_get old.parts (length t.parts) ≡ Some part → new.parts ≡ t.parts ++ part ∷ [] → AgreeWhereCovered part.sense (before (length t.parts) old) (before (length t.parts) t)
+  pub way_kept : (part : Part) (past : Marks) (after : Walk) → slice_get old.parts (length t.parts) ≡ Some part → new.parts ≡ t.parts ++ part ∷ [] → AgreeWhereCovered (sense_of part) (before (length t.parts) old) (before (length t.parts) t)
       → past ≡ (run_of_first (length t.parts + 1) old.program (state_of old.base)).1 → FitMarks (state_of old.base) past → after ≡ record { past = past; touches = walk.touches } → IsUnderWay old new old_on new_on after
   way_kept part past after at grown agree past_is fit made = went past walk.touches after past_is fit (touches_kept old t new one walk.touches h.touches part at agree grown) made

@@ -1,5 +1,5 @@
 -- The first of marked rows that a sense covers and on which two states differ.
-use Rattle.std.specs.Prelude.{◌≡◌, ℕ, Bool, true, false, ◌&&◌, ◌==◌, if◌then◌else◌, List, length, Option, Some, None}
+use Rattle.std.specs.Prelude.{◌≡◌, ℕ, Bool, true, false, ◌&&◌, ◌==◌, if◌then◌else◌, List, length, map, filter, Option, Some, None}
 use Rattle.std.specs.List.{list_any}
 use Rattle.std.specs.Ordering.{is_lt}
 use Rattle.std.specs.declared.cmp.Ordering.TheVariants.{Less}
@@ -10,6 +10,7 @@ use Rattle.lt_base.specs.Changed.{differ_on}
 use Rattle.lt_sense.specs.Kept.{Sense}
 use Rattle.lt_sense.specs.Sense.{covers}
 use Rattle.lt_sense.specs.Spots.{IsSpotOf}
+use Rattle.lt_program.specs.declared.part.Part.{Part}
 use Rattle.lt_restate.specs.declared.changed.Found.{Found}
 use Rattle.lt_restate.specs.Touches.{change_cmp}
 use Rattle.lt_restate.specs.Walked.{is_named}
@@ -46,6 +47,10 @@ earlier_of None other = other
 earlier_of (Some one) None = Some one
 earlier_of (Some one) (Some other) = if comes_before other one then Some other else Some one
 
--- whether the sense has no gap and no hit
-abbrev pub senses_nothing : Sense → Bool
-senses_nothing sense = length sense.gaps == 0 && length sense.hits == 0
+-- whether the part has no gap, no hit and no slice
+abbrev pub senses_nothing : Part → Bool
+senses_nothing part = (length part.sense.gaps == 0 && length part.sense.hits == 0) && length part.slices == 0
+
+-- the rows of the marks on which the states differ
+abbrev pub changed_among : State → State → Marks → List (ℕ × Row)
+changed_among s t marks = map (λ (m : Mark). (m.relation, m.row)) (filter (λ (m : Mark). differ_on s t m.relation m.row) marks)

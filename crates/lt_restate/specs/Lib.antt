@@ -1,3 +1,4 @@
+pub mod Changes
 pub mod Found
 pub mod Looked
 pub mod Touches

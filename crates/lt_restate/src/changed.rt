@@ -1,13 +1,14 @@
 //! The changed rows before a statement, and what touches it.
-ghost use Rattle.std.specs.Prelude.{◌≡◌, ◌<◌, ◌⊎◌, ℕ, [], ◌∷◌, true, false, map, length, IfOk, IfSome, IfNone};
+ghost use Rattle.std.specs.Prelude.{◌≡◌, ◌<◌, ◌⊎◌, ℕ, [], ◌∷◌, true, false, map, length, IfOk, IfSome, IfNone, OnOk};
 ghost use Rattle.lt_face.specs.Limits.{most_statements};
 ghost use Rattle.lt_face.specs.State.{Row as RowView, AgreeOn};
 ghost use Rattle.lt_model.specs.Fits.{FitMarks};
 ghost use Rattle.lt_model.specs.Marks.{and_then, laid};
+ghost use Rattle.lt_join.specs.Sliced.{united};
 ghost use Rattle.lt_sense.specs.Sense.{covers, AgreeWhereCovered};
 ghost use Rattle.lt_base.specs.Tables.{state_of};
 ghost use Rattle.lt_base.specs.Changed.{differ_on};
-ghost use Rattle.lt_program.specs.Tally.{state_before};
+ghost use Rattle.lt_program.specs.Tally.{state_before, sense_of};
 ghost use Rattle.lt_restate.specs.Found.{IsFoundAt, IsFoundIn, comes_before, earlier_of, senses_nothing};
 ghost use Rattle.lt_restate.specs.Touches.{IsTouchOn};
 ghost use Rattle.lt_restate.specs.Walked.{is_named, mark_of};
@@ -18,8 +19,9 @@ use lt_delta::Marks;
 use lt_face::items::{Changes, Items};
 use lt_face::memory::NoMemory;
 use lt_face::row::Row;
+use lt_join::{SharedSlice, spot_in};
 use lt_model::mark::Mark;
-use lt_program::{SharedPart, Tally};
+use lt_program::{Part, SharedPart, Tally};
 use lt_sense::{Sense, Spot};
 use std::alloc::Global;
 use std::cmp::Ordering;
@@ -61,19 +63,20 @@ pub(crate) fn is_changed(old: &Tally, past: &Marks, new: &Tally, relation: u32, 
     }
 }
 
-/// The mark's row, where the sense covers it and it changed. What isn't covered isn't looked up in the states.
+/// The mark's row, where the root gaps or a slice cover it and it changed. What isn't covered isn't looked up in the states.
 pub(crate) fn found_at(
     old: &Tally,
     past: &Marks,
     new: &Tally,
-    sense: &Sense,
+    root: &Sense,
+    slices: &[SharedSlice],
     mark: &Mark,
 ) -> Option<Found>
     requires { FitMarks (state_of old.now.base) past.now }
-    ensures none { IfNone result (covers sense.now mark.now.relation mark.now.row ≡ true → differ_on (laid (state_of old.now.base) past.now) (state_before (length new.now.parts) new.now.program (state_of new.now.base)) mark.now.relation mark.now.row ≡ false) }
-    ensures some { IfSome result (IsFoundAt sense.now (laid (state_of old.now.base) past.now) (state_before (length new.now.parts) new.now.program (state_of new.now.base)) mark.now) }
+    ensures none { IfNone result (covers (united root.now slices.now) mark.now.relation mark.now.row ≡ true → differ_on (laid (state_of old.now.base) past.now) (state_before (length new.now.parts) new.now.program (state_of new.now.base)) mark.now.relation mark.now.row ≡ false) }
+    ensures some { IfSome result (IsFoundAt (united root.now slices.now) (laid (state_of old.now.base) past.now) (state_before (length new.now.parts) new.now.program (state_of new.now.base)) mark.now) }
 {
-    match sense.spot(mark.relation, &mark.row) {
+    match spot_in(root, slices, mark.relation, &mark.row) {
         None => None,
         Some(spot) => {
             if is_changed(old, past, new, mark.relation, &mark.row) {
@@ -89,13 +92,15 @@ pub(crate) fn found_at(
     }
 }
 
-/// The first of the marked rows that the sense covers and that changed.
-fn first_in(old: &Tally, past: &Marks, new: &Tally, sense: &Sense, marks: &Marks) -> Option<Found>
+/// The first of the marked rows that the part's sense covers and that changed.
+fn first_in(old: &Tally, past: &Marks, new: &Tally, part: &Part, marks: &Marks) -> Option<Found>
     requires { FitMarks (state_of old.now.base) past.now }
-    ensures { IsFoundIn sense.now (laid (state_of old.now.base) past.now) (state_before (length new.now.parts) new.now.program (state_of new.now.base)) (marks.now ∷ []) result }
+    ensures { IsFoundIn (sense_of part.now) (laid (state_of old.now.base) past.now) (state_before (length new.now.parts) new.now.program (state_of new.now.base)) (marks.now ∷ []) result }
 {
+    let slices = part.slices.as_slice();
     for i in 0..marks.len() {
-        if let Some(found) = found_at(old, past, new, sense, marks.mark(i)) {
+        let mark = marks.mark(i);
+        if let Some(found) = found_at(old, past, new, &part.sense, slices, mark) {
             return Some(found);
         }
     }
@@ -126,27 +131,27 @@ fn earlier(one: Option<Found>, other: Option<Found>) -> Option<Found>
     }
 }
 
-/// The first changed row that the sense covers, by a look at each mark. Each row on which the bases differ is marked in one of
-/// these lists; other rows can have changed only where one of the runs marked them.
+/// The first changed row that the part's sense covers, by a look at each mark. Each row on which the bases differ is marked in
+/// one of these lists; other rows can have changed only where one of the runs marked them.
 fn first_by_marks(
     old: &Tally,
     past: &Marks,
     new: &Tally,
     old_on: &Marks,
     new_on: &Marks,
-    sense: &Sense,
+    part: &Part,
 ) -> Option<Found>
     requires { FitMarks (state_of old.now.base) past.now }
-    ensures { IsFoundIn sense.now (laid (state_of old.now.base) past.now) (state_before (length new.now.parts) new.now.program (state_of new.now.base)) (old_on.now ∷ new_on.now ∷ past.now ∷ new.now.marks ∷ []) result }
+    ensures { IsFoundIn (sense_of part.now) (laid (state_of old.now.base) past.now) (state_before (length new.now.parts) new.now.program (state_of new.now.base)) (old_on.now ∷ new_on.now ∷ past.now ∷ new.now.marks ∷ []) result }
 {
-    let of_old = first_in(old, past, new, sense, old_on);
-    let of_new = first_in(old, past, new, sense, new_on);
-    let by_old = first_in(old, past, new, sense, past);
-    let by_new = first_in(old, past, new, sense, new.marks());
+    let of_old = first_in(old, past, new, part, old_on);
+    let of_new = first_in(old, past, new, part, new_on);
+    let by_old = first_in(old, past, new, part, past);
+    let by_new = first_in(old, past, new, part, new.marks());
     earlier(earlier(of_old, of_new), earlier(by_old, by_new))
 }
 
-/// The same, by a search for each gap and each hit.
+/// The first changed row that the sense covers, by a search for each gap and each hit.
 fn first_by_sense(
     old: &Tally,
     past: &Marks,
@@ -167,32 +172,69 @@ fn first_by_sense(
     Ok(earlier(earlier(of_old, of_new), earlier(by_old, by_new)))
 }
 
-/// The same: where the sense has less than a list of marks, it is looked up in the marks, else they are in the sense.
+/// The same of a part: the first of what its root gaps and its slices cover.
+fn first_by_part(
+    old: &Tally,
+    past: &Marks,
+    new: &Tally,
+    old_on: &Marks,
+    new_on: &Marks,
+    part: &Part,
+) -> Result<Option<Found>, NoMemory>
+    requires { FitMarks (state_of old.now.base) past.now }
+    ensures { IfOk result (IsFoundIn (sense_of part.now) (laid (state_of old.now.base) past.now) (state_before (length new.now.parts) new.now.program (state_of new.now.base)) (old_on.now ∷ new_on.now ∷ past.now ∷ new.now.marks ∷ [])) }
+{
+    let mut first = first_by_sense(old, past, new, old_on, new_on, &part.sense)?;
+    let slices = part.slices.as_slice();
+    for i in 0..slices.len() {
+        let slice = slices[i].slice();
+        let found = first_by_sense(old, past, new, old_on, new_on, &slice.sense)?;
+        first = earlier(first, found);
+    }
+    Ok(first)
+}
+
+/// How many gaps and hits the sense has.
+fn sense_size(sense: &Sense) -> usize {
+    sense.gap_count().saturating_add(sense.hit_count())
+}
+
+/// How many gaps and hits the part's sense has.
+fn part_size(part: &Part) -> usize {
+    let mut size = sense_size(&part.sense);
+    for shared in part.slices.as_slice() {
+        size = size.saturating_add(sense_size(&shared.slice().sense));
+    }
+    size
+}
+
+/// The first changed row that the part's sense covers: where it has less than a list of marks, it is looked up in the marks, else
+/// they are in it.
 fn first_changed(
     old: &Tally,
     past: &Marks,
     new: &Tally,
     old_on: &Marks,
     new_on: &Marks,
-    sense: &Sense,
+    part: &Part,
 ) -> Result<Option<Found>, NoMemory>
     requires { FitMarks (state_of old.now.base) past.now }
-    ensures { IfOk result (IsFoundIn sense.now (laid (state_of old.now.base) past.now) (state_before (length new.now.parts) new.now.program (state_of new.now.base)) (old_on.now ∷ new_on.now ∷ past.now ∷ new.now.marks ∷ [])) }
+    ensures { IfOk result (IsFoundIn (sense_of part.now) (laid (state_of old.now.base) past.now) (state_before (length new.now.parts) new.now.program (state_of new.now.base)) (old_on.now ∷ new_on.now ∷ past.now ∷ new.now.marks ∷ [])) }
 {
-    let size = sense.gap_count().saturating_add(sense.hit_count());
+    let size = part_size(part);
     if size < old_on.len() || size < new_on.len() {
-        let found = first_by_sense(old, past, new, old_on, new_on, sense)?;
+        let found = first_by_part(old, past, new, old_on, new_on, part)?;
         Ok(found)
     } else {
-        Ok(first_by_marks(old, past, new, old_on, new_on, sense))
+        Ok(first_by_marks(old, past, new, old_on, new_on, part))
     }
 }
 
-/// Whether the sense has no gap and no hit.
-fn is_insensitive(sense: &Sense) -> bool
-    ensures { result ≡ senses_nothing sense.now }
+/// Whether the part has no gap, no hit and no slice.
+fn is_insensitive(part: &Part) -> bool
+    ensures { result ≡ senses_nothing part.now }
 {
-    sense.gap_count() == 0 && sense.hit_count() == 0
+    part.sense.gap_count() == 0 && part.sense.hit_count() == 0 && part.slices.len() == 0
 }
 
 /// What touches the next statement, whose old part this is. No move is made.
@@ -207,15 +249,15 @@ pub(crate) fn touch_of(
     requires fits { FitMarks (state_of old.now.base) past.now }
     requires few { length new.now.parts < most_statements }
     requires bases { (relation : ℕ) (row : RowView) → differ_on (state_of old.now.base) (state_of new.now.base) relation row ≡ true → (is_named old_on.now relation row ≡ true) ⊎ (is_named new_on.now relation row ≡ true) }
-    ensures none { IfOk result (λ found. IfNone found (AgreeWhereCovered part.now.sense (laid (state_of old.now.base) past.now) (state_before (length new.now.parts) new.now.program (state_of new.now.base)))) }
+    ensures none { IfOk result (λ found. IfNone found (AgreeWhereCovered (sense_of part.now) (laid (state_of old.now.base) past.now) (state_before (length new.now.parts) new.now.program (state_of new.now.base)))) }
     ensures some { IfOk result (λ found. IfSome found (IsTouchOn (length new.now.parts) part.now (laid (state_of old.now.base) past.now) (state_before (length new.now.parts) new.now.program (state_of new.now.base)))) }
 {
-    let sense = &part.part().sense;
-    if is_insensitive(sense) {
+    let kept = part.part();
+    if is_insensitive(kept) {
         return Ok(None);
     }
     let _marks = new.marks();
-    let first = first_changed(old, past, new, old_on, new_on, sense)?;
+    let first = first_changed(old, past, new, old_on, new_on, kept)?;
     match first {
         None => Ok(None),
         Some(found) => {

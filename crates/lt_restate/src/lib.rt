@@ -6,6 +6,7 @@ mod changed;
 mod looking;
 mod restating;
 mod touch;
+mod touched;
 mod walk;
 
 pub use restating::{restate, restate_marks};

@@ -199,5 +199,5 @@ pub(crate) fn looked_up(
     if place >= count {
         return None;
     }
-    found_at(old, past, new, sense, marks.mark(place))
+    found_at(old, past, new, sense, &[], marks.mark(place))
 }

@@ -7,19 +7,20 @@ ghost use Rattle.lt_model.specs.Fits.{Fits};
 ghost use Rattle.lt_base.specs.Tables.{state_of};
 ghost use Rattle.lt_sense.specs.Sense.{AgreeWhereCovered};
 ghost use Rattle.lt_program.specs.declared.part.Part.{Part as PartType};
-ghost use Rattle.lt_program.specs.Tally.{HasIndexes, IsOneMore, ends_at, has_ended};
+ghost use Rattle.lt_program.specs.Tally.{HasIndexes, IsOneMore, ends_at, has_ended, sense_of, is_next_sliced};
 ghost use Rattle.lt_restate.specs.Touches.{IsTouchOn, IsRestatement, before, cost_again, cost_at};
 ghost use Rattle.lt_restate.specs.Walked.{IsUnderWay, is_named};
 
 use crate::changed::{named_rows, touch_of};
 use crate::touch::{Touch, Touches};
+use crate::touched::keys_touched;
 use crate::walk::Walk;
 use lt_base::Database;
 use lt_delta::Marks;
 use lt_face::items::{Changes, Items};
 use lt_face::memory::NoMemory;
 use lt_face::moves::Moves;
-use lt_program::Tally;
+use lt_program::{SharedPart, Tally};
 use std::alloc::Global;
 
 /// Before the first statement.
@@ -56,7 +57,7 @@ fn keep_next(
     requires going { has_ended new.old ≡ false }
     requires under_way { IsUnderWay old.now new.old _old_on.now _new_on.now walk.old }
     requires below { length new.old.parts < length old.now.parts }
-    requires agree { (part : PartType) → slice_get old.now.parts (length new.old.parts) ≡ Some part → AgreeWhereCovered part.sense (before (length new.old.parts) old.now) (before (length new.old.parts) new.old) }
+    requires agree { (part : PartType) → slice_get old.now.parts (length new.old.parts) ≡ Some part → AgreeWhereCovered (sense_of part) (before (length new.old.parts) old.now) (before (length new.old.parts) new.old) }
     ensures under_way { OnOk result (IsUnderWay old.now new.new _old_on.now _new_on.now walk.new) }
     ensures one { OnOk result (IsOneMore new.old new.new) }
     ensures touches { OnOk result (walk.new.touches ≡ walk.old.touches) }
@@ -68,19 +69,22 @@ fn keep_next(
     Ok(())
 }
 
-/// The next statement, which this touches, evaluated again.
-fn evaluate_again<L>(
+/// The next statement, which this touches, evaluated as a whole.
+fn evaluate_whole<L>(
     old: &Tally,
     new: &mut Tally,
     _old_on: &Marks,
     _new_on: &Marks,
     walk: &mut Walk,
+    _part: &SharedPart,
     touch: Touch,
     moves: &mut Moves<L>,
 ) -> Result<(), NoMemory>
     requires going { has_ended new.old ≡ false }
     requires under_way { IsUnderWay old.now new.old _old_on.now _new_on.now walk.old }
-    requires touch { (part : PartType) × (slice_get old.now.parts (length new.old.parts) ≡ Some part) × IsTouchOn (length new.old.parts) part (before (length new.old.parts) old.now) (before (length new.old.parts) new.old) touch }
+    requires part { slice_get old.now.parts (length new.old.parts) ≡ Some _part.now }
+    requires touch { IsTouchOn (length new.old.parts) _part.now (before (length new.old.parts) old.now) (before (length new.old.parts) new.old) touch }
+    requires whole { is_next_sliced new.old ≡ false }
     ensures under_way { OnOk result (IsUnderWay old.now new.new _old_on.now _new_on.now walk.new) }
     ensures one { OnOk result (IsOneMore new.old new.new) }
     ensures touches { OnOk result (walk.new.touches ≡ walk.old.touches ++ touch ∷ []) }
@@ -93,6 +97,67 @@ fn evaluate_again<L>(
     walk.touches.push(touch)?;
     walk.past = past;
     Ok(())
+}
+
+/// The next statement, which this touches and which is kept by slices: the slices of the touched keys are joined again.
+fn mend_next<L>(
+    old: &Tally,
+    new: &mut Tally,
+    old_on: &Marks,
+    new_on: &Marks,
+    walk: &mut Walk,
+    part: &SharedPart,
+    touch: Touch,
+    moves: &mut Moves<L>,
+) -> Result<(), NoMemory>
+    requires going { has_ended new.old ≡ false }
+    requires under_way { IsUnderWay old.now new.old old_on.now new_on.now walk.old }
+    requires part { slice_get old.now.parts (length new.old.parts) ≡ Some part.now }
+    requires touch { IsTouchOn (length new.old.parts) part.now (before (length new.old.parts) old.now) (before (length new.old.parts) new.old) touch }
+    requires sliced { is_next_sliced new.old ≡ true }
+    ensures under_way { OnOk result (IsUnderWay old.now new.new old_on.now new_on.now walk.new) }
+    ensures one { OnOk result (IsOneMore new.old new.new) }
+    ensures touches { OnOk result (walk.new.touches ≡ walk.old.touches ++ touch ∷ []) }
+    ensures moves { moves.new ≤ moves.old + cost_at old.now (state_of new.old.base) (length new.old.parts) }
+    ensures rises { moves.old ≤ moves.new }
+{
+    let place = new.evaluated();
+    let past = old.marks_after(place, &walk.past)?;
+    let keys = keys_touched(old, &walk.past, new, old_on, new_on, part.part())?;
+    new.mend(old, &keys, moves)?;
+    walk.touches.push(touch)?;
+    walk.past = past;
+    Ok(())
+}
+
+/// The next statement, which this touches.
+fn evaluate_again<L>(
+    old: &Tally,
+    new: &mut Tally,
+    old_on: &Marks,
+    new_on: &Marks,
+    walk: &mut Walk,
+    part: &SharedPart,
+    touch: Touch,
+    moves: &mut Moves<L>,
+) -> Result<(), NoMemory>
+    requires going { has_ended new.old ≡ false }
+    requires under_way { IsUnderWay old.now new.old old_on.now new_on.now walk.old }
+    requires part { slice_get old.now.parts (length new.old.parts) ≡ Some part.now }
+    requires touch { IsTouchOn (length new.old.parts) part.now (before (length new.old.parts) old.now) (before (length new.old.parts) new.old) touch }
+    ensures under_way { OnOk result (IsUnderWay old.now new.new old_on.now new_on.now walk.new) }
+    ensures one { OnOk result (IsOneMore new.old new.new) }
+    ensures touches { OnOk result (walk.new.touches ≡ walk.old.touches ++ touch ∷ []) }
+    ensures moves { moves.new ≤ moves.old + cost_at old.now (state_of new.old.base) (length new.old.parts) }
+    ensures rises { moves.old ≤ moves.new }
+{
+    if new.is_next_sliced() {
+        mend_next(old, new, old_on, new_on, walk, part, touch, moves)?;
+        Ok(())
+    } else {
+        evaluate_whole(old, new, old_on, new_on, walk, part, touch, moves)?;
+        Ok(())
+    }
 }
 
 /// The next statement.
@@ -126,7 +191,7 @@ fn step<L>(
             Ok(())
         }
         Some(touch) => {
-            evaluate_again(old, new, old_on, new_on, walk, touch, moves)?;
+            evaluate_again(old, new, old_on, new_on, walk, part, touch, moves)?;
             Ok(())
         }
     }
@@ -135,9 +200,9 @@ fn step<L>(
 /// The run of the old tally's program on another state, which has the indexes that the program needs. Each row on which the old
 /// tally's base and that state don't agree has a mark, of whatever sign, in one of two lists: where both are one snapshot with
 /// marks laid on it, those marks. A statement that the old tally evaluated is evaluated again only where a row that its old sense
-/// covers changed, as its touch tells; one that the old tally didn't reach is evaluated for the first time; the others keep their
-/// parts. `moves` rises by at most what the joins of the statements evaluated may take, also where memory is refused, and never
-/// falls.
+/// covers changed, as its touch tells: of one that is kept by slices the slices of the touched keys are joined again, and any
+/// other is evaluated as a whole. One that the old tally didn't reach is evaluated for the first time; the others keep their
+/// parts. `moves` rises by at most what these joins may take, also where memory is refused, and never falls.
 pub fn restate_marks<L>(
     old: &Tally,
     next: &Database,

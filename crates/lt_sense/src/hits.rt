@@ -86,7 +86,7 @@ impl Store {
     }
 
     /// Whether the hits are in order.
-    fn are_hits_ordered(&self, hits: &[Met]) -> bool
+    pub(crate) fn are_hits_ordered(&self, hits: &[Met]) -> bool
         requires { AllByRecursion (IsKeptHit self.now.cells.items) hits.now }
         ensures ordered { result ≡ true → AreInOrder IsHitBefore (hits_in self.now hits.now) }
         ensures several { result ≡ false → 2 ≤ length hits.now }

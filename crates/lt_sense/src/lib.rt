@@ -3,6 +3,7 @@
 
 mod counted;
 mod covering;
+mod cutting;
 mod gathering;
 mod hits;
 mod order;

@@ -5,7 +5,7 @@ ghost use Rattle.std.specs.Ordering.{is_gt};
 ghost use Rattle.lt_sense.specs.declared.covering.KeptGap.{KeptGap as KeptGapView};
 ghost use Rattle.lt_sense.specs.Sense.{gap_covers, hit_covers};
 ghost use Rattle.lt_sense.specs.Stored.{stored_gap, sense_of, IsSound};
-ghost use Rattle.lt_sense.specs.Ordered.{gap_cmp, IsGapBefore, IsHitBefore, AreInOrder, IsSealedOf, gaps_in, IsKeptGap, AreUpTo, joins as is_to_join, IsPut};
+ghost use Rattle.lt_sense.specs.Ordered.{gap_cmp, IsGapBefore, IsHitBefore, AreInOrder, IsSealed, IsSealedOf, gaps_in, IsKeptGap, AreUpTo, joins as is_to_join, IsPut};
 
 use crate::store::{Passed, Store};
 use lt_face::key::Key;
@@ -171,6 +171,14 @@ impl Store {
         let other = self.sealed_gaps(right)?;
         let out = self.merged_gaps(&one, &other)?;
         Ok(out)
+    }
+
+    /// Whether gaps and hits are in order.
+    pub(crate) fn is_ordered(&self) -> bool
+        requires { IsSound self.now }
+        ensures { result ≡ true → IsSealed (sense_of self.now) }
+    {
+        self.are_gaps_ordered(&self.gaps) && self.are_hits_ordered(&self.hits)
     }
 
     /// Puts gaps and hits in order. Want of memory leaves all as it was.

@@ -1,5 +1,5 @@
 //! The sense of an evaluation.
-ghost use Rattle.std.specs.Prelude.{◌≡◌, ℕ, ◌<◌, ◌≤◌, ◌+◌, ◌*◌, ◌^◌, ◌∷◌, ◌++◌, [], length, IfOk, OnOk, OnErr, IfSome, IfNone, is_some, true};
+ghost use Rattle.std.specs.Prelude.{◌≡◌, ℕ, ◌<◌, ◌≤◌, ◌+◌, ◌*◌, ◌^◌, ◌∷◌, ◌++◌, [], length, filter, IfOk, OnOk, OnErr, IfSome, IfNone, is_some, true};
 ghost use Rattle.std.specs.List.{list_any};
 ghost use Rattle.lt_face.specs.Limits.{most_columns};
 
@@ -37,8 +37,9 @@ impl Sense {
     ghost use Rattle.lt_face.specs.Lists.{IsIn};
     ghost use Rattle.lt_face.specs.State.{Row as RowView, State};
     ghost use Rattle.lt_sense.specs.Sense.{covers, gap_covers, hit_covers, IsTight};
+    ghost use Rattle.lt_sense.specs.Cut.{cut};
     ghost use Rattle.lt_sense.specs.Gathered.{gathered};
-    ghost use Rattle.lt_sense.specs.Ordered.{IsSealed, AreNarrow, orders_of};
+    ghost use Rattle.lt_sense.specs.Ordered.{AreInOrder, IsSealed, AreNarrow, orders_of};
     ghost use Rattle.lt_sense.specs.Spots.{IsSpotOf, AreUncovered, IsFirstCovered};
 
     /// Sensitive to nothing.
@@ -120,7 +121,33 @@ impl Sense {
         Ok(())
     }
 
-    /// Whether nothing was added since gaps and hits were put in order.
+    /// The gaps cut at the cells, which ascend, and without what is left empty; no hits.
+    pub fn cut(&self, cells: &[Key]) -> Result<Sense, NoMemory>
+        requires { AreInOrder (λ a b. a < b) cells.now }
+        ensures { IfOk result (λ sense. sense ≡ cut cells.now self.now) }
+    {
+        let store = self.store.cut(cells)?;
+        let sealed = store.is_ordered();
+        Ok(Sense { store, sealed })
+    }
+
+    /// The gaps that cover the row, in the order in which they were added.
+    pub fn gaps_with(&self, relation: u32, row: &Row) -> Result<Items<KeptGap>, NoMemory>
+        ensures { IfOk result (λ gaps. gaps ≡ filter (λ gap. gap_covers gap relation row.now) self.now.gaps) }
+    {
+        let gaps = self.store.gaps_with(relation, row)?;
+        Ok(Items::from_vec(gaps))
+    }
+
+    /// Looks whether gaps and hits stand in order as they were added; then rows are searched for among them.
+    pub fn note_order(&mut self)
+        ensures { self.new ≡ self.old }
+    {
+        let ordered = self.store.is_ordered();
+        self.sealed = ordered;
+    }
+
+    /// Whether gaps and hits are known to stand in order: they were put so, or found so, and nothing was added since.
     pub fn is_sealed(&self) -> bool
         ensures { result ≡ true → IsSealed self.now }
     {
@@ -161,11 +188,23 @@ impl Sense {
     pub fn covers(&self, relation: u32, row: &Row) -> bool
         ensures { result ≡ covers self.now relation row.now }
     {
-        self.store.gap_with(relation, row).is_some() || self.store.has_hit(relation, row)
+        self.spot(relation, row).is_some()
     }
 
-    /// What covers the row, if anything does: a gap before a hit.
+    /// What covers the row, if anything does: a gap before a hit. Where gaps and hits stand in order they are searched.
     pub fn spot(&self, relation: u32, row: &Row) -> Option<Spot>
+        ensures covered { is_some result ≡ covers self.now relation row.now }
+        ensures spot { IfSome result (IsSpotOf self.now relation row.now) }
+    {
+        if self.is_sealed() {
+            let mut steps: Moves<()> = Moves::new();
+            return self.spot_counted(relation, row, &mut steps);
+        }
+        self.first_spot(relation, row)
+    }
+
+    /// As `spot`, gap by gap and hit by hit.
+    fn first_spot(&self, relation: u32, row: &Row) -> Option<Spot>
         ensures covered { is_some result ≡ covers self.now relation row.now }
         ensures spot { IfSome result (IsSpotOf self.now relation row.now) }
     {

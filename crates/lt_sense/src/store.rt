@@ -1,5 +1,5 @@
 //! How a sense is kept: the cells of prefixes and rows stand in one list, and gaps under one prefix share it.
-ghost use Rattle.std.specs.Prelude.{◌≡◌, ◌<◌, ◌≤◌, ◌+◌, ◌∷◌, ◌++◌, [], length, OnOk, OnErr, IfOk, IfSome, is_some, true, slice_get, IsTrue, Some};
+ghost use Rattle.std.specs.Prelude.{◌≡◌, ◌<◌, ◌≤◌, ◌+◌, ◌∷◌, ◌++◌, [], length, filter, OnOk, OnErr, IfOk, IfSome, is_some, true, slice_get, IsTrue, Some};
 ghost use Rattle.std.specs.List.{list_any, slice_range, AllByRecursion};
 ghost use Rattle.lt_face.specs.Lists.{IsIn};
 ghost use Rattle.lt_face.specs.State.{permuted};
@@ -309,6 +309,21 @@ impl Store {
             lo: gap.lo,
             hi: gap.hi,
         })
+    }
+
+    /// The gaps that cover the row.
+    pub(crate) fn gaps_with(&self, relation: u32, row: &Row) -> Result<Vec<KeptGap>, NoMemory>
+        requires { IsSound self.now }
+        ensures { IfOk result (λ kept. kept.items ≡ filter (λ gap. gap_covers gap relation row.now) (sense_of self.now).gaps) }
+    {
+        let mut kept = Vec::new(*self.gaps.allocator());
+        for gap in &self.gaps {
+            if self.gap_covers_row(*gap, relation, row) {
+                let one = self.kept_gap(*gap)?;
+                kept.push(one)?;
+            }
+        }
+        Ok(kept)
     }
 
     /// All gaps.

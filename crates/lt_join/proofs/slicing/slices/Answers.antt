@@ -1,7 +1,8 @@
-use Rattle.std.proofs.Common.{◌≡◌, ◌+◌, ◌-◌, ◌^◌, ◌<◌, ◌≤◌, ◌∷◌, [], List, ℕ, length, slice_get, Some, drop, refl, sym, ap, ◌∙◌, subst, arith}
+use Rattle.std.proofs.Common.{◌≡◌, ◌+◌, ◌-◌, ◌^◌, ◌<◌, ◌≤◌, ◌++◌, ◌∷◌, [], List, ℕ, length, slice_get, Some, drop, refl, sym, ap, ◌∙◌, subst, arith}
 use Rattle.std.specs.List.{AllZip}
 use Rattle.lt_leap.specs.Potential.{join_cost}
 use Rattle.lt_sense.specs.Kept.{Sense}
+use Rattle.lt_join.specs.declared.slicing.Slice.{Slice}
 use Rattle.lt_join.specs.Cost.{iterators_at, LevelGains}
 use Rattle.lt_join.specs.Explored.{Fits}
 use Rattle.lt_join.specs.Holders.{AreUnder, IsJoined, IsOpen, IsTrieOf, IsUsable, left_of, atoms_at}
@@ -86,11 +87,12 @@ loop-joined-preserved g c =
     let gains = subst (λ (ks : List ℕ). LevelGains (length (atoms_at plan.guides (length ks))) c.loop-joined.root c.next_key.new.sense c.slice_at.new.moves c.next_key.new.moves key') back c.in_ok-next_key.ensures.gains in
     let under = subst (λ (ks : List ℕ). AreUnder ks c.loop-joined.root c.next_key.new.sense) back c.in_ok-next_key.ensures.under in
     let found = c.in_ok-slice.ensures in
+    let pushed : c.push.new.self ≡ c.loop-joined.slices ++ c.in_ok-slice.slice ∷ [] = c.in_ok-push.ensures.ok ∙ ap (λ (slice : Slice). c.loop-joined.slices ++ slice ∷ []) c.in_ok-shared.ensures in
     record {
       at_root = back;
-      sliced = AreSliced-more c.args.body.now plan c.args.terms.now state level c.loop-joined.root c.next_key.new.sense c.loop-joined.slices c.push.new.self c.in_ok-slice.slice key key' c.in_ok-push.ensures.ok found.key found.slice c.in_ok-next_key.ensures.rises gains.hits under stands.stands (inv.paid.is_common at_key) inv.sliced;
+      sliced = AreSliced-more c.args.body.now plan c.args.terms.now state level c.loop-joined.root c.next_key.new.sense c.loop-joined.slices c.push.new.self c.in_ok-slice.slice key key' pushed found.key found.slice c.in_ok-next_key.ensures.rises gains.hits under stands.stands (inv.paid.is_common at_key) inv.sliced;
       paid = IsPaid-more plan state [] [] level c.args.moves.now c.loop-joined.moves (left_of c.loop-joined.joined.leap) key c.slice_at.new.moves c.next_key.new.moves (left_of c.next_key.new.joined.leap) key' at_key c.in_ok-next_key.ensures.rises inv.paid c.slice_at.ensures.cost stands.cost;
-      credited = credited_more (length (atoms_at plan.guides 0)) c.loop-joined.root c.next_key.new.sense c.loop-joined.slices c.push.new.self c.in_ok-slice.slice c.args.moves.now c.loop-joined.moves c.slice_at.new.moves c.next_key.new.moves key key' c.in_ok-push.ensures.ok at_key found.gaps found.hits gains inv.credited;
+      credited = credited_more (length (atoms_at plan.guides 0)) c.loop-joined.root c.next_key.new.sense c.loop-joined.slices c.push.new.self c.in_ok-slice.slice c.args.moves.now c.loop-joined.moves c.slice_at.new.moves c.next_key.new.moves key key' pushed at_key found.gaps found.hits gains inv.credited;
       rises = omega (arith, inv.rises, c.slice_at.ensures.moves, c.next_key.ensures.moves);
       is_open = c.in_ok-next_key.ensures.stands.is_open;
       iters = subst (λ (ks : List ℕ). AllZip (IsTrieOf state (length ks) (at ks)) plan.guides c.slice_at.new.iters.items) (sym found.back) found.iters;
@@ -152,6 +154,12 @@ returns-in_err-joined-clause-cost g c =
 
 pub returns-in_err-slice-clause-cost : goal.returns-in_err-slice-clause-cost
 returns-in_err-slice-clause-cost g c =
+    let here = slice_get_is c.args.plan.now.levels 0 c.index-as_slice-0.result c.requires.has_levels (rw c.as_slice.ensures at c.index-as_slice-0.is) in
+    let below = c.slice_at.ensures.cost in
+    cost-stopped c.args.plan.now (g.I.Indexes.state c.args.indexes.now) [] c.index-as_slice-0.result c.args.moves.now c.loop-joined.moves (left_of c.loop-joined.joined.leap) c.loop-joined.joined.key c.slice_at.new.moves here (omega arith) c.loop-joined.invariant.paid (omega (arith, below))
+
+pub returns-in_err-shared-clause-cost : goal.returns-in_err-shared-clause-cost
+returns-in_err-shared-clause-cost g c =
     let here = slice_get_is c.args.plan.now.levels 0 c.index-as_slice-0.result c.requires.has_levels (rw c.as_slice.ensures at c.index-as_slice-0.is) in
     let below = c.slice_at.ensures.cost in
     cost-stopped c.args.plan.now (g.I.Indexes.state c.args.indexes.now) [] c.index-as_slice-0.result c.args.moves.now c.loop-joined.moves (left_of c.loop-joined.joined.leap) c.loop-joined.joined.key c.slice_at.new.moves here (omega arith) c.loop-joined.invariant.paid (omega (arith, below))

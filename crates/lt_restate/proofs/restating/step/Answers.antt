@@ -5,7 +5,10 @@ use Rattle.lt_sense.specs.Sense.{AgreeWhereCovered}
 use Rattle.lt_restate.specs.declared.touch.Touch.{Touch}
 use Rattle.lt_restate.specs.Touches.{IsTouchOn, before}
 use Rattle.lt_base.specs.Tables.{state_of}
-use Rattle.lt_restate.proofs.Steps.{step_agree, step_touch}
+use Rattle.lt_program.specs.Tally.{sense_of}
+use Rattle.lt_restate.proofs.Costing.{cost_first}
+use Rattle.lt_restate.proofs.Steps.{step_agree, step_part, step_touch}
+use Rattle.lt_restate.proofs.Ways.{way_first}
 use Rattle.lt_restate.proofs.restating.step.Goals as goal
 
 pub touch_of-requires-clause-few : goal.touch_of-requires-clause-few
@@ -14,9 +17,24 @@ touch_of-requires-clause-few g c = omega (arith, c.requires.under_way.few, c.req
 pub keep_next-requires-clause-agree : goal.keep_next-requires-clause-agree
 keep_next-requires-clause-agree g c =
     step_agree c.args.old.now c.args.new.now c.args.old_on.now c.args.new_on.now c.args.walk.now c.requires.under_way c.parts.result.now c.evaluated-place.result c.index-parts-place.result c.parts.ensures.parts c.evaluated-place.ensures (let lt = c.if-place-evaluated.false in let long = c.evaluated.ensures in omega (arith, lt, long)) c.index-parts-place.is
-    (subst (λ (o : Option Touch). IfNone o (AgreeWhereCovered c.index-parts-place.result.sense (laid (state_of c.args.old.now.base) c.args.walk.now.past) (before (length c.args.new.now.parts) c.args.new.now))) c.in-None.is c.in_ok-touch.ensures.none)
+    (subst (λ (o : Option Touch). IfNone o (AgreeWhereCovered (sense_of c.index-parts-place.result) (laid (state_of c.args.old.now.base) c.args.walk.now.past) (before (length c.args.new.now.parts) c.args.new.now))) c.in-None.is c.in_ok-touch.ensures.none)
+
+pub evaluate_again-requires-clause-part : goal.evaluate_again-requires-clause-part
+evaluate_again-requires-clause-part g c =
+    step_part c.args.old.now c.args.new.now c.args.old_on.now c.args.new_on.now c.args.walk.now c.requires.under_way c.parts.result.now c.evaluated-place.result c.index-parts-place.result c.parts.ensures.parts c.evaluated-place.ensures (let lt = c.if-place-evaluated.false in let long = c.evaluated.ensures in omega (arith, lt, long)) c.index-parts-place.is
 
 pub evaluate_again-requires-clause-touch : goal.evaluate_again-requires-clause-touch
 evaluate_again-requires-clause-touch g c =
     step_touch c.args.old.now c.args.new.now c.args.old_on.now c.args.new_on.now c.args.walk.now c.requires.under_way c.parts.result.now c.evaluated-place.result c.index-parts-place.result c.parts.ensures.parts c.evaluated-place.ensures (let lt = c.if-place-evaluated.false in let long = c.evaluated.ensures in omega (arith, lt, long)) c.index-parts-place.is c.in-Some.touch
     (subst (λ (o : Option Touch). IfSome o (IsTouchOn (length c.args.new.now.parts) c.index-parts-place.result (laid (state_of c.args.old.now.base) c.args.walk.now.past) (before (length c.args.new.now.parts) c.args.new.now))) c.in-Some.is c.in_ok-touch.ensures.some)
+
+pub returns-then-place-evaluated-clause-under_way : goal.returns-then-place-evaluated-clause-under_way
+returns-then-place-evaluated-clause-under_way g c =
+    way_first c.args.old.now c.args.new.now c.evaluate.new.self c.args.old_on.now c.args.new_on.now c.args.walk.now c.requires.under_way c.in_ok-evaluate.ensures.one
+    (let past = c.if-place-evaluated.true in let long = c.evaluated.ensures in let here = c.evaluated-place.ensures in omega (arith, past, long, here))
+
+pub returns-then-place-evaluated-clause-moves : goal.returns-then-place-evaluated-clause-moves
+returns-then-place-evaluated-clause-moves g c =
+    cost_first c.args.old.now c.args.new.now (length c.args.new.now.parts) c.args.moves.now c.evaluate.new.moves c.requires.under_way.program
+    (let past = c.if-place-evaluated.true in let long = c.evaluated.ensures in let here = c.evaluated-place.ensures in omega (arith, past, long, here))
+    c.evaluate.ensures.moves

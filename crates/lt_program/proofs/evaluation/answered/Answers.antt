@@ -1,0 +1,12 @@
+use Rattle.std.proofs.Common.{sym, subst}
+use Rattle.lt_base.specs.Tables.{state_of}
+use Rattle.lt_sense.specs.Kept.{Sense}
+use Rattle.lt_sense.specs.Sense.{IsTight}
+use Rattle.lt_join.specs.Certify.{Certifies}
+use Rattle.lt_program.proofs.evaluation.answered.Goals as goal
+
+pub returns-clause-certified : goal.returns-clause-certified
+returns-clause-certified g c = subst (λ (s : Sense). Certifies s c.args.body.now (state_of c.args.tables.now)) (sym c.part_whole.ensures.sense) c.in_ok-found.ensures.certified
+
+pub returns-clause-tight : goal.returns-clause-tight
+returns-clause-tight g c = subst (λ (s : Sense). IsTight s (state_of c.args.tables.now)) (sym c.part_whole.ensures.sense) c.in_ok-found.ensures.tight

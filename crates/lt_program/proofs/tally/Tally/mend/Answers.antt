@@ -1,0 +1,55 @@
+use Rattle.std.proofs.Common.{◌≡◌, ◌+◌, ◌<◌, List, map, length, get_or, ap, ◌∙◌, arith}
+use Rattle.std.proofs.lemmas.Option.{slice_get_within}
+use Rattle.std.specs.Arc.{arc_value}
+use Rattle.lt_model.specs.declared.normal.Stmt.{Stmt}
+use Rattle.lt_query.specs.Planned.{routes_of}
+use Rattle.lt_query.proofs.ByShape.{route_there, as_many}
+use Rattle.lt_program.proofs.Keeps.{sliced_here, old_here, mended_same, mending_moves}
+use Rattle.lt_program.proofs.Sounds.{sound_fits, next_is, sound_next, one_more}
+use Rattle.lt_program.proofs.tally.Tally.mend.Goals as goal
+
+pub mend-requires-clause-route : goal.mend-requires-clause-route
+mend-requires-clause-route g c =
+    let program = arc_value c.self.inside.prog in
+    let there = next_is program c.statements.result.now c.self.inside.base c.self.inside.course c.args.self.now c.len-number.result c.index-statements-number.result c.self.view_is c.self.invariant c.requires.going (c.statements.ensures ∙ c.deref.ensures) c.len-number.ensures c.index-statements-number.is in
+    let below : c.len-number.result < length program = rw c.len-number.ensures (slice_get_within program (length c.self.inside.course.parts) c.index-statements-number.result there) in
+    let is : map arc_value c.routes.result.now ≡ routes_of program = c.routes.ensures ∙ ap routes_of c.deref-2.ensures in
+    let at : c.index-statements-number.result ≡ get_or program c.len-number.result c.index-statements-number.result = c.index-statements-number.is ∙ ap (λ (xs : List Stmt). get_or xs c.len-number.result c.index-statements-number.result) (c.statements.ensures ∙ c.deref.ensures) in
+    c.deref-route.ensures ∙ route_there arc_value program c.routes.result.now c.len-number.result c.index-statements-number.result c.index-routes-number.result is below (omega (arith, below, as_many arc_value program c.routes.result.now is)) at c.index-routes-number.is
+
+pub mend-requires-clause-marks : goal.mend-requires-clause-marks
+mend-requires-clause-marks g c = sound_fits (arc_value c.self.inside.prog) c.self.inside.base c.self.inside.course c.self.invariant
+
+pub invariant_of-self-2 : goal.invariant_of-self-2
+invariant_of-self-2 g c =
+    let there = next_is (arc_value c.self.inside.prog) c.statements.result.now c.self.inside.base c.self.inside.course c.args.self.now c.len-number.result c.index-statements-number.result c.self.view_is c.self.invariant c.requires.going (c.statements.ensures ∙ c.deref.ensures) c.len-number.ensures c.index-statements-number.is in
+    sound_next (arc_value c.self.inside.prog) c.self.inside.base c.self.inside.course c.mend.new.self c.args.self.now c.len-number.result c.index-statements-number.result c.self.view_is c.self.invariant c.requires.going c.len-number.ensures there
+    c.in_ok-mend.ensures.ok c.in_ok-mend.ensures.laid
+
+pub returns-clause-one : goal.returns-clause-one
+returns-clause-one g c =
+    let there = next_is (arc_value c.self.inside.prog) c.statements.result.now c.self.inside.base c.self.inside.course c.args.self.now c.len-number.result c.index-statements-number.result c.self.view_is c.self.invariant c.requires.going (c.statements.ensures ∙ c.deref.ensures) c.len-number.ensures c.index-statements-number.is in
+    let sound = sound_next (arc_value c.self.inside.prog) c.self.inside.base c.self.inside.course c.mend.new.self c.args.self.now c.len-number.result c.index-statements-number.result c.self.view_is c.self.invariant c.requires.going c.len-number.ensures there
+    c.in_ok-mend.ensures.ok c.in_ok-mend.ensures.laid in
+    one_more (arc_value c.self.inside.prog) c.self.inside.base c.self.inside.course c.mend.new.self c.args.self.now (c.len-number.result + 1) c.index-statements-number.result c.self.view_is c.in_ok-mend.ensures.ok sound
+
+pub mend-requires-clause-sliced : goal.mend-requires-clause-sliced
+mend-requires-clause-sliced g c =
+    let there = next_is (arc_value c.self.inside.prog) c.statements.result.now c.self.inside.base c.self.inside.course c.args.self.now c.len-number.result c.index-statements-number.result c.self.view_is c.self.invariant c.requires.going (c.statements.ensures ∙ c.deref.ensures) c.len-number.ensures c.index-statements-number.is in
+    sliced_here (arc_value c.self.inside.prog) c.self.inside.base c.self.inside.course c.args.self.now c.self.view_is c.self.invariant c.index-statements-number.result c.requires.sliced there
+
+pub mend-requires-clause-old : goal.mend-requires-clause-old
+mend-requires-clause-old g c =
+    let there = next_is (arc_value c.self.inside.prog) c.statements.result.now c.self.inside.base c.self.inside.course c.args.self.now c.len-number.result c.index-statements-number.result c.self.view_is c.self.invariant c.requires.going (c.statements.ensures ∙ c.deref.ensures) c.len-number.ensures c.index-statements-number.is in
+    old_here (arc_value c.self.inside.prog) c.self.inside.base c.self.inside.course c.args.self.now c.self.view_is c.self.invariant
+    c.args.keys.now c.args.old.now c.len-number.result c.index-statements-number.result c.index-parts-number.result c.part.result.now c.parts.result.now c.parts.ensures.run c.requires.program c.requires.evaluated c.requires.touched c.parts.ensures.parts c.len-number.ensures c.index-parts-number.is c.part.ensures there
+
+pub returns-clause-mended : goal.returns-clause-mended
+returns-clause-mended g c =
+    mended_same (arc_value c.self.inside.prog) c.self.inside.base c.self.inside.course c.args.self.now c.self.view_is c.self.invariant
+    c.args.keys.now c.args.old.now c.len-number.result c.index-parts-number.result c.part.result.now c.parts.result.now c.mend.new.self.parts c.requires.evaluated c.parts.ensures.parts c.len-number.ensures c.index-parts-number.is c.part.ensures c.in_ok-mend.ensures.mended
+
+pub returns-clause-moves : goal.returns-clause-moves
+returns-clause-moves g c =
+    let there = next_is (arc_value c.self.inside.prog) c.statements.result.now c.self.inside.base c.self.inside.course c.args.self.now c.len-number.result c.index-statements-number.result c.self.view_is c.self.invariant c.requires.going (c.statements.ensures ∙ c.deref.ensures) c.len-number.ensures c.index-statements-number.is in
+    mending_moves (arc_value c.self.inside.prog) c.self.inside.base c.self.inside.course c.args.self.now c.self.view_is c.self.invariant c.args.keys.now c.index-statements-number.result c.args.moves.now c.mend.new.moves there c.mend.ensures.cost
