@@ -7,7 +7,11 @@ pub mod Goods
 pub mod Telling
 pub mod Showing
 pub mod Writing
+pub mod Fed
+pub mod Feeding
+pub mod Steps
 pub mod Fronts
 pub mod Ends
+pub mod Standing
 pub mod Counting
 pub mod Summing

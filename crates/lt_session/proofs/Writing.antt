@@ -1,11 +1,11 @@
 -- What a call that writes has done, from what those in it did.
-use Rattle.std.proofs.Common.{◌≡◌, ◌++◌, List, [], ℕ, Result, Ok, Err, refl, sym, ap, subst, arith, append_assoc, append-nil, ◌∙◌}
+use Rattle.std.proofs.Common.{◌≡◌, ◌≤◌, ◌++◌, List, [], ℕ, Result, Ok, Err, refl, sym, ap, subst, arith, append_assoc, append-nil, ◌∙◌}
 use Rattle.std.specs.Prelude.{Option, Some, None}
 use Rattle.std.proofs.KnownBytes.{Appends-nil, Appends-trans}
 use Rattle.std.specs.Io.KnownBytes.{Appends, Keeps}
 use Rattle.lt_edges.specs.Causes.{HasCause}
 use Rattle.lt_report.specs.Puts.{AppendsFront, Puts}
-use Rattle.lt_report.proofs.Going.{Did}
+use Rattle.lt_report.proofs.Going.{Did, did_more}
 use Rattle.lt_session.specs.declared.halt.Halt.{Halt}
 use Rattle.lt_session.specs.declared.halt.Halt.TheVariants.{NoMemory}
 use Rattle.lt_session.specs.Writing.{Writes}
@@ -52,3 +52,7 @@ kept_appends (Some x) (Some y) k = k ∙ sym (append-nil x)
 pub flushed : {T E : Type 0} (r : Result T E) (a b : Bytes) (s t : ℕ) → Keeps a b → HasCause s t r → Puts r a b s t []
 flushed (Ok v) a b s t k c = record { ok = kept_appends a b k; err = tt; cause = c }
 flushed (Err e) a b s t k c = record { ok = tt; err = ([], [], refl, kept_appends a b k); cause = c }
+
+-- nor does it change what was written before
+pub did_kept : (a b c : Bytes) (s t u : ℕ) (x : List ℕ) → Did a b s t x → Keeps b c → t ≤ u → Did a c s u x
+did_kept a b c s t u x did k later = did_more a b c s t u x [] x did (kept_appends b c k) later (sym (append-nil x))

@@ -1,5 +1,5 @@
 -- What each way to end shows of the source and the sink.
-use Rattle.std.specs.Prelude.{ℕ, Bool, ◌<◌, ◌≤◌, ◌⊎◌, List, length, Some, None, ⊤}
+use Rattle.std.specs.Prelude.{ℕ, Bool, ◌<◌, ◌≤◌, List, length, Some, None, ⊤}
 use Rattle.std.specs.declared.option.Option.{Option}
 use Rattle.std.specs.Io.KnownBytes.{Appends, Consumes, IsAtEnd, Keeps}
 use Rattle.lt_command.specs.declared.words.Command.{Command}
@@ -7,12 +7,15 @@ use Rattle.lt_command.specs.declared.words.Command.TheVariants.{Bench, Run}
 use Rattle.lt_edges.specs.Causes.{Rose}
 use Rattle.lt_gen.specs.Summaries.{summary_of, summary_text}
 use Rattle.lt_model.specs.declared.syntax.Item.{Item}
-use Rattle.lt_model.specs.Script.{Close, End, Fault, Script}
+use Rattle.lt_model.specs.Script.{End, Fault, Script}
 use Rattle.lt_model.specs.Report.{report}
 use Rattle.lt_report.specs.Puts.{AppendsFront}
 use Rattle.lt_session.specs.declared.status.Status.{Status}
 use Rattle.lt_session.specs.declared.status.Status.TheVariants.{Done, NotTaken, Faulty, ReadFault, WriteFault, NoMemory, TooLong}
+use Rattle.lt_session.specs.declared.stop.Stop.{Stop}
+use Rattle.lt_session.specs.declared.stop.Stop.TheVariants as stops
 use Rattle.lt_session.specs.Input.{limit}
+use Rattle.lt_session.specs.Reports.{IsFrontOf, IsReportOf}
 
 -- the words ask for a run, with marks or without, of which this holds
 abbrev pub IfRun : Option Command → (Bool → Type 0) → Type 0
@@ -50,28 +53,44 @@ pub record IsFaultReported (marks : Bool) (left_old left_new holds_old holds_new
   pub script : Script bytes items (Fault line code)
   pub written : Appends holds_old holds_new (report marks items (Fault line code))
 
--- a front of the input's report was written
+-- these bytes were taken from the source, within the limit, and a front of their report was written
 pub record IsPart (marks : Bool) (left_old left_new holds_old holds_new : Option (List ℕ)) : Type 0 where
   pub bytes : List ℕ
-  pub input : IsInput left_old left_new bytes
-  pub items : List Item
-  pub close : Close
-  pub script : Script bytes items close
-  pub written : AppendsFront holds_old holds_new (report marks items close)
+  pub taken : Consumes left_old left_new bytes
+  pub within : length bytes ≤ limit
+  pub front : IsFrontOf marks bytes holds_old holds_new
+
+-- more bytes than the limit were taken, and a front of their report was written
+pub record IsLongPart (marks : Bool) (left_old left_new holds_old holds_new : Option (List ℕ)) : Type 0 where
+  pub bytes : List ℕ
+  pub taken : Consumes left_old left_new bytes
+  pub beyond : limit < length bytes
+  pub front : IsFrontOf marks bytes holds_old holds_new
 
 -- more than the limit was read
 abbrev pub IsTooLong : Option (List ℕ) → Option (List ℕ) → Type 0
 IsTooLong left_old left_new = (taken : List ℕ) × Consumes left_old left_new taken × (limit < length taken)
+
+-- the input was read to its end and its report was written, and it is told whether it has a fault
+abbrev pub IsWritten : Bool → Bool → Option (List ℕ) → Option (List ℕ) → Option (List ℕ) → Option (List ℕ) → Type 0
+IsWritten marks faulty l m h i = (bytes : List ℕ) × IsInput l m bytes × IsReportOf marks bytes faulty h i
+
+-- how a script stops that isn't run to its end
+abbrev pub StopsAs : Bool → Stop → Option (List ℕ) → Option (List ℕ) → ℕ → ℕ → Option (List ℕ) → Option (List ℕ) → ℕ → ℕ → Type 0
+StopsAs marks stops.NoMemory l m r s h i w x = IsPart marks l m h i
+StopsAs marks stops.ReadFailed l m r s h i w x = Rose r s × IsPart marks l m h i
+StopsAs marks stops.WriteFailed l m r s h i w x = Rose w x × IsPart marks l m h i
+StopsAs marks stops.TooLong l m r s h i w x = IsLongPart marks l m h i
 
 -- how a run of a script ends
 abbrev pub EndsAs : Bool → Status → Option (List ℕ) → Option (List ℕ) → ℕ → ℕ → Option (List ℕ) → Option (List ℕ) → ℕ → ℕ → Type 0
 EndsAs marks Done l m r s h i w x = IsReported marks l m h i
 EndsAs marks NotTaken l m r s h i w x = ⊥
 EndsAs marks Faulty l m r s h i w x = IsFaultReported marks l m h i
-EndsAs marks ReadFault l m r s h i w x = Rose r s × Keeps h i
+EndsAs marks ReadFault l m r s h i w x = Rose r s × IsPart marks l m h i
 EndsAs marks WriteFault l m r s h i w x = Rose w x × IsPart marks l m h i
-EndsAs marks NoMemory l m r s h i w x = Keeps h i ⊎ IsPart marks l m h i
-EndsAs marks TooLong l m r s h i w x = IsTooLong l m × Keeps h i
+EndsAs marks NoMemory l m r s h i w x = IsPart marks l m h i
+EndsAs marks TooLong l m r s h i w x = IsTooLong l m × IsLongPart marks l m h i
 
 -- the lines that tell what comes of the generated script
 abbrev pub bench_text : ℕ → ℕ → ℕ → List ℕ

@@ -3,6 +3,8 @@ pub mod Versions
 pub mod World
 pub mod Reports
 pub mod Input
+pub mod Reads
+pub mod Stops
 pub mod Statuses
 pub mod Writing
 pub mod Ends

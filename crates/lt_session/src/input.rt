@@ -1,16 +1,23 @@
-ghost use Rattle.std.specs.Prelude.{◌≡◌, ◌≤◌, ◌<◌, ℕ, List, length, IfOk, IsErrOf};
-ghost use Rattle.std.specs.Io.KnownBytes.{Consumes, IsAtEnd};
-ghost use Rattle.lt_edges.specs.Causes.{Rose};
+//! What is read of a script.
+ghost use Rattle.std.specs.Prelude.{◌≡◌, ◌≤◌, false, IfOk, IfErr};
 ghost use Rattle.lt_session.specs.declared.input.InputError.TheVariants as errors;
 ghost use Rattle.lt_session.specs.Input.{limit};
+ghost use Rattle.lt_session.specs.Reads.{ReadsOn, StopsReading};
 
 use lt_edges::{Failed, Source};
-use std::alloc::{AllocError, Global};
+use lt_face::NoMemory;
+use lt_script::Feed;
 
 /// The most bytes that are read.
 pub const LIMIT: usize = 16_777_216;
 
-/// Why the input wasn't read to its end.
+// So many bytes are read at a time.
+const PIECE: usize = 4096;
+
+// An item that is longer is looked at only where it has grown much.
+const LONG: usize = 1_048_576;
+
+/// Why the input wasn't read on.
 #[derive(Clone, Copy, Debug, PartialEq, Eq)]
 pub enum InputError {
     NoMemory,
@@ -18,10 +25,10 @@ pub enum InputError {
     TooLong,
 }
 
-impl From<AllocError> for InputError {
+impl From<NoMemory> for InputError {
     ghost from_gives = { λ _ e. e ≡ errors.NoMemory };
 
-    fn from(_: AllocError) -> Self {
+    fn from(_: NoMemory) -> Self {
         InputError::NoMemory
     }
 }
@@ -34,25 +41,61 @@ impl From<Failed> for InputError {
     }
 }
 
-/// Reads to the end of input.
-pub fn read_all<S: Source>(alloc: Global, source: &mut S) -> Result<Vec<u8>, InputError>
-    ensures read { IfOk result (λ v. Consumes (S.left source.old) (S.left source.new) v.items) }
-    ensures end { IfOk result (λ v. IsAtEnd (S.left source.new)) }
-    ensures within { IfOk result (λ v. length v.items ≤ limit) }
-    ensures failed { IsErrOf result errors.Failed → Rose (S.faults source.old) (S.faults source.new) }
-    ensures too_long { IsErrOf result errors.TooLong → (taken : List ℕ) × Consumes (S.left source.old) (S.left source.new) taken × (limit < length taken) }
+/// How many bytes were taken from a source, and whether its end was met.
+#[derive(Clone, Copy, Debug)]
+pub struct Taken {
+    pub count: usize,
+    pub ended: bool,
+}
+
+// Whether the feed is asked again behind this piece, where it kept `looked` bytes when it was last asked. As it looks at all
+// bytes that it keeps, it isn't before they are four times as many, unless who feeds the source may wait for an answer: the
+// source has no more at hand, or a batch may end here.
+fn is_asked(piece: &[u8], kept: usize, looked: usize) -> bool {
+    if kept / 4 >= looked {
+        return true;
+    }
+    if kept > LONG {
+        return false;
+    }
+    piece.len() < PIECE || piece.trim_ascii_end().ends_with(b"commit;")
+}
+
+/// Feeds what comes next of a source from which `count` bytes were taken: one piece, or more where an item is long.
+pub fn read_on<S: Source>(
+    source: &mut S,
+    feed: &mut Feed,
+    count: usize,
+) -> Result<Taken, InputError>
+    requires open { feed.old.ended ≡ false }
+    requires within { count ≤ limit }
+    ensures ok { IfOk result (λ taken. ReadsOn feed.old feed.new count taken (S.left source.old) (S.left source.new)) }
+    ensures err { IfErr result (λ error. StopsReading error count (S.left source.old) (S.left source.new) (S.faults source.old) (S.faults source.new)) }
     ensures later { S.faults source.old ≤ S.faults source.new }
 {
-    let mut bytes = Vec::new(alloc);
-    let mut piece = [0; 4096];
+    let looked = feed.kept();
+    let mut taken = count;
+    let mut piece = [0; PIECE];
     'reads: loop {
-        let count = source.read(&mut piece)?;
-        if count == 0 {
-            return Ok(bytes);
+        let read = source.read(&mut piece)?;
+        if read == 0 {
+            feed.end();
+            return Ok(Taken {
+                count: taken,
+                ended: true,
+            });
         }
-        if count > LIMIT - bytes.len() {
+        if read > LIMIT - taken {
             return Err(InputError::TooLong);
         }
-        bytes.extend_from_slice(&piece[..count])?;
+        taken += read;
+        feed.push(&piece[..read])?;
+        let asks = is_asked(&piece[..read], feed.kept(), looked);
+        if asks {
+            return Ok(Taken {
+                count: taken,
+                ended: false,
+            });
+        }
     }
 }

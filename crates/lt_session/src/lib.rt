@@ -9,6 +9,7 @@ mod options;
 mod repair;
 mod script;
 mod status;
+mod stop;
 mod world;
 
 pub use repair::repair_main;

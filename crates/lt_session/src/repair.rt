@@ -9,14 +9,13 @@ ghost use Rattle.lt_gen.specs.Summaries.{summary_text};
 ghost use Rattle.lt_report.specs.Puts.{AppendsFront, Puts};
 ghost use Rattle.lt_session.specs.Input.{limit};
 ghost use Rattle.lt_session.specs.Statuses.{status_code};
-ghost use Rattle.lt_session.specs.Ends.{bench_text, BenchEndsAs, EndsAs, IfBench, IfRun, IsFaultReported, IsPart, IsReported, IsTooLong};
+ghost use Rattle.lt_session.specs.Ends.{bench_text, BenchEndsAs, EndsAs, IfBench, IfRun, IsFaultReported, IsLongPart, IsPart, IsReported, IsTooLong};
 
 use crate::bench::summarize;
-use crate::halt::Halt;
-use crate::input::{InputError, read_all};
 use crate::options::{Generated, Options};
 use crate::script::write_report;
 use crate::status::{Status, code};
+use crate::stop::Stop;
 use lt_command::{Command, command_of};
 use lt_edges::{Failed, Gate, Sink, Source};
 use lt_gen::{Summary, bench_summary};
@@ -46,7 +45,7 @@ fn refuse_words<K: Sink>(sink: &mut K) -> Status
     }
 }
 
-// Reads a script to its end and writes its report.
+// Runs a script as it comes and passes its report on.
 fn run_script<R: Threads + Wait + Sync, S: Source, K: Sink, G: Gate>(
     rt: &R,
     alloc: Global,
@@ -59,16 +58,12 @@ fn run_script<R: Threads + Wait + Sync, S: Source, K: Sink, G: Gate>(
     ensures { EndsAs options.marks result (S.left source.old) (S.left source.new) (S.faults source.old) (S.faults source.new)
         (K.holds sink.old) (K.holds sink.new) (K.faults sink.old) (K.faults sink.new) }
 {
-    let bytes = match read_all(alloc, source) {
-        Ok(bytes) => bytes,
-        Err(InputError::NoMemory) => return Status::NoMemory,
-        Err(InputError::Failed) => return Status::ReadFault,
-        Err(InputError::TooLong) => return Status::TooLong,
-    };
-    let faulty = match write_report(rt, alloc, sink, &bytes, options, gate) {
+    let faulty = match write_report(rt, alloc, source, sink, options, gate) {
         Ok(faulty) => faulty,
-        Err(Halt::NoMemory) => return Status::NoMemory,
-        Err(Halt::Failed) => return Status::WriteFault,
+        Err(Stop::NoMemory) => return Status::NoMemory,
+        Err(Stop::ReadFailed) => return Status::ReadFault,
+        Err(Stop::WriteFailed) => return Status::WriteFault,
+        Err(Stop::TooLong) => return Status::TooLong,
     };
     match sink.flush() {
         Ok(()) if faulty => Status::Faulty,
@@ -135,13 +130,12 @@ pub fn repair_main<R: Threads + Wait + Sync, S: Source, K: Sink, G: Gate>(
     ensures bench_ends { IfBench (command (map string_bytes words.now)) (λ seed items programs. (result ≡ 0) ⊎ (result ≡ 4) ⊎ (result ≡ 5)) }
     ensures known { result ≤ 6 }
     // What was written until then.
-    ensures part { result ≡ 4 → IfRun (command (map string_bytes words.now)) (λ marks. IsPart marks (S.left source.old) (S.left source.new) (K.holds sink.old) (K.holds sink.new)) }
-    ensures memory_part { result ≡ 5 → IfRun (command (map string_bytes words.now)) (λ marks. Keeps (K.holds sink.old) (K.holds sink.new) ⊎ IsPart marks (S.left source.old) (S.left source.new) (K.holds sink.old) (K.holds sink.new)) }
+    ensures part { ((result ≡ 3) ⊎ (result ≡ 4) ⊎ (result ≡ 5)) → IfRun (command (map string_bytes words.now)) (λ marks. IsPart marks (S.left source.old) (S.left source.new) (K.holds sink.old) (K.holds sink.new)) }
+    ensures long_part { result ≡ 6 → IfRun (command (map string_bytes words.now)) (λ marks. IsLongPart marks (S.left source.old) (S.left source.new) (K.holds sink.old) (K.holds sink.new)) }
     ensures bench_part { result ≡ 4 → IfBench (command (map string_bytes words.now)) (λ seed items programs. AppendsFront (K.holds sink.old) (K.holds sink.new) (bench_text seed items programs)) }
     ensures bench_unwritten { result ≡ 5 → IfBench (command (map string_bytes words.now)) (λ seed items programs. Keeps (K.holds sink.old) (K.holds sink.new)) }
     ensures usage_part { result ≡ 4 → is_taken (map string_bytes words.now) ≡ false → AppendsFront (K.holds sink.old) (K.holds sink.new) usage_text }
     ensures usage_unwritten { result ≡ 5 → is_taken (map string_bytes words.now) ≡ false → Keeps (K.holds sink.old) (K.holds sink.new) }
-    ensures unwritten { ((result ≡ 3) ⊎ (result ≡ 6)) → Keeps (K.holds sink.old) (K.holds sink.new) }
     // Where no read and no write failed and the input is within the limit, it is run, or memory ran out.
     ensures complete { IfRun (command (map string_bytes words.now)) (λ marks. (Rose (S.faults source.old) (S.faults source.new) → ⊥) → (Rose (K.faults sink.old) (K.faults sink.new) → ⊥)
         → IfSome (S.left source.old) (λ bytes. length bytes ≤ limit) → IsSome (S.left source.old) → (result ≡ 0) ⊎ (result ≡ 2) ⊎ (result ≡ 5)) }

@@ -1,46 +1,96 @@
 //! Scripts and their reports.
-ghost use Rattle.std.specs.Prelude.{◌≤◌, IfOk, IsErrOf, OnErr};
+ghost use Rattle.std.specs.Prelude.{◌≡◌, ◌≤◌, false, IfOk, IfErr};
+ghost use Rattle.std.specs.Io.KnownBytes.{Keeps};
 ghost use Rattle.lt_face.specs.Limits.{most_workers};
-ghost use Rattle.lt_edges.specs.Causes.{Rose};
-ghost use Rattle.lt_session.specs.declared.halt.Halt.TheVariants as halts;
-ghost use Rattle.lt_session.specs.Reports.{IsFrontOf, IsReportOf};
+ghost use Rattle.lt_edges.specs.Causes.{HasCause};
+ghost use Rattle.lt_session.specs.Input.{limit};
+ghost use Rattle.lt_session.specs.Reads.{ReadsOn, StopsGoing};
+ghost use Rattle.lt_session.specs.Ends.{IsWritten, StopsAs};
 
-use crate::halt::Halt;
+use crate::input::{Taken, read_on};
 use crate::options::Options;
+use crate::stop::Stop;
 use crate::world::World;
-use lt_edges::{Gate, Sink};
+use lt_edges::{Failed, Gate, Sink, Source};
 use lt_report::put_fault;
-use lt_script::{Reader, Step};
+use lt_script::{Feed, FeedStep};
 use std::alloc::Global;
 use std::sync::Wait;
 use std::thread::Threads;
 
-/// Writes the report of a script, item by item, and says whether the script has a fault.
-pub fn write_report<R: Threads + Wait + Sync, K: Sink, G: Gate>(
+// Passes on the lines that were written, where some were since it was last done.
+fn pass_on<K: Sink>(sink: &mut K, written: &mut bool) -> Result<(), Failed>
+    ensures bytes { Keeps (K.holds sink.old) (K.holds sink.new) }
+    ensures cause { HasCause (K.faults sink.old) (K.faults sink.new) result }
+{
+    if !*written {
+        return Ok(());
+    }
+    *written = false;
+    sink.flush()
+}
+
+// Feeds what comes next of a source from which `count` bytes were taken. As it may be long in coming, what was written goes
+// out before.
+fn go_on<S: Source, K: Sink>(
+    source: &mut S,
+    sink: &mut K,
+    feed: &mut Feed,
+    count: usize,
+    written: &mut bool,
+) -> Result<Taken, Stop>
+    requires open { feed.old.ended ≡ false }
+    requires within { count ≤ limit }
+    ensures ok { IfOk result (λ taken. ReadsOn feed.old feed.new count taken (S.left source.old) (S.left source.new)) }
+    ensures err { IfErr result (λ stop. StopsGoing stop count (S.left source.old) (S.left source.new) (S.faults source.old) (S.faults source.new) (K.faults sink.old) (K.faults sink.new)) }
+    ensures bytes { Keeps (K.holds sink.old) (K.holds sink.new) }
+    ensures later { S.faults source.old ≤ S.faults source.new }
+    ensures sink_later { K.faults sink.old ≤ K.faults sink.new }
+{
+    pass_on(sink, written)?;
+    let taken = read_on(source, feed, count)?;
+    Ok(taken)
+}
+
+/// Reads a script to its end, writes its report item by item as they come, and says whether the script has a fault. The
+/// fault's line is written behind the end of the source.
+pub fn write_report<R: Threads + Wait + Sync, S: Source, K: Sink, G: Gate>(
     rt: &R,
     alloc: Global,
+    source: &mut S,
     sink: &mut K,
-    bytes: &[u8],
     options: Options,
     gate: &G,
-) -> Result<bool, Halt>
+) -> Result<bool, Stop>
     requires workers { (1 ≤ options.workers) × (options.workers ≤ most_workers) }
-    ensures ok { IfOk result (λ faulty. IsReportOf options.marks bytes.now faulty (K.holds sink.old) (K.holds sink.new)) }
-    ensures err { OnErr result (IsFrontOf options.marks bytes.now (K.holds sink.old) (K.holds sink.new)) }
+    ensures ok { IfOk result (λ faulty. IsWritten options.marks faulty (S.left source.old) (S.left source.new) (K.holds sink.old) (K.holds sink.new)) }
+    ensures err { IfErr result (λ stop. StopsAs options.marks stop (S.left source.old) (S.left source.new) (S.faults source.old) (S.faults source.new)
+        (K.holds sink.old) (K.holds sink.new) (K.faults sink.old) (K.faults sink.new)) }
     ensures later { K.faults sink.old ≤ K.faults sink.new }
-    ensures failed { IsErrOf result halts.Failed → Rose (K.faults sink.old) (K.faults sink.new) }
 {
-    let mut reader = Reader::over(bytes);
+    let mut feed = Feed::new(alloc);
     let mut world = World::new(alloc)?;
-    'items: loop {
-        match reader.next_item(alloc) {
-            Step::Item(item) => world.take(rt, alloc, sink, item, options, gate)?,
-            Step::End => return Ok(false),
-            Step::Fault { line, code } => {
-                put_fault(sink, line, code)?;
-                return Ok(true);
+    let mut taken = Taken {
+        count: 0,
+        ended: false,
+    };
+    let mut written = false;
+    'steps: loop {
+        match feed.next_step(alloc) {
+            FeedStep::Item(item) => {
+                world.take(rt, alloc, sink, item, options, gate)?;
+                written = true;
             }
-            Step::NoMemory => return Err(Halt::NoMemory),
+            FeedStep::More => { taken = go_on(source, sink, &mut feed, taken.count, &mut written)? }
+            FeedStep::End => return Ok(false),
+            FeedStep::Fault { line, code } => {
+                if taken.ended {
+                    put_fault(sink, line, code)?;
+                    return Ok(true);
+                }
+                taken = go_on(source, sink, &mut feed, taken.count, &mut written)?;
+            }
+            FeedStep::NoMemory => return Err(Stop::NoMemory),
         }
     }
 }

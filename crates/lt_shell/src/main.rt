@@ -30,7 +30,7 @@ fn main(rt: HostRuntime) -> ExitCode {
     let Ok(words) = words_of(&rt) else {
         return ExitCode::from(NO_MEMORY);
     };
-    // A report line is short: many of them go out by one system call. What fails then shows at a later write or at the flush.
+    // A report line is short: many of them go out by one system call. What fails then shows at a later write or a flush.
     let Ok(writer) = BufWriter::new(rt.alloc(), rt.stdout()) else {
         return ExitCode::from(NO_MEMORY);
     };

@@ -1,73 +1,96 @@
-use Rattle.std.proofs.Common.{◌++◌, [], ◌∷◌, ◌∙◌, ap, sym, subst}
+use Rattle.std.proofs.Common.{◌∙◌, Err, ap, sym, subst, arith}
 use Rattle.std.specs.Prelude.{fold}
-use Rattle.std.proofs.lemmas.List.Sums.{fold-append}
 use Rattle.std.proofs.lemmas.Result.{err_from_is_err_and}
-use Rattle.lt_model.specs.Report.{World, opening, step}
-use Rattle.lt_report.proofs.Going.{did_more, did_none}
-use Rattle.lt_session.specs.World.{said, Shows}
-use Rattle.lt_session.proofs.Fronts.{front_fault, front_here, front_item, report_ends, report_faults}
-use Rattle.lt_session.proofs.Said.{step_says}
+use Rattle.lt_model.specs.Report.{opening, step}
+use Rattle.lt_script.specs.declared.feed.Feed.{Feed}
+use Rattle.lt_script.specs.Feed.{HasFed}
+use Rattle.lt_session.proofs.Ends.{by_halt, none_taken, stopped}
+use Rattle.lt_session.proofs.Standing.{fault_written, less_more, part_fault, part_here, part_item, stands_item, stands_more, stops_going}
 use Rattle.lt_session.proofs.script.write_report.Goals as goal
-
-pub items-init : goal.items-init
-items-init g c = record {
-  items = [];
-  read = c.over-reader.ensures.start;
-  shows = c.in_ok-world.ensures;
-  bytes = c.over-reader.ensures.bytes;
-  did = did_none _ _;
-}
-
-pub items-preserved : goal.items-preserved
-items-preserved g c =
-    let before = c.items.invariant in
-    let reads = c.in-Item.ensures.next before.items before.read in
-    let marks = c.args.options.marks in
-    let m = fold (step marks) opening before.items in
-    let wrote = c.in_ok-take-in-Item.ensures.text m before.shows in
-    record {
-      items = before.items ++ c.in-Item.item ∷ [];
-      read = reads.read;
-      shows = subst (Shows c.take.new.self) (sym (fold-append (step marks) opening before.items (c.in-Item.item ∷ []))) (c.in_ok-take-in-Item.ensures.world marks m before.shows);
-      bytes = c.in-Item.ensures.bytes ∙ before.bytes;
-      did =
-          did_more _ (g.K.Sink.holds c.items.sink) _ _ (g.K.Sink.faults c.items.sink) _ m.text (said marks m c.in-Item.item) _ before.did wrote.ok wrote.later
-          (ap (λ (w : World). w.text) (fold-append (step marks) opening before.items (c.in-Item.item ∷ [])) ∙ step_says marks m c.in-Item.item);
-    }
 
 pub returns-in_err-world-clause-err : goal.returns-in_err-world-clause-err
 returns-in_err-world-clause-err g c =
     let p = err_from_is_err_and c.from_residual.result c.from_residual.ensures.1 in
-    rw p.1 (front_here c.args.options.marks c.args.bytes.now c.over-reader.result [] _ _ _ _ c.over-reader.ensures.bytes (did_none _ (g.K.Sink.faults c.args.sink.now)) c.over-reader.ensures.start)
-
-pub returns-in-End-clause-ok : goal.returns-in-End-clause-ok
-returns-in-End-clause-ok g c =
-    let before = c.items.invariant in
-    report_ends c.args.options.marks c.args.bytes.now c.items.reader before.items _ _ _ _ before.bytes before.did (c.in-End.ensures.next before.items before.read).0
-
-pub returns-in-NoMemory-clause-err : goal.returns-in-NoMemory-clause-err
-returns-in-NoMemory-clause-err g c =
-    let before = c.items.invariant in
-    front_here c.args.options.marks c.args.bytes.now c.items.reader before.items _ _ _ _ before.bytes before.did before.read
-
-pub returns-in_err-put_fault-in-Fault-clause-err : goal.returns-in_err-put_fault-in-Fault-clause-err
-returns-in_err-put_fault-in-Fault-clause-err g c =
-    let before = c.items.invariant in
-    let r = c.from_residual-in_err-put_fault-in-Fault in
-    let p = err_from_is_err_and r.result r.ensures.1 in
-    rw p.1 (front_fault c.args.options.marks c.args.bytes.now c.items.reader before.items _ _ _ _ before.bytes before.did c.in-Fault.line c.in-Fault.code _ (c.in-Fault.ensures.next before.items before.read).0 c.in_err-put_fault-in-Fault.ensures.err)
-
-pub returns-in-Fault-clause-ok : goal.returns-in-Fault-clause-ok
-returns-in-Fault-clause-ok g c =
-    let before = c.items.invariant in
-    report_faults c.args.options.marks c.args.bytes.now c.items.reader before.items _ _ _ _ before.bytes before.did c.in-Fault.line c.in-Fault.code _ (c.in-Fault.ensures.next before.items before.read).0 c.in_ok-put_fault-in-Fault.ensures.ok
+    stopped c.from_residual.result p.0 _ p.1 p.2 _ _ _ _ _ _ _ _ _ (none_taken c.args.options.marks _ _)
 
 pub returns-in_err-take-in-Item-clause-err : goal.returns-in_err-take-in-Item-clause-err
 returns-in_err-take-in-Item-clause-err g c =
-    let before = c.items.invariant in
-    let marks = c.args.options.marks in
-    let m = fold (step marks) opening before.items in
-    let reads = c.in-Item.ensures.next before.items before.read in
-    let r = c.from_residual-in_err-take-in-Item in
-    let p = err_from_is_err_and r.result r.ensures.1 in
-    rw p.1 (front_item marks c.args.bytes.now c.next_item.new.self before.items _ _ _ _ (c.in-Item.ensures.bytes ∙ before.bytes) before.did c.in-Item.item _ reads.read (c.in_err-take-in-Item.ensures.text m before.shows).err)
+    let at = c.steps.invariant in
+    let gives = c.in-Item.ensures.step at.bytes at.items at.fed in
+    let wrote = c.in_err-take-in-Item.ensures.text (fold (step c.args.options.marks) opening at.items) at.shows in
+    let p = err_from_is_err_and c.from_residual-in_err-take-in-Item.result c.from_residual-in_err-take-in-Item.ensures.1 in
+    stopped c.from_residual-in_err-take-in-Item.result p.0 _ p.1 p.2 _ _ _ _ _ _ _ _ _
+    (by_halt c.args.options.marks _ _ _ _ _ _ _ _ c.in_err-take-in-Item.field-0.0 (part_item _ _ _ _ _ _ _ _ _ _ _ _ at c.next_step.new.self c.in-Item.item _ gives wrote.err) (λ e. omega (arith, at.did.later, wrote.failed (ap (λ h. Err h) e))))
+
+pub steps-preserved-in-Item : goal.steps-preserved-in-Item
+steps-preserved-in-Item g c =
+    let at = c.steps.invariant in
+    let gives = c.in-Item.ensures.step at.bytes at.items at.fed in
+    let wrote = c.in_ok-take-in-Item.ensures.text (fold (step c.args.options.marks) opening at.items) at.shows in
+    stands_item _ _ _ _ _ _ _ _ _ _ _ _ at c.next_step.new.self c.take.new.self c.in-Item.item _ _ gives c.in-Item.ensures.ended c.in_ok-take-in-Item.ensures.world wrote.ok wrote.later
+
+pub returns-in_err-taken-in-More-clause-err : goal.returns-in_err-taken-in-More-clause-err
+returns-in_err-taken-in-More-clause-err g c =
+    let at = c.steps.invariant in
+    let asked = c.in-More.ensures.step at.bytes at.items at.fed in
+    let fed = subst (λ (f : Feed). HasFed f at.bytes at.items) (sym asked.2) at.fed in
+    let went = c.in_err-taken-in-More.ensures in
+    let p = err_from_is_err_and c.from_residual-in_err-taken-in-More.result c.from_residual-in_err-taken-in-More.ensures.1 in
+    stopped c.from_residual-in_err-taken-in-More.result p.0 _ p.1 p.2 _ _ _ _ _ _ _ _ _
+    (stops_going _ _ _ _ _ _ _ _ _ _ _ _ at c.next_step.new.self c.in_err-taken-in-More.field-0.0 _ _ _ _ fed (c.in-More.ensures.ended ∙ asked.0) went.err went.later went.bytes went.sink_later)
+
+pub steps-smaller-in-More : goal.steps-smaller-in-More
+steps-smaller-in-More g c =
+    let at = c.steps.invariant in
+    let asked = c.in-More.ensures.step at.bytes at.items at.fed in
+    let fed = subst (λ (f : Feed). HasFed f at.bytes at.items) (sym asked.2) at.fed in
+    less_more _ _ _ _ _ _ _ _ _ _ _ _ at c.next_step.new.self c.go_on.new.feed c.in_ok-taken-in-More.taken _ fed asked.0 c.in_ok-taken-in-More.ensures.ok
+
+pub steps-preserved-in-More : goal.steps-preserved-in-More
+steps-preserved-in-More g c =
+    let at = c.steps.invariant in
+    let asked = c.in-More.ensures.step at.bytes at.items at.fed in
+    let fed = subst (λ (f : Feed). HasFed f at.bytes at.items) (sym asked.2) at.fed in
+    let went = c.in_ok-taken-in-More.ensures in
+    stands_more _ _ _ _ _ _ _ _ _ _ _ _ at c.next_step.new.self c.go_on.new.feed c.in_ok-taken-in-More.taken _ _ _ _ fed went.ok went.later went.bytes went.sink_later
+
+pub returns-in_err-put_fault-in-Fault-clause-err : goal.returns-in_err-put_fault-in-Fault-clause-err
+returns-in_err-put_fault-in-Fault-clause-err g c =
+    let at = c.steps.invariant in
+    let faults = c.in-Fault.ensures.step at.bytes at.items at.fed in
+    let wrote = c.in_err-put_fault-in-Fault.ensures in
+    let p = err_from_is_err_and c.from_residual-in_err-put_fault-in-Fault.result c.from_residual-in_err-put_fault-in-Fault.ensures.1 in
+    stopped c.from_residual-in_err-put_fault-in-Fault.result p.0 _ p.1 p.2 _ _ _ _ _ _ _ _ _
+    (omega (arith, at.did.later, wrote.cause.failed), part_fault _ _ _ _ _ _ _ _ _ _ _ _ at c.in-Fault.line c.in-Fault.code faults.0 _ wrote.err)
+
+pub returns-then-taken-clause-ok : goal.returns-then-taken-clause-ok
+returns-then-taken-clause-ok g c =
+    let at = c.steps.invariant in
+    let faults = c.in-Fault.ensures.step at.bytes at.items at.fed in
+    fault_written _ _ _ _ _ _ _ _ _ _ _ _ at c.in-Fault.line c.in-Fault.code faults.0 _ c.if-taken.true c.in_ok-put_fault-in-Fault.ensures.ok
+
+pub returns-in_err-taken-in-Fault-clause-err : goal.returns-in_err-taken-in-Fault-clause-err
+returns-in_err-taken-in-Fault-clause-err g c =
+    let at = c.steps.invariant in
+    let faults = c.in-Fault.ensures.step at.bytes at.items at.fed in
+    let before = at.ended ∙ c.if-taken.false in
+    let went = c.in_err-taken-in-Fault.ensures in
+    let p = err_from_is_err_and c.from_residual-in_err-taken-in-Fault.result c.from_residual-in_err-taken-in-Fault.ensures.1 in
+    stopped c.from_residual-in_err-taken-in-Fault.result p.0 _ p.1 p.2 _ _ _ _ _ _ _ _ _
+    (stops_going _ _ _ _ _ _ _ _ _ _ _ _ at c.next_step.new.self c.in_err-taken-in-Fault.field-0.0 _ _ _ _ faults.1 (c.in-Fault.ensures.ended ∙ before) went.err went.later went.bytes went.sink_later)
+
+pub steps-smaller : goal.steps-smaller
+steps-smaller g c =
+    let at = c.steps.invariant in
+    let faults = c.in-Fault.ensures.step at.bytes at.items at.fed in
+    less_more _ _ _ _ _ _ _ _ _ _ _ _ at c.next_step.new.self c.go_on-in-Fault.new.feed c.in_ok-taken-in-Fault.taken _ faults.1 (at.ended ∙ c.if-taken.false) c.in_ok-taken-in-Fault.ensures.ok
+
+pub steps-preserved : goal.steps-preserved
+steps-preserved g c =
+    let at = c.steps.invariant in
+    let faults = c.in-Fault.ensures.step at.bytes at.items at.fed in
+    let went = c.in_ok-taken-in-Fault.ensures in
+    stands_more _ _ _ _ _ _ _ _ _ _ _ _ at c.next_step.new.self c.go_on-in-Fault.new.feed c.in_ok-taken-in-Fault.taken _ _ _ _ faults.1 went.ok went.later went.bytes went.sink_later
+
+pub returns-in-NoMemory-clause-err : goal.returns-in-NoMemory-clause-err
+returns-in-NoMemory-clause-err g c = part_here _ _ _ _ _ _ _ _ _ _ _ _ c.steps.invariant

@@ -1,21 +1,13 @@
-use Rattle.std.proofs.Common.{◌≡◌, List}
-use Rattle.std.specs.Prelude.{fold}
-use Rattle.lt_model.specs.declared.syntax.Item.{Item}
-use Rattle.lt_model.specs.Report.{opening, step}
-use Rattle.lt_report.proofs.Going.{Did}
-use Rattle.lt_script.specs.Reading.{bytes_of, left_of, HasRead}
-use Rattle.lt_session.specs.World.{Shows}
+use Rattle.std.specs.Prelude.{length}
+use Rattle.lt_script.specs.Feed.{kept_of}
+use Rattle.lt_session.proofs.Standing.{Stands}
+use Rattle.lt_session.proofs.Steps.{left_to_do}
 use Rattle.lt_session.proofs.script.write_report.Given as goal
 
--- the world stands behind the items that were read, and what they say was written
-abbrev pub invariant-items : goal.invariant-items
-invariant-items g l = record {
-  items : List Item;
-  read : HasRead l.reader items;
-  shows : Shows l.world (fold (step l.options.marks) opening items);
-  bytes : bytes_of l.reader ≡ l.bytes;
-  did : Did (g.K.Sink.holds l.fn.sink) (g.K.Sink.holds l.sink) (g.K.Sink.faults l.fn.sink) (g.K.Sink.faults l.sink) (fold (step l.options.marks) opening items).text;
-}
+abbrev pub invariant-steps : goal.invariant-steps
+invariant-steps g l =
+    Stands l.options.marks l.feed l.world l.taken (g.S.Source.left l.fn.source) (g.S.Source.left l.source) (g.S.Source.faults l.fn.source) (g.S.Source.faults l.source) (g.K.Sink.holds l.fn.sink) (g.K.Sink.holds l.sink)
+    (g.K.Sink.faults l.fn.sink) (g.K.Sink.faults l.sink)
 
-abbrev pub decreases-items : goal.decreases-items
-decreases-items g l = left_of l.reader
+abbrev pub decreases-steps : goal.decreases-steps
+decreases-steps g l = left_to_do l.taken.ended l.taken.count (length (kept_of l.feed))
