@@ -20,7 +20,7 @@ fn is_journal(journal: &[Entry], want: &[Entry]) -> bool {
 }
 
 /// The worker takes the job.
-fn claims(worker: u32, job: JobName) -> Entry {
+pub(crate) fn claims(worker: u32, job: JobName) -> Entry {
     Entry {
         worker,
         job,
@@ -29,7 +29,7 @@ fn claims(worker: u32, job: JobName) -> Entry {
 }
 
 /// The worker has done the job.
-fn finishes(worker: u32, job: JobName) -> Entry {
+pub(crate) fn finishes(worker: u32, job: JobName) -> Entry {
     Entry {
         worker,
         job,
@@ -38,7 +38,7 @@ fn finishes(worker: u32, job: JobName) -> Entry {
 }
 
 /// The worker gives the job up.
-fn abandons(worker: u32, job: JobName) -> Entry {
+pub(crate) fn abandons(worker: u32, job: JobName) -> Entry {
     Entry {
         worker,
         job,
@@ -59,7 +59,7 @@ fn settled_alone(alloc: Global, leaves: u32) -> Result<Circuit<Sample>, NoMemory
 }
 
 /// The events of one worker over two leaves.
-fn one_worker() -> [Entry; 10] {
+pub(crate) fn one_worker() -> [Entry; 10] {
     [
         claims(0, Leaf(0)),
         finishes(0, Leaf(0)),
@@ -211,7 +211,7 @@ fn settles_from(alloc: Global, entries: &[Entry], could: usize) -> Result<bool, 
 }
 
 /// A merge on what stood before is given up.
-fn overtaken() -> [Entry; 6] {
+pub(crate) fn overtaken() -> [Entry; 6] {
     [
         claims(0, Leaf(0)),
         claims(1, Leaf(1)),
@@ -223,7 +223,7 @@ fn overtaken() -> [Entry; 6] {
 }
 
 /// A leaf's correction changes while it runs. It is given up and taken again.
-fn dirtied() -> [Entry; 8] {
+pub(crate) fn dirtied() -> [Entry; 8] {
     [
         claims(0, Leaf(0)),
         claims(1, Leaf(1)),
@@ -237,7 +237,7 @@ fn dirtied() -> [Entry; 8] {
 }
 
 /// The last leaves first. What another holds, what isn't Pending and what names no job isn't given.
-fn backwards() -> [Entry; 12] {
+pub(crate) fn backwards() -> [Entry; 12] {
     [
         claims(1, Leaf(3)),
         claims(0, Leaf(3)),

@@ -34,7 +34,7 @@ struct Finding {
 }
 
 /// The plan of a body that fits.
-fn planned(body: &Body) -> Result<Plan, NoMemory>
+pub(crate) fn planned(body: &Body) -> Result<Plan, NoMemory>
     requires { (state : State) × AreWide state × IsBodyOf state body.now }
     ensures { IfOk result (IsPlanned body.now) }
 {

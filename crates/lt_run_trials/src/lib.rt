@@ -10,6 +10,8 @@ mod batches;
 #[cfg(test)]
 mod by_hand;
 #[cfg(test)]
+mod by_key;
+#[cfg(test)]
 mod circuits;
 #[cfg(test)]
 mod comparing;
@@ -24,6 +26,8 @@ mod meeting;
 #[cfg(test)]
 mod random;
 #[cfg(test)]
+mod refusing;
+#[cfg(test)]
 mod restatement;
 #[cfg(test)]
 mod restating;
@@ -31,6 +35,8 @@ mod restating;
 mod sample;
 #[cfg(test)]
 mod sampled;
+#[cfg(test)]
+mod schedules;
 #[cfg(test)]
 mod serial;
 #[cfg(test)]

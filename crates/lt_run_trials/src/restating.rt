@@ -11,6 +11,8 @@ use lt_base::Database;
 use lt_delta::Marks;
 use lt_face::memory::NoMemory;
 use lt_face::row::Row;
+use lt_join::{SharedSlice, Slice};
+use lt_program::Part;
 use lt_restate::Touch;
 use lt_sense::{Hit, KeptGap, Sense, Spot};
 use lt_values::cell_of_int;
@@ -170,20 +172,57 @@ fn is_same_sense(one: &Sense, other: &Sense) -> Result<bool, NoMemory> {
     Ok(gaps && hits)
 }
 
+/// Whether both slices have one key, and the same gaps and hits.
+fn is_same_slice(one: &Slice, other: &Slice) -> Result<bool, NoMemory> {
+    let same = is_same_sense(&one.sense, &other.sense)?;
+    Ok(same && one.key == other.key)
+}
+
+/// Whether the slices are the same, in the same order.
+fn are_same_slices(one: &[SharedSlice], other: &[SharedSlice]) -> Result<bool, NoMemory> {
+    if one.len() != other.len() {
+        return Ok(false);
+    }
+    for (i, shared) in one.iter().enumerate() {
+        let same = is_same_slice(shared.slice(), other[i].slice())?;
+        if !same {
+            return Ok(false);
+        }
+    }
+    Ok(true)
+}
+
+/// Whether both parts were sensitive to the same.
+fn is_same_part(one: &Part, other: &Part) -> Result<bool, NoMemory> {
+    let root = is_same_sense(&one.sense, &other.sense)?;
+    let slices = are_same_slices(one.slices.as_slice(), other.slices.as_slice())?;
+    Ok(root && slices)
+}
+
+/// Whether the part was sensitive to the row of e.
+fn is_sensitive(part: &Part, row: &Row) -> bool {
+    for shared in part.slices.as_slice() {
+        if shared.slice().sense.covers(1, row) {
+            return true;
+        }
+    }
+    part.sense.covers(1, row)
+}
+
 /// The ints of the rows that are looked through, ascending. The constants at random are 0 to 4.
 const INTS: [i64; 8] = [-1, 0, 1, 2, 3, 4, 5, 6];
 
-/// The first row of e that begins with this int, that the sense covers, and that one of the states alone has.
+/// The first row of e that begins with this int, that the part's sense covers, and that one of the states alone has.
 fn first_with(
     alloc: Global,
     old: &Database,
     new: &Database,
-    sense: &Sense,
+    part: &Part,
     first: i64,
 ) -> Option<Row> {
     for second in INTS {
         let row = Row::from_cells(alloc, &[cell_of_int(first), cell_of_int(second)]);
-        if old.has(1, &row) != new.has(1, &row) && sense.covers(1, &row) {
+        if old.has(1, &row) != new.has(1, &row) && is_sensitive(part, &row) {
             return Some(row);
         }
     }
@@ -191,9 +230,9 @@ fn first_with(
 }
 
 /// The first such row of e.
-fn first_changed(alloc: Global, old: &Database, new: &Database, sense: &Sense) -> Option<Row> {
+fn first_changed(alloc: Global, old: &Database, new: &Database, part: &Part) -> Option<Row> {
     for first in INTS {
-        match first_with(alloc, old, new, sense, first) {
+        match first_with(alloc, old, new, part, first) {
             Some(row) => return Some(row),
             None => {}
         }
@@ -221,10 +260,10 @@ fn is_untouched(touches: &[Touch], statement: usize) -> bool {
     true
 }
 
-/// Whether the new tally has this sense of the statement with so many before it.
-fn keeps_sense(out: &Restatement, place: usize, sense: &Sense) -> Result<bool, NoMemory> {
+/// Whether the new tally has the sense of this part for the statement with so many before it.
+fn keeps_sense(out: &Restatement, place: usize, old: &Part) -> Result<bool, NoMemory> {
     match out.new.parts().get(place) {
-        Some(part) => is_same_sense(sense, &part.part().sense),
+        Some(part) => is_same_part(old, part.part()),
         None => Ok(false),
     }
 }
@@ -241,13 +280,13 @@ fn is_restated_on(
     let Some(part) = out.old.parts().get(place) else {
         return Ok(false);
     };
-    let sense = &part.part().sense;
+    let part = part.part();
     let touches = out.touches.as_slice();
     let statement = place.saturating_add(1);
-    match first_changed(alloc, old, new, sense) {
+    match first_changed(alloc, old, new, part) {
         Some(row) => Ok(is_touched_by(touches, statement, &row)),
         None => {
-            let kept = keeps_sense(out, place, sense)?;
+            let kept = keeps_sense(out, place, part)?;
             Ok(kept && is_untouched(touches, statement))
         }
     }

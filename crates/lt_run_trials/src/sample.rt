@@ -18,6 +18,9 @@ pub struct Sample {
     pub alloc: Global,
 }
 
+/// What four leaves write one after another. What two or three write are the first marks.
+pub(crate) const SERIAL: [(Key, bool); 3] = [(1, true), (2, true), (3, false)];
+
 /// The marks with one mark on this row.
 fn one_mark(alloc: Global, row: Key, plus: bool) -> Result<Marks, NoMemory>
     ensures { IfOk result (λ marks. marks ≡ record { relation = 0; row = row ∷ []; plus = plus } ∷ []) }

@@ -11,6 +11,10 @@ mod checks;
 #[cfg(test)]
 mod endings;
 #[cfg(test)]
+mod feeds;
+#[cfg(test)]
+mod hostile;
+#[cfg(test)]
 mod items;
 #[cfg(test)]
 mod marks;

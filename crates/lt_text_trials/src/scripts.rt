@@ -1,7 +1,7 @@
 //! Scripts, bytes in and bytes out.
 use crate::agree::{same, same_at};
 use crate::words::words_of;
-use lt_edges::{MemSink, MemSource, OpenGate};
+use lt_edges::{MemSink, MemSource, OpenGate, Source};
 use lt_session::repair_main;
 use std::alloc::Global;
 use std::process::Abort;
@@ -234,6 +234,15 @@ fn ends_where_a_read_or_a_write_fails(rt: HostRuntime) -> Result<(), Fail> {
     let (status, sink) = outcome(&rt, alloc, &mut source, &[])?;
     same(&rt, status, 3);
     same(&rt, sink.bytes(), b"".as_slice());
+    // The first item is there with the fourth read, and is run before the fifth.
+    let mut source = MemSource::new(alloc, script, 7, &[5])?;
+    let (status, sink) = outcome(&rt, alloc, &mut source, &[])?;
+    same(&rt, status, 3);
+    same(
+        &rt,
+        sink.bytes(),
+        b"batch 1\np done\nversion 1\n".as_slice(),
+    );
     let mut source = MemSource::new(alloc, script, 7, &[])?;
     let (status, sink) = outcome(&rt, alloc, &mut source, &[3])?;
     same(&rt, status, 4);
@@ -242,14 +251,78 @@ fn ends_where_a_read_or_a_write_fails(rt: HostRuntime) -> Result<(), Fail> {
 }
 
 #[test]
+fn passes_lines_on_before_it_reads_on(rt: HostRuntime) -> Result<(), Fail> {
+    let alloc = rt.alloc();
+    let script = b"batch program p end; commit; batch program q end; commit;";
+    // The first batch takes four reads and has twelve writes.
+    let mut source = MemSource::new(alloc, script, 7, &[])?;
+    let (status, sink) = outcome(&rt, alloc, &mut source, &[13])?;
+    same(&rt, status, 4);
+    same(
+        &rt,
+        sink.bytes(),
+        b"batch 1\np done\nversion 1\n".as_slice(),
+    );
+    let mut next = [0; 7];
+    same(&rt, source.read(&mut next), Ok(7));
+    same(&rt, next.as_slice(), b" batch ".as_slice());
+    Ok(())
+}
+
+#[test]
+fn runs_a_long_batch_once_it_is_there(rt: HostRuntime) -> Result<(), Fail> {
+    let alloc = rt.alloc();
+    // Five reads give it, the last of them less than it asks for, and the sixth fails.
+    let mut script = vec![in alloc; b'x'; 20_000]?;
+    let first = b"batch #";
+    script[..first.len()].copy_from_slice(first);
+    let last = b"\nprogram p end; commit;";
+    let from = script.len() - last.len();
+    script[from..].copy_from_slice(last);
+    let mut source = MemSource::new(alloc, &script, 65_536, &[6])?;
+    let (status, sink) = outcome(&rt, alloc, &mut source, &[])?;
+    same(&rt, status, 3);
+    same(
+        &rt,
+        sink.bytes(),
+        b"batch 1\np done\nversion 1\n".as_slice(),
+    );
+    Ok(())
+}
+
+#[test]
 fn takes_no_more_than_the_limit(rt: HostRuntime) -> Result<(), Fail> {
     let alloc = rt.alloc();
-    for (name, count, status) in [("the limit", 16_777_216, 0), ("one more", 16_777_217, 6)] {
-        let spaces = vec![in alloc; b' '; count]?;
-        let mut source = MemSource::new(alloc, &spaces, 65_536, &[])?;
+    // What stands behind a fault is read and counted, too.
+    let rows = [
+        ("the limit", 16_777_216, "fault 1 1\n", 2),
+        ("one more", 16_777_217, "", 6),
+    ];
+    for (name, count, report, status) in rows {
+        let mut bytes = vec![in alloc; b' '; count]?;
+        bytes[0] = b'@';
+        let mut source = MemSource::new(alloc, &bytes, 65_536, &[])?;
         let (ended, sink) = outcome(&rt, alloc, &mut source, &[])?;
         same_at(&rt, ended, status, name);
-        same_at(&rt, sink.bytes(), b"".as_slice(), name);
+        same_at(&rt, sink.bytes(), report.as_bytes(), name);
     }
+    Ok(())
+}
+
+#[test]
+fn leaves_what_was_run_before_the_limit(rt: HostRuntime) -> Result<(), Fail> {
+    let alloc = rt.alloc();
+    // One byte more than may be read, with what stands in front.
+    let mut script = Vec::from_slice(alloc, b"batch program p end; commit;@")?;
+    let spaces = vec![in alloc; b' '; 16_777_188]?;
+    script.extend_from_slice(&spaces)?;
+    let mut source = MemSource::new(alloc, &script, 65_536, &[])?;
+    let (status, sink) = outcome(&rt, alloc, &mut source, &[])?;
+    same(&rt, status, 6);
+    same(
+        &rt,
+        sink.bytes(),
+        b"batch 1\np done\nversion 1\n".as_slice(),
+    );
     Ok(())
 }

@@ -1,0 +1,181 @@
+//! Hostile orders of events over a batch: claims that are given up, dirtied and overtaken; and programs that begin in reverse.
+ghost use Rattle.std.specs.Prelude.{◌≡◌, ◌≤◌, ◌<◌, ℕ, length, map, IfOk};
+ghost use Rattle.std.specs.Arc.{arc_value};
+ghost use Rattle.std.specs.List.{AllByRecursion};
+ghost use Rattle.lt_face.specs.Limits.{most_programs};
+ghost use Rattle.lt_net.specs.Net.{IsSettled};
+ghost use Rattle.lt_circuit.specs.Circuit.{state};
+ghost use Rattle.lt_batch.specs.Work.{IsLeaf};
+ghost use Rattle.lt_run_trials.specs.Fitting.{FitsBoth};
+
+use crate::agree::holds;
+use crate::circuits::{backwards, dirtied, overtaken};
+use crate::comparing::{is_refused, is_same_reply};
+use crate::floor::Floor;
+use crate::serial::{Serial, one_after_another};
+use crate::texts::{bare, programs, stocked};
+use lt_batch::{BatchWork, Outcome, run_batch};
+use lt_circuit::{Circuit, Entry};
+use lt_delta::Marks;
+use lt_edges::OrderGate;
+use lt_face::memory::NoMemory;
+use lt_model::normal::Prog;
+use lt_model::reply::Reply;
+use std::alloc::Global;
+use std::sync::{Arc, Wait};
+use std::thread::Threads;
+
+/// Programs that see each other's rows.
+const MEETING: [&str; 6] = [
+    "insert r(0); print (x) where r(x);",
+    "insert r(1); print (x) where r(x);",
+    "delete r(0); print (x) where r(x);",
+    "require some r(n), n > 0; replace r(n) by r(m) where r(n), m = n - 1;",
+    "insert e(x, 7) where r(x); require none r(5);",
+    "require some e(0, y); delete e(0, y) where e(0, y); insert r(9);",
+];
+
+/// A batch on relations without rows: the work, and what its programs do one after another.
+#[derive(Drop)]
+struct Batch {
+    progs: Vec<Arc<Prog>>,
+    serial: Serial,
+}
+
+/// So many of the programs.
+fn batch_of(alloc: Global, count: usize) -> Result<Batch, NoMemory>
+    ensures many { IfOk result (λ batch. length batch.progs.items ≡ count) }
+    ensures fit { IfOk result (λ batch. AllByRecursion FitsBoth (map arc_value batch.progs.items)) }
+{
+    let progs = programs(alloc, &MEETING, count)?;
+    let serial = one_after_another(alloc, &progs)?;
+    Ok(Batch { progs, serial })
+}
+
+/// The opening of the batch's circuit, with empty hands.
+#[tactic(auto, using(crate::proofs::Fitting::all_fit))]
+fn opened<R: Threads + Sync>(
+    rt: &R,
+    alloc: Global,
+    progs: &[Arc<Prog>],
+    leaves: u32,
+) -> Result<Floor<BatchWork>, NoMemory>
+    requires few { leaves ≤ most_programs }
+    requires leaves { leaves ≡ length progs.now }
+    requires fit { AllByRecursion FitsBoth (map arc_value progs.now) }
+    ensures leaves { IfOk result (λ floor. floor.board.leaves ≡ leaves) }
+{
+    let db = bare(alloc)?;
+    let work = BatchWork::new(rt, alloc, &db, progs)?;
+    let floor = Floor::start(alloc, work, leaves)?;
+    Ok(floor)
+}
+
+/// Whether the leaves of a settled circuit answered and wrote what the programs do one after another.
+fn is_serial(circuit: &Circuit<BatchWork>, serial: &Serial, leaves: u32) -> bool
+    requires settled { IsSettled (state circuit.now) }
+    requires leaves { leaves ≡ circuit.now.board.leaves }
+{
+    if serial.runs.len() != leaves as usize {
+        return false;
+    }
+    for leaf in 0..leaves {
+        let ran = &serial.runs[leaf as usize];
+        let run = &circuit.tally(leaf).run;
+        if !is_same_reply(run.reply(), &ran.reply)
+            || !Marks::equal(circuit.effect(leaf), &ran.marks)
+        {
+            return false;
+        }
+    }
+    true
+}
+
+/// Whether the batch, whose hands are cleared, is settled by one worker to what its programs do one after another.
+fn ends_serial(floor: Floor<BatchWork>, serial: &Serial, leaves: u32) -> Result<bool, NoMemory>
+    requires { floor.board.leaves ≡ leaves }
+{
+    let mut circuit = floor.clear();
+    circuit.settle_alone()?;
+    let is_so = is_serial(&circuit, serial, leaves);
+    drop(circuit);
+    Ok(is_so)
+}
+
+/// Whether so many of these entries can be done over the first four programs, and what they do is then settled.
+fn follows<R: Threads + Sync>(
+    rt: &R,
+    alloc: Global,
+    batch: &Batch,
+    entries: &[Entry],
+    could: usize,
+) -> Result<bool, NoMemory>
+    requires many { length batch.now.progs.items ≡ 4 }
+    requires fit { AllByRecursion FitsBoth (map arc_value batch.now.progs.items) }
+{
+    let mut floor = opened(rt, alloc, &batch.progs, 4)?;
+    let done = floor.follow(entries);
+    let is_serial = ends_serial(floor, &batch.serial, 4)?;
+    Ok(done == could && is_serial)
+}
+
+#[test]
+fn a_batch_bears_what_is_given_up(rt: HostRuntime) -> Result<(), NoMemory> {
+    let alloc = rt.alloc();
+    let batch = batch_of(alloc, 4)?;
+    for (entries, could) in [
+        (overtaken().as_slice(), 6usize),
+        (dirtied().as_slice(), 8),
+        (backwards().as_slice(), 8),
+    ] {
+        holds(&rt, follows(&rt, alloc, &batch, entries, could)?);
+    }
+    Ok(())
+}
+
+/// How many turns a worker waits for others at most.
+const TURNS: u64 = 1_000_000;
+
+/// Takes one of two.
+const BUYING: &str =
+    "require some e(1, n), n > 0; replace e(1, n) by e(1, m) where e(1, n), m = n - 1;";
+
+/// A batch that three workers run past this gate.
+#[tactic(auto, using(crate::proofs::Fitting::all_fit))]
+fn ran_past<R: Threads + Wait + Sync>(
+    rt: &R,
+    alloc: Global,
+    progs: &[Arc<Prog>],
+    gate: &OrderGate,
+) -> Result<Outcome, NoMemory>
+    requires few { length progs.now ≤ most_programs }
+    requires fit { AllByRecursion FitsBoth (map arc_value progs.now) }
+{
+    let db = stocked(rt, alloc, "insert e(1, 2);")?;
+    let out = run_batch(rt, alloc, &db, progs, 3, gate)?;
+    Ok(out)
+}
+
+/// Whether the first two did what they are to do and the third was refused at its first statement.
+fn is_third_refused(replies: &[Reply]) -> bool {
+    match replies {
+        [Reply::Done(_), Reply::Done(_), third] => is_refused(third, 1),
+        _ => false,
+    }
+}
+
+/// Whether three buyers of two things, the last of whom begins first, are answered in their order.
+fn buys_in_reverse<R: Threads + Wait + Sync>(rt: &R, alloc: Global) -> Result<bool, NoMemory> {
+    let progs = programs(alloc, &[BUYING], 3)?;
+    let gate = OrderGate::new(alloc, &[6, 3, 0], TURNS)?;
+    let out = ran_past(rt, alloc, &progs, &gate)?;
+    let is_so = gate.passed() && is_third_refused(out.replies.as_slice());
+    drop(out);
+    Ok(is_so)
+}
+
+#[test]
+fn the_last_may_begin_first(rt: HostRuntime) -> Result<(), NoMemory> {
+    holds(&rt, buys_in_reverse(&rt, rt.alloc())?);
+    Ok(())
+}
