@@ -9,11 +9,14 @@ use crate::comparing::are_marks;
 use crate::sample::{SERIAL, Sample};
 use lt_circuit::{Circuit, Entry, LeafWork};
 use lt_delta::Marks;
+use lt_edges::OpenGate;
 use lt_face::{Moves, NoMemory};
 use lt_net::JobName::Leaf;
+use lt_workers::Shared;
 use std::alloc::Global;
-use std::sync::Arc;
 use std::sync::atomic::{AtomicU32, Ordering};
+use std::sync::{Arc, Wait};
+use std::thread::Threads;
 
 /// The leaves of the sample. Of their works the one with this number, from 0 on, is refused.
 #[derive(Drop)]
@@ -123,6 +126,32 @@ fn settles_at_last(alloc: Global, refused: u32) -> Result<bool, NoMemory> {
 fn each_refused_work_is_done_again(rt: HostRuntime) -> Result<(), NoMemory> {
     for refused in 0..12 {
         holds(&rt, settles_at_last(rt.alloc(), refused)?);
+    }
+    Ok(())
+}
+
+/// Whether three workers at four leaves, of whose works this one is refused, leave no claim, and one settles the rest.
+fn settles_after<R: Threads + Wait + Sync>(
+    rt: &R,
+    alloc: Global,
+    refused: u32,
+) -> Result<bool, NoMemory> {
+    let work = refusing_work(alloc, refused)?;
+    let circuit = Circuit::start(alloc, work, 4)?;
+    let (shared, mut seat) = Shared::new(alloc, circuit, 3)?;
+    shared.fan_out(rt, &mut seat, &OpenGate);
+    let mut circuit = shared.close(seat);
+    let is_free = circuit.in_flight() == 0;
+    circuit.settle_alone()?;
+    let is_so = is_free && are_marks(alloc, circuit.root_effect(), &SERIAL[..3]);
+    drop(circuit);
+    Ok(is_so)
+}
+
+#[test]
+fn workers_give_up_what_is_refused(rt: HostRuntime) -> Result<(), NoMemory> {
+    for refused in 0..8 {
+        holds(&rt, settles_after(&rt, rt.alloc(), refused)?);
     }
     Ok(())
 }

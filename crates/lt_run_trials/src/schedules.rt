@@ -1,4 +1,5 @@
-//! Hostile orders of events over a batch: claims that are given up, dirtied and overtaken; and programs that begin in reverse.
+//! Hostile orders of events: claims that are given up, dirtied and overtaken, by tables and at random, over a circuit and over
+//! a batch; and programs that begin in reverse.
 ghost use Rattle.std.specs.Prelude.{◌≡◌, ◌≤◌, ◌<◌, ℕ, length, map, IfOk};
 ghost use Rattle.std.specs.Arc.{arc_value};
 ghost use Rattle.std.specs.List.{AllByRecursion};
@@ -10,12 +11,14 @@ ghost use Rattle.lt_run_trials.specs.Fitting.{FitsBoth};
 
 use crate::agree::holds;
 use crate::circuits::{backwards, dirtied, overtaken};
-use crate::comparing::{is_refused, is_same_reply};
+use crate::comparing::{are_marks, is_refused, is_same_reply};
 use crate::floor::Floor;
+use crate::random::Random;
+use crate::sample::{SERIAL, Sample};
 use crate::serial::{Serial, one_after_another};
 use crate::texts::{bare, programs, stocked};
 use lt_batch::{BatchWork, Outcome, run_batch};
-use lt_circuit::{Circuit, Entry};
+use lt_circuit::{Circuit, Entry, Event, JobName, LeafWork};
 use lt_delta::Marks;
 use lt_edges::OrderGate;
 use lt_face::memory::NoMemory;
@@ -24,6 +27,69 @@ use lt_model::reply::Reply;
 use std::alloc::Global;
 use std::sync::{Arc, Wait};
 use std::thread::Threads;
+
+/// What one of two workers does next: it takes a job over so many leaves, if that is Pending, or ends what it holds, if anything.
+fn drawn(random: &mut Random, leaves: u32) -> Entry
+    requires some { 1 ≤ leaves }
+    requires few { leaves ≤ most_programs }
+{
+    let worker = random.below(2);
+    let event = match random.below(6) {
+        0 => Event::Abandon,
+        1 | 2 => Event::Finish,
+        _ => Event::Claim,
+    };
+    // Some of these codes name no job.
+    let job = JobName::of(random.below(6 * leaves));
+    Entry { worker, job, event }
+}
+
+/// So many draws. It tells how many of them were legal events.
+fn play<W: LeafWork>(floor: &mut Floor<W>, random: &mut Random, leaves: u32, draws: u32) -> usize
+    requires some { 1 ≤ leaves }
+    requires few { leaves ≤ most_programs }
+    ensures leaves { floor.new.board.leaves ≡ floor.old.board.leaves }
+{
+    let mut done: usize = 0;
+    'draws: for _ in 0..draws {
+        let entry = drawn(random, leaves);
+        done = done.saturating_add(floor.follow(&[entry]));
+    }
+    done
+}
+
+/// Whether so many leaves, after a list of events at random, are settled to what they do one after another.
+fn settles(alloc: Global, random: &mut Random, leaves: u32, draws: u32) -> Result<bool, NoMemory>
+    requires some { 2 ≤ leaves }
+    requires few { leaves ≤ 4 }
+{
+    let mut floor = Floor::start(alloc, Sample { alloc }, leaves)?;
+    let done = play(&mut floor, random, leaves, draws);
+    let is_written = floor.circuit().journal().len() == done;
+    let mut circuit = floor.clear();
+    circuit.settle_alone()?;
+    let want = leaves as usize - 1;
+    let is_so = is_written && are_marks(alloc, circuit.root_effect(), &SERIAL[..want]);
+    drop(circuit);
+    Ok(is_so)
+}
+
+/// Whether so many lists of events at random end in what the leaves do one after another.
+fn all_settle(alloc: Global, lists: u32) -> Result<bool, NoMemory> {
+    let mut random = Random::new();
+    for i in 0..lists {
+        if !settles(alloc, &mut random, 2 + i % 3, i % 25)? {
+            return Ok(false);
+        }
+    }
+    Ok(true)
+}
+
+#[test]
+fn any_events_settle_to_the_serial_marks(rt: HostRuntime) -> Result<(), NoMemory> {
+    holds(&rt, all_settle(rt.alloc(), 10_000)?);
+    Ok(())
+}
 
 /// Programs that see each other's rows.
 const MEETING: [&str; 6] = [
@@ -130,6 +196,40 @@ fn a_batch_bears_what_is_given_up(rt: HostRuntime) -> Result<(), NoMemory> {
     ] {
         holds(&rt, follows(&rt, alloc, &batch, entries, could)?);
     }
+    Ok(())
+}
+
+/// Whether the programs, after a list of events at random, are settled to what they do one after another.
+fn plays<R: Threads + Sync>(
+    rt: &R,
+    alloc: Global,
+    batch: &Batch,
+    random: &mut Random,
+    draws: u32,
+) -> Result<bool, NoMemory>
+    requires many { length batch.now.progs.items ≡ 6 }
+    requires fit { AllByRecursion FitsBoth (map arc_value batch.now.progs.items) }
+{
+    let mut floor = opened(rt, alloc, &batch.progs, 6)?;
+    play(&mut floor, random, 6, draws);
+    ends_serial(floor, &batch.serial, 6)
+}
+
+/// Whether so many lists of events at random end in what the programs do one after another.
+fn all_play<R: Threads + Sync>(rt: &R, alloc: Global, lists: u32) -> Result<bool, NoMemory> {
+    let batch = batch_of(alloc, 6)?;
+    let mut random = Random::new();
+    for i in 0..lists {
+        if !plays(rt, alloc, &batch, &mut random, i % 60)? {
+            return Ok(false);
+        }
+    }
+    Ok(true)
+}
+
+#[test]
+fn any_events_of_a_batch_are_serial(rt: HostRuntime) -> Result<(), NoMemory> {
+    holds(&rt, all_play(&rt, rt.alloc(), 300)?);
     Ok(())
 }
 
