@@ -9,8 +9,7 @@ use Rattle.lt_model.specs.Marks.{Marks, laid}
 use Rattle.lt_model.specs.Laws.{mark_on}
 use Rattle.lt_base.specs.Changed.{differ_on}
 use Rattle.lt_base.proofs.Apart.{with_marks}
-use Rattle.lt_restate.specs.Found.{is_among}
-use Rattle.lt_restate.specs.Walked.{is_named}
+use Rattle.lt_restate.specs.Walked.{is_named, is_among}
 
 -- whether two truths differ
 abbrev apart : Bool → Bool → Bool

@@ -1,13 +1,12 @@
 pub mod Named
-pub mod Finding
+pub mod Covering
+pub mod Stands
+pub mod First
 pub mod Between
-pub mod Places
 pub mod Going
-pub mod Uniting
 pub mod Rising
 pub mod ChangeLists
 pub mod TouchedKeys
-pub mod Gathering
 pub mod Touching
 pub mod Ways
 pub mod Costing

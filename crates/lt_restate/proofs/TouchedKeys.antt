@@ -1,9 +1,9 @@
 -- The keys that the changes between two states touch, as a list.
 use Rattle.std.proofs.Common.{◌≡◌, ℕ, Bool, true, false, List, [], Option, Some, None, refl, sym, ap, ◌∙◌, inl, inr, subst}
 use Rattle.std.specs.Prelude.{if◌then◌else◌}
-use Rattle.std.specs.List.{flat_map}
+use Rattle.std.specs.List.{list_any, flat_map}
 use Rattle.std.specs.Option.{option_to_list}
-use Rattle.std.proofs.lemmas.Bool.{cases_Bool}
+use Rattle.std.proofs.lemmas.Bool.{cases_Bool, or_left}
 use Rattle.lt_face.specs.Lists.{IsIn}
 use Rattle.lt_face.specs.State.{Row, State, permuted}
 use Rattle.lt_face.proofs.Membership.{IsIn-append_left, IsIn-append_right, IsIn-append_cases, IsIn-map, IsIn-map_from, IsIn-flat_map, IsIn-flat_map_from}
@@ -11,12 +11,19 @@ use Rattle.lt_trie.specs.Under.{next_cell}
 use Rattle.lt_base.specs.Changed.{differ_on}
 use Rattle.lt_base.proofs.Apart.{alike}
 use Rattle.lt_sense.specs.declared.covering.KeptGap.{KeptGap}
-use Rattle.lt_sense.specs.Sense.{covers, gap_covers}
+use Rattle.lt_sense.specs.declared.covering.Hit.{Hit}
+use Rattle.lt_sense.specs.Kept.{Sense}
+use Rattle.lt_sense.specs.Sense.{covers, gap_covers, hit_covers}
 use Rattle.lt_join.specs.declared.slicing.Slice.{Slice}
 use Rattle.lt_join.specs.Mended.{LiesAt, Touches, HaveTouched}
 use Rattle.lt_join.specs.MendedKeys.{AreTouched}
-use Rattle.lt_join.specs.Sliced.{slice_keys}
+use Rattle.lt_join.specs.Sliced.{slice_keys, united}
+use Rattle.lt_join.specs.Walked.{Grows}
+use Rattle.lt_join.proofs.Repair.{list_any_of}
+use Rattle.lt_join.proofs.Steps.{covers_grows}
 use Rattle.lt_program.specs.declared.part.Part.{Part}
+use Rattle.lt_program.specs.Tally.{sense_of}
+use Rattle.lt_restate.specs.Covered.{AreCoveredChanges}
 use Rattle.lt_restate.specs.Changes.{changes_between, cells_in, slices_with, keys_at, touched_on}
 use Rattle.lt_restate.proofs.ChangeLists.{in_filter, from_filter, change_there, change_differs}
 use Rattle.lt_restate.proofs.Rising.{order_rises, order_has, order_from, same_rising}
@@ -36,6 +43,18 @@ cell_from gap relation row k h = go (gap_covers gap relation row) (next_cell gap
 -- whether the slice covers the row
 abbrev has_it : ℕ → Row → Slice → Bool
 has_it relation row slice = covers slice.sense relation row
+
+abbrev gaps_of : Slice → List KeptGap
+gaps_of slice = slice.sense.gaps
+
+abbrev hits_of : Slice → List Hit
+hits_of slice = slice.sense.hits
+
+grows_slice : (root : Sense) (slices : List Slice) (slice : Slice) → IsIn slice slices → Grows slice.sense (united root slices)
+grows_slice root slices slice at = record {
+  gaps = λ gap h. IsIn-append_right gap root.gaps (flat_map gaps_of slices) (IsIn-flat_map gaps_of slice gap slices at h);
+  hits = λ hit h. IsIn-append_right hit root.hits (flat_map hits_of slices) (IsIn-flat_map hits_of slice hit slices at h);
+}
 
 module _ (part : Part) (relation : ℕ) (row : Row) (k : ℕ) where
   keys_there : Touches part.sense part.slices relation row k → IsIn k (keys_at part (relation, row))
@@ -77,13 +96,23 @@ module _ (part : Part) (s t : State) where
     | inr e ↦ absurd (differ (alike s t relation row e))
   ]
 
-  -- the ascending keys that changed rows touch are these, where those have each row on which the states differ
-  pub keys_are : (changes : List (ℕ × Row)) (keys : List ℕ) → AreTouched part.sense part.slices changes keys → ((relation : ℕ) (row : Row) → IsIn (relation, row) changes → differ_on s t relation row ≡ true)
-      → ((relation : ℕ) (row : Row) → differ_on s t relation row ≡ true → IsIn (relation, row) changes) → keys ≡ touched_on part s t
-  keys_are changes keys are each all = same_rising keys (touched_on part s t) are.ascending (order_rises (flat_map (keys_at part) (changes_between s t))) forth back
+  -- a row that touches a key is covered
+  touching_is_covered : (relation : ℕ) (row : Row) (k : ℕ) → Touches part.sense part.slices relation row k → covers (sense_of part) relation row ≡ true
+  touching_is_covered relation row k h = elim h [
+    | inl of_slice ↦ covers_grows of_slice.0.sense (sense_of part) (grows_slice part.sense part.slices of_slice.0 of_slice.1) relation row of_slice.3
+    | inr of_gap ↦
+        or_left (list_any (λ gap. gap_covers gap relation row) (sense_of part).gaps) (list_any (λ hit. hit_covers hit relation row) (sense_of part).hits)
+        (list_any_of (λ (gap : KeptGap). gap_covers gap relation row) of_gap.0 (sense_of part).gaps (IsIn-append_left of_gap.0 part.sense.gaps (flat_map gaps_of part.slices) of_gap.1) of_gap.2.0)
+  ]
+
+  -- the ascending keys that the covered changes touch are these
+  pub keys_are : (changes : List (ℕ × Row)) (keys : List ℕ) → AreTouched part.sense part.slices changes keys → AreCoveredChanges (sense_of part) s t changes → keys ≡ touched_on part s t
+  keys_are changes keys are covered = same_rising keys (touched_on part s t) are.ascending (order_rises (flat_map (keys_at part) (changes_between s t))) forth back
     where
       forth : (k : ℕ) → IsIn k keys → IsIn k (touched_on part s t)
-      forth k h = let found = are.no_other k h in touched_there found.0.0 found.0.1 k (each found.0.0 found.0.1 found.1) found.2
+      forth k h = let found = are.no_other k h in touched_there found.0.0 found.0.1 k (covered.each found.0 found.1).differs found.2
 
       back : (k : ℕ) → IsIn k (touched_on part s t) → IsIn k keys
-      back k h = let found = touched_is k h in are.all k ((found.0, found.1), all found.0 found.1 found.2, found.3)
+      back k h =
+          let found = touched_is k h in
+          are.all k ((found.0, found.1), covered.all (found.0, found.1) (record { covered = touching_is_covered found.0 found.1 k found.3; differs = found.2 }), found.3)

@@ -1,5 +1,4 @@
 pub mod Changes
-pub mod Found
-pub mod Looked
+pub mod Covered
 pub mod Touches
 pub mod Walked

@@ -1,5 +1,6 @@
 -- What is so while a program is restated.
-use Rattle.std.specs.Prelude.{◌≡◌, ℕ, ◌<◌, ◌≤◌, ◌⊎◌, Bool, true, length, is_some}
+use Rattle.std.specs.Prelude.{◌≡◌, ℕ, ◌<◌, ◌≤◌, ◌⊎◌, Bool, true, List, length, is_some}
+use Rattle.std.specs.List.{list_any}
 use Rattle.lt_face.specs.Limits.{most_statements}
 use Rattle.lt_face.specs.State.{Row}
 use Rattle.lt_model.specs.declared.mark.Mark.{Mark}
@@ -19,6 +20,10 @@ mark_of change = record { relation = change.0; row = change.1; plus = true }
 -- whether a mark is on the row
 abbrev pub is_named : Marks → ℕ → Row → Bool
 is_named marks relation row = is_some (mark_on marks relation row)
+
+-- whether one of the lists has a mark on the row
+abbrev pub is_among : List Marks → ℕ → Row → Bool
+is_among lists relation row = list_any (λ marks. is_named marks relation row) lists
 
 -- The rows on which the bases differ are marked in one of two lists.
 pub record IsUnderWay (old new : TallyView) (old_on new_on : Marks) (walk : Walk) : Type 0 where

@@ -3,8 +3,9 @@
 #![tactic(auto)]
 
 mod changed;
-mod looking;
+mod covered;
 mod restating;
+mod standing;
 mod touch;
 mod touched;
 mod walk;

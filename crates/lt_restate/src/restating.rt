@@ -8,12 +8,14 @@ ghost use Rattle.lt_base.specs.Tables.{state_of};
 ghost use Rattle.lt_sense.specs.Sense.{AgreeWhereCovered};
 ghost use Rattle.lt_program.specs.declared.part.Part.{Part as PartType};
 ghost use Rattle.lt_program.specs.Tally.{HasIndexes, IsOneMore, ends_at, has_ended, sense_of, is_next_sliced};
+ghost use Rattle.lt_restate.specs.Covered.{AreCoveredChanges};
 ghost use Rattle.lt_restate.specs.Touches.{IsTouchOn, IsRestatement, before, cost_again, cost_at};
 ghost use Rattle.lt_restate.specs.Walked.{IsUnderWay, is_named};
 
-use crate::changed::{named_rows, touch_of};
+use crate::changed::named_rows;
+use crate::covered::covered_changes;
 use crate::touch::{Touch, Touches};
-use crate::touched::keys_touched;
+use crate::touched::{keys_touched, touch_of};
 use crate::walk::Walk;
 use lt_base::Database;
 use lt_delta::Marks;
@@ -99,23 +101,26 @@ fn evaluate_whole<L>(
     Ok(())
 }
 
-/// The next statement, which this touches and which is kept by slices: the slices of the touched keys are joined again.
+/// The next statement, which this touches and which is kept by slices: the slices of the keys that these changed rows touch are
+/// joined again.
 fn mend_next<L>(
     old: &Tally,
     new: &mut Tally,
-    old_on: &Marks,
-    new_on: &Marks,
+    _old_on: &Marks,
+    _new_on: &Marks,
     walk: &mut Walk,
     part: &SharedPart,
     touch: Touch,
+    changes: &Changes,
     moves: &mut Moves<L>,
 ) -> Result<(), NoMemory>
     requires going { has_ended new.old ≡ false }
-    requires under_way { IsUnderWay old.now new.old old_on.now new_on.now walk.old }
+    requires under_way { IsUnderWay old.now new.old _old_on.now _new_on.now walk.old }
     requires part { slice_get old.now.parts (length new.old.parts) ≡ Some part.now }
     requires touch { IsTouchOn (length new.old.parts) part.now (before (length new.old.parts) old.now) (before (length new.old.parts) new.old) touch }
+    requires changes { AreCoveredChanges (sense_of part.now) (before (length new.old.parts) old.now) (before (length new.old.parts) new.old) changes.now }
     requires sliced { is_next_sliced new.old ≡ true }
-    ensures under_way { OnOk result (IsUnderWay old.now new.new old_on.now new_on.now walk.new) }
+    ensures under_way { OnOk result (IsUnderWay old.now new.new _old_on.now _new_on.now walk.new) }
     ensures one { OnOk result (IsOneMore new.old new.new) }
     ensures touches { OnOk result (walk.new.touches ≡ walk.old.touches ++ touch ∷ []) }
     ensures moves { moves.new ≤ moves.old + cost_at old.now (state_of new.old.base) (length new.old.parts) }
@@ -123,7 +128,7 @@ fn mend_next<L>(
 {
     let place = new.evaluated();
     let past = old.marks_after(place, &walk.past)?;
-    let keys = keys_touched(old, &walk.past, new, old_on, new_on, part.part())?;
+    let keys = keys_touched(part.part(), changes)?;
     new.mend(old, &keys, moves)?;
     walk.touches.push(touch)?;
     walk.past = past;
@@ -139,12 +144,14 @@ fn evaluate_again<L>(
     walk: &mut Walk,
     part: &SharedPart,
     touch: Touch,
+    changes: &Changes,
     moves: &mut Moves<L>,
 ) -> Result<(), NoMemory>
     requires going { has_ended new.old ≡ false }
     requires under_way { IsUnderWay old.now new.old old_on.now new_on.now walk.old }
     requires part { slice_get old.now.parts (length new.old.parts) ≡ Some part.now }
     requires touch { IsTouchOn (length new.old.parts) part.now (before (length new.old.parts) old.now) (before (length new.old.parts) new.old) touch }
+    requires changes { AreCoveredChanges (sense_of part.now) (before (length new.old.parts) old.now) (before (length new.old.parts) new.old) changes.now }
     ensures under_way { OnOk result (IsUnderWay old.now new.new old_on.now new_on.now walk.new) }
     ensures one { OnOk result (IsOneMore new.old new.new) }
     ensures touches { OnOk result (walk.new.touches ≡ walk.old.touches ++ touch ∷ []) }
@@ -152,12 +159,29 @@ fn evaluate_again<L>(
     ensures rises { moves.old ≤ moves.new }
 {
     if new.is_next_sliced() {
-        mend_next(old, new, old_on, new_on, walk, part, touch, moves)?;
+        mend_next(old, new, old_on, new_on, walk, part, touch, changes, moves)?;
         Ok(())
     } else {
         evaluate_whole(old, new, old_on, new_on, walk, part, touch, moves)?;
         Ok(())
     }
+}
+
+/// The changed rows that the next statement's old part covers.
+fn next_changes(
+    old: &Tally,
+    new: &Tally,
+    old_on: &Marks,
+    new_on: &Marks,
+    walk: &Walk,
+    part: &SharedPart,
+) -> Result<Changes, NoMemory>
+    requires under_way { IsUnderWay old.now new.now old_on.now new_on.now walk.now }
+    requires part { slice_get old.now.parts (length new.now.parts) ≡ Some part.now }
+    ensures { IfOk result (AreCoveredChanges (sense_of part.now) (before (length new.now.parts) old.now) (before (length new.now.parts) new.now)) }
+{
+    let changes = covered_changes(old, &walk.past, new, old_on, new_on, part.part())?;
+    Ok(changes)
 }
 
 /// The next statement.
@@ -184,14 +208,14 @@ fn step<L>(
         return Ok(());
     }
     let part = &old.parts()[place];
-    let touch = touch_of(old, &walk.past, new, old_on, new_on, part)?;
-    match touch {
+    let changes = next_changes(old, new, old_on, new_on, walk, part)?;
+    match touch_of(place, part.part(), &changes) {
         None => {
             keep_next(old, new, old_on, new_on, walk)?;
             Ok(())
         }
         Some(touch) => {
-            evaluate_again(old, new, old_on, new_on, walk, part, touch, moves)?;
+            evaluate_again(old, new, old_on, new_on, walk, part, touch, &changes, moves)?;
             Ok(())
         }
     }

@@ -1,100 +1,80 @@
-//! The keys of a part that changed rows touch.
-ghost use Rattle.std.specs.Prelude.{◌≡◌, ◌⊎◌, ◌++◌, ℕ, [], ◌∷◌, true, length, IfOk, OnOk};
-ghost use Rattle.std.specs.List.{flat_map};
-ghost use Rattle.lt_face.specs.State.{Row as RowView};
-ghost use Rattle.lt_model.specs.Fits.{FitMarks};
-ghost use Rattle.lt_model.specs.Marks.{laid};
-ghost use Rattle.lt_base.specs.Tables.{state_of};
-ghost use Rattle.lt_base.specs.Changed.{differ_on};
+//! What changed rows that a part's sense covers touch: the statement, and of one that is kept by slices some keys.
+ghost use Rattle.std.specs.Prelude.{◌≡◌, ◌<◌, ◌≤◌, ◌+◌, ℕ, List, length, IfOk, IfSome, IfNone, slice_get, Some};
+ghost use Rattle.std.specs.Ordering.{is_lt};
+ghost use Rattle.lt_face.specs.Limits.{most_statements};
+ghost use Rattle.lt_face.specs.State.{State};
 ghost use Rattle.lt_query.specs.Lists.{IsRising};
-ghost use Rattle.lt_program.specs.Tally.{state_before};
+ghost use Rattle.lt_sense.specs.Sense.{AgreeWhereCovered};
+ghost use Rattle.lt_program.specs.Tally.{sense_of};
 ghost use Rattle.lt_restate.specs.Changes.{touched_on};
-ghost use Rattle.lt_restate.specs.Found.{changed_among};
-ghost use Rattle.lt_restate.specs.Walked.{is_named};
+ghost use Rattle.lt_restate.specs.Covered.{AreCoveredChanges, IsFirstAt};
+ghost use Rattle.lt_restate.specs.Touches.{IsTouchOn, change_cmp};
 
-use crate::changed::is_changed;
-use lt_delta::Marks;
+use crate::touch::Touch;
 use lt_face::items::{Changes, Items};
 use lt_face::key::Key;
 use lt_face::memory::NoMemory;
-use lt_join::touched_keys;
-use lt_model::mark::Mark;
-use lt_program::{Part, Tally};
-use std::alloc::Global;
+use lt_face::row::Row;
+use lt_join::{spot_in, touched_keys};
+use lt_program::Part;
+use std::cmp::Ordering;
 
-/// Adds the mark's row, where it changed.
-fn add_if_changed(
-    changes: &mut Changes,
-    old: &Tally,
-    past: &Marks,
-    new: &Tally,
-    mark: &Mark,
-) -> Result<(), NoMemory>
-    requires { FitMarks (state_of old.now.base) past.now }
-    ensures { OnOk result (changes.new ≡ changes.old ++ changed_among (laid (state_of old.now.base) past.now) (state_before (length new.now.parts) new.now.program (state_of new.now.base)) (mark.now ∷ [])) }
+/// Whether the row of the one comes before that of the other, by relation and row.
+fn is_before(one: &(u32, Row), other: &(u32, Row)) -> bool
+    ensures { result ≡ is_lt (change_cmp one.now other.now) }
 {
-    if is_changed(old, past, new, mark.relation, &mark.row) {
-        changes.push((mark.relation, mark.row.copy_row()))?;
-        return Ok(());
+    match one.0.cmp(&other.0) {
+        Ordering::Less => true,
+        Ordering::Equal => one.1.cmp(&other.1).is_lt(),
+        Ordering::Greater => false,
     }
-    Ok(())
 }
 
-/// Adds the marked rows that changed.
-fn add_changed(
-    changes: &mut Changes,
-    old: &Tally,
-    past: &Marks,
-    new: &Tally,
-    marks: &Marks,
-) -> Result<(), NoMemory>
-    requires { FitMarks (state_of old.now.base) past.now }
-    ensures { OnOk result (changes.new ≡ changes.old ++ changed_among (laid (state_of old.now.base) past.now) (state_before (length new.now.parts) new.now.program (state_of new.now.base)) marks.now) }
+/// The place of the row that comes first.
+fn first_place(changes: &[(u32, Row)]) -> usize
+    requires { 0 < length changes.now }
+    ensures within { result < length changes.now }
+    ensures first { IsFirstAt changes.now result }
 {
-    for i in 0..marks.len() {
-        let mark = marks.mark(i);
-        add_if_changed(changes, old, past, new, mark)?;
+    let mut place = 0;
+    for i in 1..changes.len() {
+        if is_before(&changes[i], &changes[place]) {
+            place = i;
+        }
     }
-    Ok(())
+    place
 }
 
-/// The rows that changed, of those that are marked in one of the lists.
-fn changed_rows(
-    alloc: Global,
-    old: &Tally,
-    past: &Marks,
-    new: &Tally,
-    old_on: &Marks,
-    new_on: &Marks,
-) -> Result<Changes, NoMemory>
-    requires { FitMarks (state_of old.now.base) past.now }
-    ensures { IfOk result (λ changes. changes ≡ flat_map (changed_among (laid (state_of old.now.base) past.now) (state_before (length new.now.parts) new.now.program (state_of new.now.base))) (old_on.now ∷ new_on.now ∷ past.now ∷ new.now.marks ∷ [])) }
+/// What touches a statement with so many before it, whose old part this is, where these are the changed rows that the part's
+/// sense covers.
+pub(crate) fn touch_of(place: usize, part: &Part, changes: &Changes) -> Option<Touch>
+    requires { place < most_statements }
+    ensures none { IfNone result ((s t : State) → AreCoveredChanges (sense_of part.now) s t changes.now → AgreeWhereCovered (sense_of part.now) s t) }
+    ensures some { IfSome result (λ touch. (s t : State) → AreCoveredChanges (sense_of part.now) s t changes.now → IsTouchOn place part.now s t touch) }
 {
-    let mut changes = Items::new(alloc);
-    add_changed(&mut changes, old, past, new, old_on)?;
-    add_changed(&mut changes, old, past, new, new_on)?;
-    add_changed(&mut changes, old, past, new, past)?;
-    add_changed(&mut changes, old, past, new, new.marks())?;
-    Ok(changes)
+    let rows = changes.as_slice();
+    if rows.len() == 0 {
+        return None;
+    }
+    let first = &rows[first_place(rows)];
+    match spot_in(&part.sense, part.slices.as_slice(), first.0, &first.1) {
+        None => None,
+        Some(spot) => Some(Touch {
+            statement: place as u32 + 1,
+            relation: first.0,
+            row: first.1.copy_row(),
+            spot,
+        }),
+    }
 }
 
-/// The keys of the next statement's old part that changed rows touch, ascending. No move is made.
-pub(crate) fn keys_touched(
-    old: &Tally,
-    past: &Marks,
-    new: &Tally,
-    old_on: &Marks,
-    new_on: &Marks,
-    part: &Part,
-) -> Result<Items<Key>, NoMemory>
-    requires fits { FitMarks (state_of old.now.base) past.now }
-    requires bases { (relation : ℕ) (row : RowView) → differ_on (state_of old.now.base) (state_of new.now.base) relation row ≡ true → (is_named old_on.now relation row ≡ true) ⊎ (is_named new_on.now relation row ≡ true) }
+/// The keys of the part that changed rows touch, ascending, where these are the changed rows that its sense covers. No move
+/// is made.
+pub(crate) fn keys_touched(part: &Part, changes: &Changes) -> Result<Items<Key>, NoMemory>
     ensures ascending { IfOk result IsRising }
-    ensures keys { IfOk result (λ keys. keys ≡ touched_on part.now (laid (state_of old.now.base) past.now) (state_before (length new.now.parts) new.now.program (state_of new.now.base))) }
+    ensures keys { IfOk result (λ keys. (s t : State) → AreCoveredChanges (sense_of part.now) s t changes.now → keys ≡ touched_on part.now s t) }
 {
     let alloc = part.slices.allocator();
-    let _marks = new.marks();
-    let changes = changed_rows(alloc, old, past, new, old_on, new_on)?;
-    let keys = touched_keys(alloc, &part.sense, part.slices.as_slice(), &changes)?;
+    let keys = touched_keys(alloc, &part.sense, part.slices.as_slice(), changes)?;
     Ok(keys)
 }
