@@ -14,7 +14,7 @@ use Rattle.lt_turn.specs.Rule.{above, below, joined, longer}
 use Rattle.lt_turn.specs.declared.view.View.{View}
 use Rattle.lt_workers.specs.declared.held.Basis.{Basis}
 use Rattle.lt_workers.specs.declared.driving.Ended.{Ended}
-use Rattle.lt_workers.specs.declared.driving.Ended.TheVariants.{Settled, NoMemory}
+use Rattle.lt_workers.specs.declared.driving.Ended.TheVariants.{Settled, NoMemory, Spared}
 use Rattle.lt_workers.specs.Seen.{event_for, pairs_of, net_of, reached, Knows, Claims, AreFree, BeginsFree}
 use Rattle.lt_workers.specs.Visit.{IsSame, Visits, Answers, KeepsOthers}
 use Rattle.lt_workers.specs.Driven.{EndsAt, AreOthersFree, Continues, Drives, either_of}
@@ -130,6 +130,7 @@ module _ {W : Type 0} (does : W → ℕ → List Mark → List Mark) where
     known_of : (x : View (Basis W)) (answer : Ended) → EndsAt does x answer → (s : State) × Knows does x s
     known_of x Settled e = (e.0, e.1)
     known_of x NoMemory e = e
+    known_of x Spared e = e
 
     joined_known : (one other : Ended) → EndsAt does v one → EndsAt does w other → (t : State) × Knows does j t
     joined_known one other first second =
@@ -138,14 +139,21 @@ module _ {W : Type 0} (does : W → ℕ → List Mark → List Mark) where
         let k = longer_known v.opening v.seen w.seen p.0 q.0 p.1 (subst (λ (o : Option (Basis W)). reached does o w.seen ≡ Some q.0) common q.1) in
         (k.0, subst (λ (x : Option (Basis W) × List (ℕ × ℕ)). reached does x.0 x.1 ≡ Some k.0) (λ i. (sym opening_low i, sym (ap (λ (x : View (Basis W)). x.seen) is) i)) k.1)
 
+    settled_second : (one : Ended) → EndsAt does v one → EndsAt does w Settled → EndsAt does j Settled
+    settled_second one first second =
+        let k = joined_known one Settled first second in
+        (k.0, k.1, settled_stays w.opening w.first w.end w.seen j.seen second.0 k.0 high second.1 second.2 (subst (λ (o : Option (Basis W)). reached does o j.seen ≡ Some k.0) opening_high k.1))
+
     pub joined_ends : (one other : Ended) → EndsAt does v one → EndsAt does w other → EndsAt does j (either_of one other)
     joined_ends Settled other first second =
         let k = joined_known Settled other first second in
         (k.0, k.1, settled_stays v.opening v.first v.end v.seen j.seen first.0 k.0 low first.1 first.2 (subst (λ (o : Option (Basis W)). reached does o j.seen ≡ Some k.0) opening_low k.1))
-    joined_ends NoMemory Settled first second =
-        let k = joined_known NoMemory Settled first second in
-        (k.0, k.1, settled_stays w.opening w.first w.end w.seen j.seen second.0 k.0 high second.1 second.2 (subst (λ (o : Option (Basis W)). reached does o j.seen ≡ Some k.0) opening_high k.1))
+    joined_ends NoMemory Settled first second = settled_second NoMemory first second
     joined_ends NoMemory NoMemory first second = joined_known NoMemory NoMemory first second
+    joined_ends NoMemory Spared first second = joined_known NoMemory Spared first second
+    joined_ends Spared Settled first second = settled_second Spared first second
+    joined_ends Spared NoMemory first second = joined_known Spared NoMemory first second
+    joined_ends Spared Spared first second = joined_known Spared Spared first second
 
   -- ---- what a worker does with an answer
 

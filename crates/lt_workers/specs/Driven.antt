@@ -5,7 +5,7 @@ use Rattle.lt_net.specs.Net.{State, IsSettled}
 use Rattle.lt_turn.specs.declared.view.View.{View}
 use Rattle.lt_workers.specs.declared.held.Basis.{Basis}
 use Rattle.lt_workers.specs.declared.driving.Ended.{Ended}
-use Rattle.lt_workers.specs.declared.driving.Ended.TheVariants.{Settled, NoMemory}
+use Rattle.lt_workers.specs.declared.driving.Ended.TheVariants.{Settled, NoMemory, Spared}
 use Rattle.lt_workers.specs.Seen.{Knows, Claims, AreFree}
 use Rattle.lt_workers.specs.Visit.{IsSame}
 
@@ -14,6 +14,7 @@ module _ {W : Type 0} (does : W → ℕ → List Mark → List Mark) where
   abbrev pub EndsAt : View (Basis W) → Ended → Type 0
   EndsAt v Settled = (s : State) × Knows does v s × IsSettled s
   EndsAt v NoMemory = (s : State) × Knows does v s
+  EndsAt v Spared = (s : State) × Knows does v s
 
   -- none of the workers but the first has a claim
   abbrev pub AreOthersFree : View (Basis W) → Type 0
@@ -37,3 +38,4 @@ module _ {W : Type 0} (does : W → ℕ → List Mark → List Mark) where
 abbrev pub either_of : Ended → Ended → Ended
 either_of Settled other = Settled
 either_of NoMemory other = other
+either_of Spared other = other

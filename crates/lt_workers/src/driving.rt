@@ -12,6 +12,7 @@ use crate::shared::Shared;
 use lt_circuit::{Claim, Job, LeafWork};
 use lt_edges::Gate;
 use lt_face::Moves;
+use lt_net::JobName;
 use lt_turn::Seat;
 use std::sync::Wait;
 use std::thread::{Threads, join_mut};
@@ -23,6 +24,20 @@ pub enum Ended {
     Settled,
     /// Memory was refused, and the job given back.
     NoMemory,
+    /// No leaf was left that never ran; a worker but the first then gives its job back and leaves what remains to the first.
+    Spared,
+}
+
+// Whether the worker leaves such a job to the first. One that runs ahead is given leaves that never ran, as long as there are any;
+// what it did behind them would mostly be done again, since the leaves before aren't done.
+fn is_spared(worker: u32, name: JobName) -> bool {
+    if worker == 0 {
+        return false;
+    }
+    match name {
+        JobName::Leaf(_leaf) => false,
+        _inner => true,
+    }
 }
 
 impl<W: LeafWork + Send + Sync> Shared<W>
@@ -44,8 +59,32 @@ where
                 self.turn.wait_for_entries(rt, seat);
                 None
             }
-            Claim::Job(job) => self.work_on(rt, seat, job, gate),
+            Claim::Job(job) => self.take_up(rt, seat, job, gate),
         }
+    }
+
+    // Does the job, or gives it back, where it isn't a leaf's and the worker isn't the first.
+    fn take_up<R: Wait, G: Gate>(
+        &self,
+        rt: &R,
+        seat: &mut Seat<Held<W>>,
+        job: Job<W>,
+        gate: &G,
+    ) -> Option<Ended>
+        requires turn { IsSeatOf self.now seat.old }
+        requires idle { IsIdle (view seat.old) }
+        requires work { IsOfWork (view seat.old) job.work }
+        requires claim { Claims W.does (view seat.old) (view seat.old).first (Some (claim_of_job job)) }
+        requires coded { (claim_of_job job).job < 2 ^ 32 }
+        requires others { AreOthersFree W.does (view seat.old) }
+        ensures turn { IsSeatOf self.now seat.new }
+        ensures goes { Goes W.does (view seat.old) (view seat.new) result }
+    {
+        if is_spared(seat.first(), job.name()) {
+            self.abandon(rt, seat, job);
+            return Some(Ended::Spared);
+        }
+        self.work_on(rt, seat, job, gate)
     }
 
     // Passes the gate, does the job outside the turn, and ends the claim.
@@ -79,8 +118,8 @@ where
         }
     }
 
-    /// Does jobs as the seat's first worker until the circuit is settled or memory is refused. One that finds no Pending
-    /// job while others work asks again.
+    /// Does jobs as the seat's first worker until the circuit is settled, memory is refused, or the worker is spared. One that finds
+    /// no Pending job while others work asks again.
     pub fn drive<R: Wait, G: Gate>(&self, rt: &R, seat: &mut Seat<Held<W>>, gate: &G) -> Ended
         requires turn { IsSeatOf self.now seat.old }
         requires idle { IsIdle (view seat.old) }
@@ -159,5 +198,6 @@ fn either(one: Ended, other: Ended) -> Ended
     match one {
         Ended::Settled => Ended::Settled,
         Ended::NoMemory => other,
+        Ended::Spared => other,
     }
 }

@@ -5,8 +5,8 @@ use Rattle.lt_workers.specs.Visit.{Answers, HasAnswer}
 use Rattle.lt_workers.proofs.Continuing.{others_free, continues_idle, continues_from, settled_answer}
 use Rattle.lt_workers.proofs.shared.Shared.go_on.Goals as goal
 
-pub work_on-requires-clause-others : goal.work_on-requires-clause-others
-work_on-requires-clause-others g c = λ lifetimes outlive. others_free g.W.LeafWork.does c.args.seat.now.token.me.0 c.claim.new.seat.token.me.0 c.claim.ensures.same c.requires.free c.claim.ensures.others
+pub take_up-requires-clause-others : goal.take_up-requires-clause-others
+take_up-requires-clause-others g c = λ lifetimes outlive. others_free g.W.LeafWork.does c.args.seat.now.token.me.0 c.claim.new.seat.token.me.0 c.claim.ensures.same c.requires.free c.claim.ensures.others
 
 pub returns-in-Settled-clause-goes : goal.returns-in-Settled-clause-goes
 returns-in-Settled-clause-goes g c =
@@ -32,4 +32,4 @@ returns-in-Busy-clause-goes g c =
 pub returns-in-Job-clause-goes : goal.returns-in-Job-clause-goes
 returns-in-Job-clause-goes g c =
     let x = c.claim.ensures.answer in
-    (continues_from g.W.LeafWork.does c.args.seat.now.token.me.0 c.claim.new.seat.token.me.0 c.work_on.new.seat.token.me.0 x.before x.after c.claim.ensures.same x.visits c.work_on.ensures.goes.0, c.work_on.ensures.goes.1)
+    (continues_from g.W.LeafWork.does c.args.seat.now.token.me.0 c.claim.new.seat.token.me.0 c.take_up.new.seat.token.me.0 x.before x.after c.claim.ensures.same x.visits c.take_up.ensures.goes.0, c.take_up.ensures.goes.1)
