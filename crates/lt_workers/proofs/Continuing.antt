@@ -1,5 +1,5 @@
 -- What a seat knows while its workers go on.
-use Rattle.std.proofs.Common.{◌≡◌, ℕ, ⊎_elim, List, [], ◌∷◌, ◌++◌, map, Option, Some, None, true, false, cond, ltb, length, refl, sym, ap, ◌∙◌, subst, arith, append_assoc, append-nil}
+use Rattle.std.proofs.Common.{◌≡◌, ℕ, ◌<◌, ⊎_elim, List, [], ◌∷◌, ◌++◌, map, Option, Some, None, true, false, cond, ltb, length, refl, sym, ap, ◌∙◌, subst, arith, append_assoc, append-nil}
 use mathlib.Core.Logic.{dite}
 use native.Mathlib.Decide.{ℕ_discrete, dec_le}
 use Rattle.lt_model.specs.declared.mark.Mark.{Mark}
@@ -130,7 +130,7 @@ module _ {W : Type 0} (does : W → ℕ → List Mark → List Mark) where
     known_of : (x : View (Basis W)) (answer : Ended) → EndsAt does x answer → (s : State) × Knows does x s
     known_of x Settled e = (e.0, e.1)
     known_of x NoMemory e = e
-    known_of x Spared e = e
+    known_of x Spared e = (e.0, e.1)
 
     joined_known : (one other : Ended) → EndsAt does v one → EndsAt does w other → (t : State) × Knows does j t
     joined_known one other first second =
@@ -153,7 +153,9 @@ module _ {W : Type 0} (does : W → ℕ → List Mark → List Mark) where
     joined_ends NoMemory Spared first second = joined_known NoMemory Spared first second
     joined_ends Spared Settled first second = settled_second Spared first second
     joined_ends Spared NoMemory first second = joined_known Spared NoMemory first second
-    joined_ends Spared Spared first second = joined_known Spared Spared first second
+    joined_ends Spared Spared first second =
+        let k = joined_known Spared Spared first second in
+        (k.0, k.1, subst (λ n. 0 < n) (sym (ap (λ (x : View (Basis W)). x.first) is)) first.2)
 
   -- ---- what a worker does with an answer
 

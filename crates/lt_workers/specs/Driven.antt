@@ -10,11 +10,11 @@ use Rattle.lt_workers.specs.Seen.{Knows, Claims, AreFree}
 use Rattle.lt_workers.specs.Visit.{IsSame}
 
 module _ {W : Type 0} (does : W → ℕ → List Mark → List Mark) where
-  -- what the seat has seen is legal, and settled where that is the answer
+  -- what the seat has seen is legal, and settled where that is the answer; a seat with the first worker isn't spared
   abbrev pub EndsAt : View (Basis W) → Ended → Type 0
   EndsAt v Settled = (s : State) × Knows does v s × IsSettled s
   EndsAt v NoMemory = (s : State) × Knows does v s
-  EndsAt v Spared = (s : State) × Knows does v s
+  EndsAt v Spared = (s : State) × Knows does v s × (0 < v.first)
 
   -- none of the workers but the first has a claim
   abbrev pub AreOthersFree : View (Basis W) → Type 0
@@ -34,8 +34,10 @@ module _ {W : Type 0} (does : W → ℕ → List Mark → List Mark) where
   abbrev pub Drives : View (Basis W) → View (Basis W) → Ended → Type 0
   Drives v w answer = Continues v w × EndsAt w answer
 
--- settled where one of two parts ended so
+-- settled where one of two parts ended so, else spared only where both were
 abbrev pub either_of : Ended → Ended → Ended
 either_of Settled other = Settled
-either_of NoMemory other = other
+either_of NoMemory Settled = Settled
+either_of NoMemory NoMemory = NoMemory
+either_of NoMemory Spared = NoMemory
 either_of Spared other = other

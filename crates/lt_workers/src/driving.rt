@@ -1,5 +1,5 @@
 //! Workers that do jobs until none is left.
-ghost use Rattle.std.specs.Prelude.{◌≡◌, ◌<◌, ◌^◌, Some};
+ghost use Rattle.std.specs.Prelude.{◌≡◌, ◌<◌, ◌^◌, true, Some};
 ghost use Rattle.lt_circuit.specs.Job.{claim_of_job};
 ghost use Rattle.lt_turn.specs.Seats.{view, IsIdle};
 ghost use Rattle.lt_workers.specs.Seats.{IsSeatOf};
@@ -24,13 +24,16 @@ pub enum Ended {
     Settled,
     /// Memory was refused, and the job given back.
     NoMemory,
-    /// No leaf was left that never ran; a worker but the first then gives its job back and leaves what remains to the first.
+    /// No leaf was left that never ran; a worker but the first then gives its job back and leaves what remains to the first. A seat
+    /// with the first worker never ends so.
     Spared,
 }
 
 // Whether the worker leaves such a job to the first. One that runs ahead is given leaves that never ran, as long as there are any;
 // what it did behind them would mostly be done again, since the leaves before aren't done.
-fn is_spared(worker: u32, name: JobName) -> bool {
+fn is_spared(worker: u32, name: JobName) -> bool
+    ensures { result ≡ true → 0 < worker }
+{
     if worker == 0 {
         return false;
     }
@@ -191,13 +194,17 @@ where
     }
 }
 
-// Settled where one of two parts ended so.
+// Settled where one of two parts ended so, else spared only where both were.
 fn either(one: Ended, other: Ended) -> Ended
     ensures { result ≡ either_of one other }
 {
     match one {
         Ended::Settled => Ended::Settled,
-        Ended::NoMemory => other,
+        Ended::NoMemory => match other {
+            Ended::Settled => Ended::Settled,
+            Ended::NoMemory => Ended::NoMemory,
+            Ended::Spared => Ended::NoMemory,
+        },
         Ended::Spared => other,
     }
 }
