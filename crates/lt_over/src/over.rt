@@ -132,11 +132,6 @@ impl<B: RowSet> Over<B> {
     {
         self.most + self.plus.len()
     }
-
-    /// A number that the rows of the base don't pass.
-    pub(crate) fn base_most(&self) -> usize {
-        self.most
-    }
 }
 
 impl<B: RowSet> Over<Stack<B>> {

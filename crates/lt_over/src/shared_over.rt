@@ -16,8 +16,8 @@ use std::alloc::Global;
 use std::marker::Model;
 use std::sync::Arc;
 
-/// So many edits may lie over the pages, or a sixteenth of their rows.
-const FEW: usize = 256;
+/// So many edits may lie over the pages of a set that is kept, whatever it holds.
+const FEW: usize = 16;
 
 /// Rows in pages with edits over them: those of a state that is kept, which stay there until they are many; over them
 /// layers that other sets share; and over these the edits of one state, made in place.
@@ -34,16 +34,16 @@ impl Model for SharedOver {
     ghost view = { λ s. s.set };
 }
 
-/// Whether so many edits are many over so many rows.
-fn is_long(edits: usize, rows: usize) -> bool {
-    edits > FEW && edits > rows / 16
+/// Whether so many edits are many.
+fn is_long(edits: usize) -> bool {
+    edits > FEW
 }
 
 /// The same rows, with the edits laid on the pages where they are many.
 fn settled_if_long(alloc: Global, edited: Over<SharedRows>) -> Result<Over<SharedRows>, NoMemory>
     ensures { IfOk result (λ set. set ≡ edited) }
 {
-    if is_long(edited.edits(), edited.base_most()) {
+    if is_long(edited.edits()) {
         let base = edited.settled()?;
         let most = base.len();
         let set = Over::on(alloc, base, most)?;

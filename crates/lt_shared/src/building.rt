@@ -86,16 +86,28 @@ pub fn nodes_of(alloc: Global, rows: Vec<Row>) -> Result<Vec<Node>, NoMemory>
     Ok(nodes)
 }
 
-/// How many parts each list gets where so many are cut up: about three quarters of the most that one holds.
-fn fair_share(parts: usize) -> usize
+/// How many parts of a list that edits touch stay together: a row's page is cut small where few rows come, so that the next edit of
+/// one of them copies few.
+fn together<T: Part>(parts: usize) -> usize
+    ensures { result ≤ 64 }
+{
+    if parts > 2 * LIMIT {
+        return LIMIT;
+    }
+    T::together()
+}
+
+/// How many parts each list gets where so many are cut up: about three quarters of those that stay together.
+fn fair_share(parts: usize, together: usize) -> usize
     ensures some { 0 < result }
     ensures limit { result ≤ 64 }
 {
-    let lists = parts / 48 + 1;
+    let aim = (together / 4).saturating_mul(3).max(1);
+    let lists = (parts / aim).saturating_add(1);
     (parts / lists).saturating_add(1).min(LIMIT)
 }
 
-/// Puts the levels of these parts behind others: one, where they fit into it.
+/// Puts the levels of these parts behind others: one, where they stay together.
 pub fn push_levels<T: Part>(
     alloc: Global,
     parts: Vec<T>,
@@ -106,12 +118,13 @@ pub fn push_levels<T: Part>(
     if parts.is_empty() {
         return Ok(());
     }
-    if parts.len() <= LIMIT {
+    let together = together::<T>(parts.len());
+    if parts.len() <= together {
         let level = Level::of(alloc, parts)?;
         out.push(level)?;
         return Ok(());
     }
-    let share = fair_share(parts.len());
+    let share = fair_share(parts.len(), together);
     let mut all = levels(alloc, parts, share)?;
     out.append(&mut all)?;
     Ok(())

@@ -223,6 +223,10 @@ impl<T: Part> Part for Level<T> {
         found
     }
 
+    fn together() -> usize {
+        LIMIT
+    }
+
     fn share(&self) -> Result<Level<T>, NoMemory> {
         let parts = self.parts.clone()?;
         Ok(Level { parts })

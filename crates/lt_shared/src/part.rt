@@ -79,6 +79,10 @@ pub trait Part: Sized + Drop {
         ensures found { IfSome result (λ row. first_from (joined rows parts.now) (prefix.now ++ bound ∷ []) ≡ Some row.now) }
         ensures below { IfSome result (λ row. IsSomeBelow (joined rows parts.now) (prefix.now ++ bound ∷ [])) };
 
+    /// How many such parts stay together in a list that a few edits touch.
+    fn together() -> usize
+        ensures { result ≤ 64 };
+
     /// A second owner of the same part.
     fn share(&self) -> Result<Self, NoMemory>
         ensures { IfOk result (λ part. part ≡ self.now) };
@@ -157,6 +161,10 @@ impl Part for Row {
         near.at = at;
         let row = &parts[at];
         Some(row)
+    }
+
+    fn together() -> usize {
+        24
     }
 
     fn share(&self) -> Result<Row, NoMemory> {

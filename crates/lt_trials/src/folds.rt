@@ -38,7 +38,12 @@ fn agree(rt: &impl Abort, alloc: Global, both: &Both) {
 
 /// An edit of a row that there may be, or of one beside it.
 fn edit_of(seed: u64) -> Edit {
-    let key = Key::from((seed >> 33) % 20000) + 1;
+    edit_below(20000, seed)
+}
+
+/// An edit of a row with one of so many first cells.
+fn edit_below(cells: u64, seed: u64) -> Edit {
+    let key = Key::from((seed >> 33) % cells.max(1)) + 1;
     match (seed >> 20) % 4 {
         0 => Edit::Remove((key, 7)),
         1 => Edit::Remove((key, 8)),
@@ -96,4 +101,55 @@ fn folded_rows_are_the_rows(rt: HostRuntime) -> Result<(), NoMemory> {
     holds(&rt, !both.rows.has(&row(alloc, (30000, 7))));
     agree(&rt, alloc, &both);
     Ok(())
+}
+
+/// Runs batches of one edit each, and keeps each tenth version.
+fn keep_versions(
+    rt: &impl Abort,
+    alloc: Global,
+    first: Rows,
+    batches: u64,
+) -> Result<Vec<Rows>, NoMemory> {
+    let mut rows = first;
+    let mut versions = Vec::new(alloc);
+    let mut seed = 1;
+    for batch in 0..batches {
+        seed = next(seed);
+        let _new = made(rt, alloc, &mut rows, edit_below(5000, seed))?;
+        rows = rows.folded(alloc)?;
+        if batch % 10 == 9 {
+            versions.push(rows.share()?)?;
+        }
+    }
+    Ok(versions)
+}
+
+/// Ends the test unless each version kept has the rows that the same edits leave in a sorted vector.
+fn agree_with_all(
+    rt: &impl Abort,
+    alloc: Global,
+    first: FlatRows,
+    versions: Vec<Rows>,
+) -> Result<(), NoMemory> {
+    let mut flat = first;
+    let mut seed = 1;
+    for rows in versions {
+        for _ in 0..10 {
+            seed = next(seed);
+            let _new = made(rt, alloc, &mut flat, edit_below(5000, seed))?;
+        }
+        let both = Both { flat, rows };
+        agree(rt, alloc, &both);
+        flat = both.flat;
+    }
+    Ok(())
+}
+
+#[test]
+fn versions_stay_as_they_were(rt: HostRuntime) -> Result<(), NoMemory> {
+    let alloc = rt.alloc();
+    let both = filled(&rt, alloc, 5001)?;
+    let versions = keep_versions(&rt, alloc, both.rows, 20000)?;
+    same(&rt, versions.len(), 2000);
+    agree_with_all(&rt, alloc, both.flat, versions)
 }

@@ -4,8 +4,8 @@ use Rattle.lt_shared.proofs.Joins.{joined-append}
 use Rattle.lt_shared.proofs.Gathered.{joined-one}
 use Rattle.lt_shared.proofs.building.push_levels.Goals as goal
 
-pub returns-then-len-le-LIMIT : goal.returns-then-len-le-LIMIT
-returns-then-len-le-LIMIT g c =
+pub returns-then-len-together : goal.returns-then-len-together
+returns-then-len-together g c =
     ap (joined (λ s. joined g.T.Part.rows s)) c.in_ok-push.ensures.items
     ∙ joined-one (λ s. joined g.T.Part.rows s) c.args.out.now.items c.in_ok-level.level
     ∙ ap (λ s. joined (λ s. joined g.T.Part.rows s) c.args.out.now.items ++ joined g.T.Part.rows s) c.in_ok-level.ensures
