@@ -1,5 +1,5 @@
 //! A sink in memory with a limited room that fails as it is told.
-ghost use Rattle.std.specs.Prelude.{◌≡◌, ◌<◌, ◌≤◌, ◌-◌, ◌↔◌, ◌⊎◌, length, Some, IfOk, OnOk, OnErr, IsErr, Contains};
+ghost use Rattle.std.specs.Prelude.{◌≡◌, ◌<◌, ◌≤◌, ◌-◌, ◌^◌, ◌↔◌, ◌⊎◌, length, Some, IfOk, OnOk, OnErr, IsErr, Contains};
 ghost use Rattle.std.specs.Io.KnownBytes.{Keeps, WriteAppends};
 ghost use Rattle.lt_edges.specs.Causes.{HasCause, Takes, one_more};
 ghost use Rattle.lt_edges.specs.Memory.{fresh_output};
@@ -56,6 +56,7 @@ impl MemSink {
     fn fail(&mut self) -> Failed
         ensures faults { self.new ≡ record self.old { faults = one_more self.old.faults } }
         ensures later { self.old.faults ≤ self.new.faults }
+        ensures few { self.new.faults < 2 ^ 64 }
     {
         self.faults = self.faults.saturating_add(1);
         Failed
@@ -71,6 +72,7 @@ impl Sink for MemSink {
         ensures takes { Takes result piece.now }
         ensures bytes { WriteAppends (Some self.old.holds) (Some self.new.holds) result piece.now }
         ensures cause { HasCause self.old.faults self.new.faults result }
+        ensures few { self.new.faults < 2 ^ 64 }
 
         // It fails exactly at the calls that are numbered and where the piece is longer than the room that is left, and
         // takes the whole piece otherwise.
@@ -82,6 +84,7 @@ impl Sink for MemSink {
         ensures kept_room { OnErr result (self.new.room ≡ self.old.room) }
         ensures failing { self.new.failing ≡ self.old.failing }
     {
+        let _faults = self.faults;
         self.calls = self.calls.saturating_add(1);
         if self.failing.contains(&self.calls) || piece.len() > self.room {
             return Err(self.fail());
@@ -96,6 +99,7 @@ impl Sink for MemSink {
     fn flush(&mut self) -> Result<(), Failed>
         ensures bytes { Keeps (Some self.old.holds) (Some self.new.holds) }
         ensures cause { HasCause self.old.faults self.new.faults result }
+        ensures few { self.new.faults < 2 ^ 64 }
 
         ensures calls { self.new.calls ≡ one_more self.old.calls }
         ensures exact { IsErr result ↔ Contains self.old.failing self.new.calls }
@@ -103,6 +107,7 @@ impl Sink for MemSink {
         ensures room { self.new.room ≡ self.old.room }
         ensures failing { self.new.failing ≡ self.old.failing }
     {
+        let _faults = self.faults;
         self.calls = self.calls.saturating_add(1);
         if self.failing.contains(&self.calls) {
             return Err(self.fail());

@@ -1,5 +1,5 @@
 //! A source in memory that comes in steps and fails as it is told.
-ghost use Rattle.std.specs.Prelude.{◌≡◌, ◌<◌, ◌↔◌, length, min, Some, IfOk, OnOk, IsErr, Contains};
+ghost use Rattle.std.specs.Prelude.{◌≡◌, ◌<◌, ◌^◌, ◌↔◌, length, min, Some, IfOk, OnOk, IsErr, Contains};
 ghost use Rattle.std.specs.Io.{ReadsAtMost};
 ghost use Rattle.std.specs.Io.KnownBytes.{ReadConsumes};
 ghost use Rattle.lt_edges.specs.Causes.{HasCause, one_more};
@@ -63,6 +63,7 @@ impl Source for MemSource {
         ensures bound { ReadsAtMost result buf.new }
         ensures bytes { ReadConsumes (Some self.old.left) (Some self.new.left) result buf.new }
         ensures cause { HasCause self.old.faults self.new.faults result }
+        ensures few { self.new.faults < 2 ^ 64 }
 
         // It fails exactly at the calls that are numbered, and gives all that step, buffer and input have.
         ensures calls { self.new.calls ≡ one_more self.old.calls }
@@ -72,9 +73,10 @@ impl Source for MemSource {
         ensures step { self.new.step ≡ self.old.step }
         ensures failing { self.new.failing ≡ self.old.failing }
     {
+        let faults = self.faults;
         self.calls = self.calls.saturating_add(1);
         if self.failing.contains(&self.calls) {
-            self.faults = self.faults.saturating_add(1);
+            self.faults = faults.saturating_add(1);
             return Err(Failed);
         }
         let (_, rest) = self.bytes.split_at(self.at);

@@ -1,5 +1,5 @@
 //! A source and a sink that never fail.
-ghost use Rattle.std.specs.Prelude.{◌≡◌, length, min, Some, None, Ok, IsOk};
+ghost use Rattle.std.specs.Prelude.{◌≡◌, ◌<◌, ◌^◌, length, min, Some, None, Ok, IsOk};
 ghost use Rattle.std.specs.Io.{ReadsAtMost};
 ghost use Rattle.std.specs.Io.KnownBytes.{ReadConsumes, Keeps, WriteAppends};
 ghost use Rattle.lt_edges.specs.Causes.{HasCause, Takes};
@@ -40,6 +40,7 @@ impl Source for SureSource<'_> {
         ensures bound { ReadsAtMost result buf.new }
         ensures bytes { ReadConsumes (Some self.old) (Some self.new) result buf.new }
         ensures cause { HasCause 0 0 result }
+        ensures few { 0 < 2 ^ 64 }
 
         // It never fails, and gives all that buffer and input have.
         ensures count { result ≡ Ok (min (length buf.new) (length self.old)) }
