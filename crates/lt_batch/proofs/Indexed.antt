@@ -5,6 +5,8 @@ use Rattle.lt_face.proofs.RowLemmas.{each_weaker}
 use Rattle.lt_model.specs.declared.normal.Stmt.{Stmt}
 use Rattle.lt_base.specs.Tables.{Table, has_index}
 use Rattle.lt_query.specs.declared.plans.Guide.{Guide}
+use Rattle.lt_model.specs.declared.normal.Atom.{Atom}
+use Rattle.lt_query.specs.Lists.{below}
 use Rattle.lt_query.specs.Needs.{body_of}
 use Rattle.lt_query.specs.Stated.{stated_plan}
 use Rattle.lt_program.specs.Tally.{HasIndexes, HasIndexesOf}
@@ -31,7 +33,10 @@ each_more {X = X} P f xs i x lt is all h = rw add-one (go xs i lt is all)
 pub stays : (old new : List Table) (program : List Stmt) → HasAll old new → HasIndexes old program → HasIndexes new program
 stays old new program kept has =
     each_weaker (λ stmt. HasIndexesOf old (body_of stmt)) (λ stmt. HasIndexesOf new (body_of stmt))
-    (λ stmt. each_weaker (λ (guide : Guide). has_index old guide.relation guide.columns ≡ true) (λ (guide : Guide). has_index new guide.relation guide.columns ≡ true) (λ guide. kept guide.relation guide.columns) (stated_plan (body_of stmt)).guides)
+    (λ stmt h. (
+      each_weaker (λ (guide : Guide). has_index old guide.relation guide.columns ≡ true) (λ (guide : Guide). has_index new guide.relation guide.columns ≡ true) (λ guide. kept guide.relation guide.columns) (stated_plan (body_of stmt)).guides h.0,
+      each_weaker (λ (atom : Atom). has_index old atom.relation (below (length atom.terms)) ≡ true) (λ (atom : Atom). has_index new atom.relation (below (length atom.terms)) ≡ true) (λ atom. kept atom.relation (below (length atom.terms))) (body_of stmt).absents h.1,
+    ))
     program has
 
 pub all_stay : (old new : List Table) (programs : List (List Stmt)) → HasAll old new → AllByRecursion (HasIndexes old) programs → AllByRecursion (HasIndexes new) programs

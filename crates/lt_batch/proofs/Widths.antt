@@ -54,8 +54,10 @@ module _ (s t : State) (same : AreAsWide s t) where
   body_fits : (body : Body) → IsBodyOf s body → IsBodyOf t body
   body_fits body h = record {
     atoms = each_weaker (IsAtomOf s body.vars) (IsAtomOf t body.vars) (atom_fits body.vars) body.atoms h.atoms;
+    absents = each_weaker (IsAtomOf s body.vars) (IsAtomOf t body.vars) (atom_fits body.vars) body.absents h.absents;
     tests = h.tests;
     is_bound = h.is_bound;
+    are_absents_bound = h.are_absents_bound;
     has_few_variables = h.has_few_variables;
     has_few_literals = h.has_few_literals;
   }

@@ -11,13 +11,13 @@ ghost use Rattle.lt_program.specs.Run.{AreReplied};
 ghost use Rattle.lt_batch.specs.Batch.{serial_replies, serial_effects, serial_state};
 ghost use Rattle.lt_batch.specs.Work.{AreRunnable};
 
-use crate::copying::copied_reply;
 use crate::outcome::{Effects, Replies};
 use crate::work::BatchWork;
 use lt_base::Database;
 use lt_circuit::Circuit;
 use lt_face::items::Items;
 use lt_face::memory::NoMemory;
+use lt_program::copied_reply;
 use std::alloc::Global;
 
 /// The replies and the effects of all leaves.

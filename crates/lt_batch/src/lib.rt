@@ -2,7 +2,6 @@
 #![tactic(auto)]
 
 mod batch;
-mod copying;
 mod gathering;
 mod indexing;
 pub mod leaf;

@@ -16,14 +16,15 @@ use Rattle.lt_model.specs.declared.syntax.Term.{Term}
 use Rattle.lt_model.specs.declared.syntax.Term.TheVariants.{Name, Cell}
 use Rattle.lt_model.specs.declared.syntax.Head.{Head}
 use Rattle.lt_model.specs.declared.syntax.Literal.{Literal}
-use Rattle.lt_model.specs.declared.syntax.Literal.TheVariants.{Atom, Cmp, Sum}
+use Rattle.lt_model.specs.declared.syntax.Literal.TheVariants.{Atom, Absent, Cmp, Sum}
 use Rattle.lt_model.specs.declared.syntax.Statement.{Statement}
 use Rattle.lt_model.specs.declared.syntax.Statement.TheVariants as statements
 use Rattle.lt_model.specs.declared.syntax.Program.{Program}
+use Rattle.lt_model.specs.declared.normal.Atom as normal
 use Rattle.lt_model.specs.declared.normal.Body.{Body}
 use Rattle.lt_model.specs.declared.normal.Stmt.{Stmt}
 use Rattle.lt_model.specs.Schema.{Schema, number_of, columns_of}
-use Rattle.lt_model.specs.Variables.{atoms_of, atom_of, body_of, front_terms, literal_terms, terms_of, variable_of, variables, with_name, place_of}
+use Rattle.lt_model.specs.Variables.{atoms_of, atom_of, absent_of, named_of, body_of, front_terms, literal_terms, terms_of, variable_of, variables, with_name, place_of}
 use Rattle.lt_model.specs.Bound.{is_known, is_bound, are_bound}
 use Rattle.lt_model.specs.Check.{term, atom, test_of, normal_body, normal, kind_of, choice_for, is_unknown, is_misfit, all_bound, code_of, Checked, Good, Bad, after_good, or_bad, checked_from, checked}
 use Rattle.lt_model.specs.Fits.{IsWide, IsTermOf, IsAtomOf, test_terms, IsBodyOf, IsHeadOf, FitsStatement, Fits}
@@ -179,41 +180,67 @@ head_fits_state schema state names literals h fits there good = record {
   is_bound = good_bound names (normal_body schema names literals) h.terms good;
 }
 
-atoms_fit_state : (schema : Schema) (state : State) (names : List (List ℕ)) (body : Body) (literals : List Literal) → IsStateOf schema state → AllByRecursion (IsThere schema) (filter_map atom_of literals) → AllByRecursion (IsGood names body) (flat_map literal_terms literals) → AllByRecursion (IsAtomOf state (length names)) (map (atom schema names) (filter_map atom_of literals))
+atoms_fit_state : (schema : Schema) (state : State) (names : List (List ℕ)) (body : Body) (literals : List Literal) → IsStateOf schema state → AllByRecursion (IsThere schema) (filter_map named_of literals) → AllByRecursion (IsGood names body) (flat_map literal_terms literals) → AllByRecursion (IsAtomOf state (length names)) (map (atom schema names) (filter_map atom_of literals))
 atoms_fit_state schema state names body [] fits there good = tt
 atoms_fit_state schema state names body (Atom h ∷ literals) fits there good = (
   atom_fits_state schema state names body h fits there.0 (All_front (IsGood names body) h.terms (flat_map literal_terms literals) good),
   atoms_fit_state schema state names body literals fits there.1 (All_back (IsGood names body) h.terms (flat_map literal_terms literals) good),
 )
+atoms_fit_state schema state names body (Absent h ∷ literals) fits there good = atoms_fit_state schema state names body literals fits there.1 (All_back (IsGood names body) h.terms (flat_map literal_terms literals) good)
 atoms_fit_state schema state names body (Cmp left op right ∷ literals) fits there good = atoms_fit_state schema state names body literals fits there good.1.1
 atoms_fit_state schema state names body (Sum var a minus b ∷ literals) fits there good = atoms_fit_state schema state names body literals fits there good.1.1.1
+
+absents_fit_state : (schema : Schema) (state : State) (names : List (List ℕ)) (body : Body) (literals : List Literal) → IsStateOf schema state → AllByRecursion (IsThere schema) (filter_map named_of literals) → AllByRecursion (IsGood names body) (flat_map literal_terms literals) → AllByRecursion (IsAtomOf state (length names)) (map (atom schema names) (filter_map absent_of literals))
+absents_fit_state schema state names body [] fits there good = tt
+absents_fit_state schema state names body (Atom h ∷ literals) fits there good = absents_fit_state schema state names body literals fits there.1 (All_back (IsGood names body) h.terms (flat_map literal_terms literals) good)
+absents_fit_state schema state names body (Absent h ∷ literals) fits there good = (
+  atom_fits_state schema state names body h fits there.0 (All_front (IsGood names body) h.terms (flat_map literal_terms literals) good),
+  absents_fit_state schema state names body literals fits there.1 (All_back (IsGood names body) h.terms (flat_map literal_terms literals) good),
+)
+absents_fit_state schema state names body (Cmp left op right ∷ literals) fits there good = absents_fit_state schema state names body literals fits there good.1.1
+absents_fit_state schema state names body (Sum var a minus b ∷ literals) fits there good = absents_fit_state schema state names body literals fits there good.1.1.1
+
+absents_bound : (schema : Schema) (names : List (List ℕ)) (body : Body) (literals : List Literal) → AllByRecursion (IsGood names body) (flat_map literal_terms literals) → AllByRecursion (λ (a : normal.Atom). are_bound body a.terms ≡ true) (map (atom schema names) (filter_map absent_of literals))
+absents_bound schema names body [] good = tt
+absents_bound schema names body (Atom h ∷ literals) good = absents_bound schema names body literals (All_back (IsGood names body) h.terms (flat_map literal_terms literals) good)
+absents_bound schema names body (Absent h ∷ literals) good = (
+  good_bound names body h.terms (All_front (IsGood names body) h.terms (flat_map literal_terms literals) good),
+  absents_bound schema names body literals (All_back (IsGood names body) h.terms (flat_map literal_terms literals) good),
+)
+absents_bound schema names body (Cmp left op right ∷ literals) good = absents_bound schema names body literals good.1.1
+absents_bound schema names body (Sum var a minus b ∷ literals) good = absents_bound schema names body literals good.1.1.1
 
 tests_fit : (names : List (List ℕ)) (body : Body) (literals : List Literal) → AllByRecursion (IsGood names body) (flat_map literal_terms literals) → AllByRecursion (λ test. AllByRecursion (IsTermOf (length names)) (test_terms test)) (filter_map (test_of names) literals)
 unfolding IsGood
 tests_fit names body [] good = tt
 tests_fit names body (Atom h ∷ literals) good = tests_fit names body literals (All_back (IsGood names body) h.terms (flat_map literal_terms literals) good)
+tests_fit names body (Absent h ∷ literals) good = tests_fit names body literals (All_back (IsGood names body) h.terms (flat_map literal_terms literals) good)
 tests_fit names body (Cmp left op right ∷ literals) good = ((good.0.0, (good.1.0.0, tt)), tests_fit names body literals good.1.1)
 tests_fit names body (Sum var a minus b ∷ literals) good = ((good.0.0, (good.1.0.0, (good.1.1.0.0, tt))), tests_fit names body literals good.1.1.1)
 
 tests_bound : (names : List (List ℕ)) (body : Body) (literals : List Literal) → AllByRecursion (IsGood names body) (flat_map literal_terms literals) → AllByRecursion (λ test. are_bound body (test_terms test) ≡ true) (filter_map (test_of names) literals)
 tests_bound names body [] good = tt
 tests_bound names body (Atom h ∷ literals) good = tests_bound names body literals (All_back (IsGood names body) h.terms (flat_map literal_terms literals) good)
+tests_bound names body (Absent h ∷ literals) good = tests_bound names body literals (All_back (IsGood names body) h.terms (flat_map literal_terms literals) good)
 tests_bound names body (Cmp left op right ∷ literals) good = (good_bound names body (left ∷ right ∷ []) (good.0, (good.1.0, tt)), tests_bound names body literals good.1.1)
 tests_bound names body (Sum var a minus b ∷ literals) good = (good_bound names body (Name var ∷ a ∷ b ∷ []) (good.0, (good.1.0, (good.1.1.0, tt))), tests_bound names body literals good.1.1.1)
 
-apart : (schema : Schema) (names : List (List ℕ)) (literals : List Literal) → length (map (atom schema names) (filter_map atom_of literals)) + length (filter_map (test_of names) literals) ≡ length literals
+apart : (schema : Schema) (names : List (List ℕ)) (literals : List Literal) → length (map (atom schema names) (filter_map atom_of literals)) + length (map (atom schema names) (filter_map absent_of literals)) + length (filter_map (test_of names) literals) ≡ length literals
 apart schema names [] = refl
 apart schema names (Atom h ∷ literals) = let e = apart schema names literals in omega arith
+apart schema names (Absent h ∷ literals) = let e = apart schema names literals in omega arith
 apart schema names (Cmp left op right ∷ literals) = let e = apart schema names literals in omega arith
 apart schema names (Sum var a minus b ∷ literals) = let e = apart schema names literals in omega arith
 
-body_fits_state : (schema : Schema) (state : State) (names : List (List ℕ)) (literals : List Literal) → IsStateOf schema state → length names ≤ 16 → length literals ≤ 16 → AllByRecursion (IsThere schema) (filter_map atom_of literals) → AllByRecursion (IsGood names (normal_body schema names literals)) (flat_map literal_terms literals) → IsBodyOf state (normal_body schema names literals)
+body_fits_state : (schema : Schema) (state : State) (names : List (List ℕ)) (literals : List Literal) → IsStateOf schema state → length names ≤ 16 → length literals ≤ 16 → AllByRecursion (IsThere schema) (filter_map named_of literals) → AllByRecursion (IsGood names (normal_body schema names literals)) (flat_map literal_terms literals) → IsBodyOf state (normal_body schema names literals)
 body_fits_state schema state names literals fits few short there good =
     let body = normal_body schema names literals in
     record {
       atoms = atoms_fit_state schema state names body literals fits there good;
+      absents = absents_fit_state schema state names body literals fits there good;
       tests = tests_fit names body literals good;
       is_bound = tests_bound names body literals good;
+      are_absents_bound = absents_bound schema names body literals good;
       has_few_variables = few;
       has_few_literals = let e = apart schema names literals in omega (arith, e, short);
     }
@@ -222,6 +249,7 @@ body_fits_state schema state names literals fits few short there good =
 
 literal_cells : (l : Literal) → IsLiteralWithin l → AllByRecursion HasCell (literal_terms l)
 literal_cells (Atom h) is = is.cells
+literal_cells (Absent h) is = is.cells
 literal_cells (Cmp left op right) is = (is.0, (is.1, tt))
 literal_cells (Sum var a minus b) is = (tt, (is.0, (is.1, tt)))
 

@@ -146,6 +146,7 @@ impl Known {
     {
         match literal {
             Literal::Atom(_) => Told::Nothing,
+            Literal::Absent(_) => Told::Nothing,
             Literal::Cmp { left, right, .. } => self.learn_same(names, left, right),
             Literal::Sum { var, a, b, .. } => {
                 let var = self.learn_at(names.place(var), Kind::Int);

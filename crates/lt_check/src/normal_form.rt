@@ -1,7 +1,7 @@
 //! The normal form of terms, atoms and bodies.
 ghost use Rattle.std.specs.Prelude.{◌≡◌, IfOk, map, filter_map};
 ghost use Rattle.lt_model.specs.Check as model;
-ghost use Rattle.lt_model.specs.Variables.{atom_of};
+ghost use Rattle.lt_model.specs.Variables.{atom_of, absent_of};
 
 use crate::names::Names;
 use crate::schema::Schema;
@@ -58,11 +58,29 @@ fn atoms(
     Ok(atoms)
 }
 
+fn absents(
+    alloc: Global,
+    schema: &Schema,
+    names: &Names,
+    body: &[Literal],
+) -> Result<Items<Atom>, NoMemory>
+    ensures { IfOk result (λ absents. absents ≡ map (model.atom schema.now names.now) (filter_map absent_of body.now)) }
+{
+    let mut absents = Items::new(alloc);
+    for literal in body {
+        if let Literal::Absent(head) = literal {
+            absents.push(atom(alloc, schema, names, head)?)?;
+        }
+    }
+    Ok(absents)
+}
+
 fn test(names: &Names, literal: &Literal) -> Option<Test>
     ensures { result ≡ model.test_of names.now literal.now }
 {
     match literal {
         Literal::Atom(_) => None,
+        Literal::Absent(_) => None,
         Literal::Cmp { left, op, right } => Some(Test::Cmp {
             left: term(names, left),
             op: *op,
@@ -89,7 +107,7 @@ fn tests(alloc: Global, names: &Names, body: &[Literal]) -> Result<Items<Test>, 
     Ok(tests)
 }
 
-/// A body with its atoms and its tests apart.
+/// A body with its atoms, its negated atoms and its tests apart.
 pub fn body(
     alloc: Global,
     schema: &Schema,
@@ -99,9 +117,11 @@ pub fn body(
     ensures { IfOk result (λ body. body ≡ model.normal_body schema.now names.now literals.now) }
 {
     let atoms = atoms(alloc, schema, names, literals)?;
+    let absents = absents(alloc, schema, names, literals)?;
     let tests = tests(alloc, names, literals)?;
     Ok(Body {
         atoms,
+        absents,
         tests,
         vars: names.count() as u32,
     })

@@ -23,17 +23,20 @@ pub fn body_of(statement: &Statement) -> &[Literal]
 }
 
 fn push_atoms<'a>(atoms: &mut Vec<&'a Head>, literals: &'a [Literal]) -> Result<(), NoMemory>
-    ensures { IfOk result (λ _. seen atoms.new.items ≡ seen atoms.old.items ++ filter_map model.atom_of literals.now) }
+    ensures { IfOk result (λ _. seen atoms.new.items ≡ seen atoms.old.items ++ filter_map model.named_of literals.now) }
 {
     for literal in literals {
-        if let Literal::Atom(head) = literal {
-            atoms.push(head)?;
+        match literal {
+            Literal::Atom(head) => atoms.push(head)?,
+            Literal::Absent(head) => atoms.push(head)?,
+            Literal::Cmp { .. } => {}
+            Literal::Sum { .. } => {}
         }
     }
     Ok(())
 }
 
-/// A statement's heads, and the atoms of its body.
+/// A statement's heads, and the atoms of its body, negated or not.
 pub fn atoms_of(alloc: Global, statement: &Statement) -> Result<Vec<&Head>, NoMemory>
     ensures { IfOk result (λ atoms. seen atoms.items ≡ model.atoms_of statement.now) }
 {
@@ -86,6 +89,7 @@ fn add_literal<'a>(names: &mut Vec<&'a [u8]>, literal: &'a Literal) -> Result<()
 {
     match literal {
         Literal::Atom(head) => add_variables(names, head.terms.as_slice())?,
+        Literal::Absent(head) => add_variables(names, head.terms.as_slice())?,
         Literal::Cmp { left, right, .. } => {
             add_variable(names, left)?;
             add_variable(names, right)?;

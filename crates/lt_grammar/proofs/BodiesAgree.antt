@@ -9,11 +9,11 @@ use Rattle.lt_model.specs.declared.syntax.Head.{Head as HeadValue}
 use Rattle.lt_model.specs.declared.syntax.Op.{Op}
 use Rattle.lt_model.specs.declared.syntax.Op.TheVariants.{Eq, Ne, Lt, Le, Gt, Ge}
 use Rattle.lt_model.specs.declared.syntax.Literal.{Literal as LiteralValue}
-use Rattle.lt_model.specs.declared.syntax.Literal.TheVariants.{Atom, Cmp, Sum}
+use Rattle.lt_model.specs.declared.syntax.Literal.TheVariants.{Atom, Absent, Cmp, Sum}
 use Rattle.lt_model.specs.Tokens.{Shape, word, sign}
 use Rattle.lt_model.specs.Grammar.{UpTo, the, ◌·◌, left_paren, right_paren, where_word, digits_value, signed, greatest, op_text, sum_text, SpellsName, SpellsTerm, SpellsTerms, SpellsHead, SpellsLiteral, SpellsBody, SpellsWhere}
-use Rattle.lt_grammar.specs.Tokens.{Text, equals}
-use Rattle.lt_grammar.specs.Grammar.{Term, name, numeral, quoted, Literal, atom, compare, sum, only, with_commas, in_parens, past, IsName, IsTerm, IsHead, IsLiteral, IsWhere, term_tokens, head_tokens, op_token, plus_token, literal_tokens, where_tokens}
+use Rattle.lt_grammar.specs.Tokens.{Text, not_word, equals}
+use Rattle.lt_grammar.specs.Grammar.{Term, name, numeral, quoted, Literal, atom, absent, compare, sum, only, with_commas, in_parens, past, IsName, IsTerm, IsHead, IsLiteral, IsWhere, term_tokens, head_tokens, op_token, plus_token, literal_tokens, where_tokens}
 use Rattle.lt_grammar.specs.Meaning.{level_of, term_value, head_value, literal_value}
 use Rattle.lt_grammar.proofs.Agrees.{Written, Agrees, led_agrees, ended_agrees, pair_agrees, few_agrees, AreFew}
 
@@ -111,6 +111,7 @@ sum_agrees level s = pair_agrees names_agree (led_agrees (two_agree level s) equ
 
 literal_there : (level : Level) (l : Literal) → IsLiteral level l → SpellsLiteral (level_of level) (literal_value l) (literal_tokens l)
 literal_there level (atom h) k = (heads_agree level).there h k
+literal_there level (absent h) k = (led_agrees (heads_agree level) not_word).there h k
 literal_there level (compare left op right) h =
     subst (λ (s : Shape). SpellsLiteral (level_of level) (literal_value (compare left op right)) (term_tokens left ++ (s ∷ term_tokens right))) (op_same op) ((two_agree level (sign (op_text op))).there (left, right) h)
 literal_there level (sum v a m b) h =
@@ -118,6 +119,7 @@ literal_there level (sum v a m b) h =
 
 literal_back : (level : Level) (v : LiteralValue) (ts : List Shape) → SpellsLiteral (level_of level) v ts → Written (IsLiteral level) literal_tokens literal_value v ts
 literal_back level (Atom v) ts h = let x = (heads_agree level).back v ts h in (atom x.0, x.1, ap Atom x.2, x.3)
+literal_back level (Absent v) ts h = let x = (led_agrees (heads_agree level) not_word).back v ts h in (absent x.0, x.1, ap Absent x.2, x.3)
 literal_back level (Cmp left op right) ts h =
     let x = (two_agree level (sign (op_text op))).back (left, right) ts h in (
       compare x.0.0 op x.0.1,

@@ -1,9 +1,12 @@
 -- Literals, bodies and `where` parts are read exactly. `x = y` may go on with a plus or a minus, so these are barred behind it.
-use Rattle.std.proofs.Common.{◌≡◌, Bool, true, false, List, [], ◌∷◌, ◌++◌, Option, Some, None, refl, sym as turned, ap, inl, inr, ◌⊎◌}
+use Rattle.std.proofs.Common.{◌≡◌, Bool, true, false, List, [], ◌∷◌, ◌++◌, Option, Some, None, refl, sym as turned, ap, ◌∙◌, inl, inr, ◌⊎◌}
+use Rattle.std.specs.Prelude.{cond, codes}
+use Rattle.std.proofs.lemmas.Bool.{true≢false}
 use Rattle.std.proofs.lemmas.List.{append-nil}
+use Rattle.std.proofs.lemmas.Slice.Eq.{bytes_eq-Decides}
 use Rattle.lt_reading.specs.Reading.{in_table, both, led, choice, maybe}
 use Rattle.lt_reading.specs.Language.{Level, formed, Language, none}
-use Rattle.lt_reading.proofs.Exact.{Reads, Begins, heads_more}
+use Rattle.lt_reading.proofs.Exact.{Viable, Reads, Begins, heads_more}
 use Rattle.lt_reading.proofs.OneToken.{Plain, table_reads}
 use Rattle.lt_reading.proofs.Sequence.{Both, loose_reads}
 use Rattle.lt_reading.proofs.Meaning.{given_reads}
@@ -13,14 +16,14 @@ use Rattle.lt_reading.proofs.Optional.{Maybe, maybe_reads}
 use Rattle.lt_reading.proofs.Repeat.{ending, ending_free}
 use Rattle.lt_reading.proofs.Listed.{Listed, Started, listed_reads}
 use Rattle.lt_model.specs.Tokens.{Shape, word, symbol}
-use Rattle.lt_model.specs.Grammar.{comma, where_word}
-use Rattle.lt_grammar.specs.Tokens.{Text, same_shape, equals}
+use Rattle.lt_model.specs.Grammar.{comma, left_paren, right_paren, where_word}
+use Rattle.lt_grammar.specs.Tokens.{Text, same_shape, is_reserved, not_word, equals}
 use Rattle.lt_model.specs.declared.syntax.Op.{Op}
 use Rattle.lt_model.specs.declared.syntax.Op.TheVariants.{Eq, Ne, Lt, Le, Gt, Ge}
-use Rattle.lt_grammar.specs.Grammar.{Term, name, numeral, quoted, Literal, atom, compare, sum, IsLiteral, IsWhere, term_tokens, op_token, plus_token, literal_tokens, where_tokens}
-use Rattle.lt_grammar.specs.Productions.{is_word, name_at, constant_at, term_at, starts_term, terms_at, other_ops, all_ops, other_op_at, op_at, plus_table, plus_at, is_plus, is_left_paren, is_equals, Rest, equation_at, rest_at, literal_of, literal_at, body_at, is_where, where_of, where_at}
-use Rattle.lt_grammar.proofs.Shapes.{marks}
-use Rattle.lt_grammar.proofs.Terms.{Names, names_read, Constants, constants_read, constants_no_word, constant_term, Terms, terms_read, terms_begin, terms_start, Arguments, arguments_read}
+use Rattle.lt_grammar.specs.Grammar.{Term, name, numeral, quoted, Head, Literal, atom, absent, compare, sum, IsLiteral, IsWhere, term_tokens, op_token, plus_token, literal_tokens, where_tokens}
+use Rattle.lt_grammar.specs.Productions.{is_word, name_at, constant_at, term_at, starts_term, terms_at, other_ops, all_ops, other_op_at, op_at, plus_table, plus_at, is_plus, is_left_paren, is_equals, Rest, equation_at, rest_at, is_not, starts_literal, head_at, literal_of, literal_at, body_at, is_where, where_of, where_at}
+use Rattle.lt_grammar.proofs.Shapes.{marks, same_shape_is}
+use Rattle.lt_grammar.proofs.Terms.{Names, names_read, Constants, constants_read, constants_no_word, constant_term, Terms, terms_read, terms_begin, terms_start, Arguments, arguments_read, Heads_, heads_read}
 
 -- ---- signs of comparisons and sums
 
@@ -129,8 +132,8 @@ literal_bars _ = none
 abbrev pub Literals : Language Shape Literal
 Literals = record { spell = literal_tokens; Holds = IsLiteral; bars = literal_bars }
 
-abbrev LiteralParts : Language Shape ((Text × Rest) ⊎ (Term × (Op × Term)))
-LiteralParts = Choice (Both Names Rests) (Both Constants (Both Ops Terms))
+abbrev LiteralParts : Language Shape (Head ⊎ ((Text × Rest) ⊎ (Term × (Op × Term))))
+LiteralParts = Choice (Led not_word Heads_) (Choice (Both Names Rests) (Both Constants (Both Ops Terms)))
 
 abbrev pub named : Op → Term → Rest
 named Eq r = inr (inl (r, None))
@@ -140,36 +143,40 @@ named Le r = inr (inr (Le, r))
 named Gt r = inr (inr (Gt, r))
 named Ge r = inr (inr (Ge, r))
 
-abbrev pub literal_parts : Literal → (Text × Rest) ⊎ (Term × (Op × Term))
-literal_parts (atom h) = inl (h.relation, inl (h.first, h.others))
-literal_parts (compare (name v) op r) = inl (v, named op r)
-literal_parts (compare (numeral m digits) op r) = inr (numeral m digits, (op, r))
-literal_parts (compare (quoted text) op r) = inr (quoted text, (op, r))
-literal_parts (sum v a m b) = inl (v, inr (inl (a, Some (m, b))))
+abbrev pub literal_parts : Literal → Head ⊎ ((Text × Rest) ⊎ (Term × (Op × Term)))
+literal_parts (atom h) = inr (inl (h.relation, inl (h.first, h.others)))
+literal_parts (absent h) = inl h
+literal_parts (compare (name v) op r) = inr (inl (v, named op r))
+literal_parts (compare (numeral m digits) op r) = inr (inr (numeral m digits, (op, r)))
+literal_parts (compare (quoted text) op r) = inr (inr (quoted text, (op, r)))
+literal_parts (sum v a m b) = inr (inl (v, inr (inl (a, Some (m, b)))))
 
-literal_same : (a : (Text × Rest) ⊎ (Term × (Op × Term))) → LiteralParts.Holds formed a → literal_tokens (literal_of a) ≡ LiteralParts.spell a
-literal_same (inl (v, inl ts)) h = refl
-literal_same (inl (v, inr (inl (a, None)))) h = ap (λ (s : List Shape). word v ∷ (equals ∷ s)) (turned (append-nil (term_tokens a)))
-literal_same (inl (v, inr (inl (a, Some b)))) h = refl
-literal_same (inl (v, inr (inr (op, t)))) h = refl
-literal_same (inr (c, (op, t))) h = refl
+literal_same : (a : Head ⊎ ((Text × Rest) ⊎ (Term × (Op × Term)))) → LiteralParts.Holds formed a → literal_tokens (literal_of a) ≡ LiteralParts.spell a
+literal_same (inl x) h = refl
+literal_same (inr (inl (v, inl ts))) h = refl
+literal_same (inr (inl (v, inr (inl (a, None))))) h = ap (λ (s : List Shape). word v ∷ (equals ∷ s)) (turned (append-nil (term_tokens a)))
+literal_same (inr (inl (v, inr (inl (a, Some b))))) h = refl
+literal_same (inr (inl (v, inr (inr (op, t))))) h = refl
+literal_same (inr (inr (c, (op, t)))) h = refl
 
-literal_bars_same : (a : (Text × Rest) ⊎ (Term × (Op × Term))) → LiteralParts.Holds formed a → literal_bars (literal_of a) ≡ LiteralParts.bars a
-literal_bars_same (inl (v, inl ts)) h = refl
-literal_bars_same (inl (v, inr (inl (a, None)))) h = refl
-literal_bars_same (inl (v, inr (inl (a, Some b)))) h = refl
-literal_bars_same (inl (v, inr (inr (Eq, t)))) h = absurd h.1.0
-literal_bars_same (inl (v, inr (inr (Ne, t)))) h = refl
-literal_bars_same (inl (v, inr (inr (Lt, t)))) h = refl
-literal_bars_same (inl (v, inr (inr (Le, t)))) h = refl
-literal_bars_same (inl (v, inr (inr (Gt, t)))) h = refl
-literal_bars_same (inl (v, inr (inr (Ge, t)))) h = refl
-literal_bars_same (inr (name x, (op, t))) h = absurd h.0
-literal_bars_same (inr (numeral m x, (op, t))) h = refl
-literal_bars_same (inr (quoted x, (op, t))) h = refl
+literal_bars_same : (a : Head ⊎ ((Text × Rest) ⊎ (Term × (Op × Term)))) → LiteralParts.Holds formed a → literal_bars (literal_of a) ≡ LiteralParts.bars a
+literal_bars_same (inl x) h = refl
+literal_bars_same (inr (inl (v, inl ts))) h = refl
+literal_bars_same (inr (inl (v, inr (inl (a, None))))) h = refl
+literal_bars_same (inr (inl (v, inr (inl (a, Some b))))) h = refl
+literal_bars_same (inr (inl (v, inr (inr (Eq, t))))) h = absurd h.1.0
+literal_bars_same (inr (inl (v, inr (inr (Ne, t))))) h = refl
+literal_bars_same (inr (inl (v, inr (inr (Lt, t))))) h = refl
+literal_bars_same (inr (inl (v, inr (inr (Le, t))))) h = refl
+literal_bars_same (inr (inl (v, inr (inr (Gt, t))))) h = refl
+literal_bars_same (inr (inl (v, inr (inr (Ge, t))))) h = refl
+literal_bars_same (inr (inr (name x, (op, t)))) h = absurd h.0
+literal_bars_same (inr (inr (numeral m x, (op, t)))) h = refl
+literal_bars_same (inr (inr (quoted x, (op, t)))) h = refl
 
 literal_is : (x : Literal) → literal_of (literal_parts x) ≡ x
 literal_is (atom h) = refl
+literal_is (absent h) = refl
 literal_is (compare (name v) Eq r) = refl
 literal_is (compare (name v) Ne r) = refl
 literal_is (compare (name v) Lt r) = refl
@@ -180,15 +187,17 @@ literal_is (compare (numeral m digits) op r) = refl
 literal_is (compare (quoted text) op r) = refl
 literal_is (sum v a m b) = refl
 
-literal_to : (level : Level) (a : (Text × Rest) ⊎ (Term × (Op × Term))) → LiteralParts.Holds level a → IsLiteral level (literal_of a)
-literal_to level (inl (v, inl ts)) h = h
-literal_to level (inl (v, inr (inl (a, None)))) h = (h.0, h.1.0)
-literal_to level (inl (v, inr (inl (a, Some b)))) h = (h.0, (h.1.0, h.1.1.1))
-literal_to level (inl (v, inr (inr (op, t)))) h = (h.0, h.1.1)
-literal_to level (inr (c, (op, t))) h = (constant_term level c h.0, h.1.1)
+literal_to : (level : Level) (a : Head ⊎ ((Text × Rest) ⊎ (Term × (Op × Term)))) → LiteralParts.Holds level a → IsLiteral level (literal_of a)
+literal_to level (inl x) h = h
+literal_to level (inr (inl (v, inl ts))) h = h
+literal_to level (inr (inl (v, inr (inl (a, None))))) h = (h.0, h.1.0)
+literal_to level (inr (inl (v, inr (inl (a, Some b))))) h = (h.0, (h.1.0, h.1.1.1))
+literal_to level (inr (inl (v, inr (inr (op, t))))) h = (h.0, h.1.1)
+literal_to level (inr (inr (c, (op, t)))) h = (constant_term level c h.0, h.1.1)
 
 literal_from : (level : Level) (x : Literal) → IsLiteral level x → LiteralParts.Holds level (literal_parts x)
 literal_from level (atom h) k = k
+literal_from level (absent h) k = k
 literal_from level (compare (name v) Eq r) h = (h.0, (h.1, tt))
 literal_from level (compare (name v) Ne r) h = (h.0, (tt, h.1))
 literal_from level (compare (name v) Lt r) h = (h.0, (tt, h.1))
@@ -202,29 +211,71 @@ literal_from level (sum v a m b) h = (h.0, (h.1.0, (tt, h.1.1)))
 constant_first : Begins is_word false (Both Constants (Both Ops Terms))
 constant_first (c, x) h = heads_more is_word false (Constants.spell c) (op_token x.0 ∷ term_tokens x.1) (constants_no_word c h.0)
 
+not_reserved : (x : Text) → is_reserved x ≡ false → is_not (word x) ≡ false
+not_reserved x h = elim (is_not (word x)) as (λ b. is_not (word x) ≡ b → b ≡ false) [
+  | true ↦ λ e. absurd (true≢false (sym_of (ap is_reserved (same_text x e)) ∙ h))
+  | false ↦ λ e. refl
+] refl
+  where
+    same_text : (x : Text) → is_not (word x) ≡ true → x ≡ codes "not"
+    same_text x e = (bytes_eq-Decides x (codes "not")).0 e
+
+    sym_of : {a b : Bool} → a ≡ b → b ≡ a
+    sym_of e = turned e
+
+not_first : Begins is_not false (Choice (Both Names Rests) (Both Constants (Both Ops Terms)))
+not_first (inl (v, x)) h = not_reserved v h.0
+not_first (inr (c, x)) h = heads_more is_not false (Constants.spell c) (op_token x.0 ∷ term_tokens x.1) (constants_no_not c h.0)
+  where
+    constants_no_not : Begins is_not false Constants
+    constants_no_not (name x) h = absurd h
+    constants_no_not (numeral true x) h = refl
+    constants_no_not (numeral false x) h = refl
+    constants_no_not (quoted x) h = refl
+
 pub literals_read : Reads marks Literals literal_at
 unfolding literal_at
 literals_read =
-    given_reads marks literal_of literal_parts LiteralParts (choice is_word (both name_at rest_at) (both constant_at (both op_at term_at))) Literals
+    given_reads marks literal_of literal_parts LiteralParts (choice is_not (led same_shape not_word head_at) (choice is_word (both name_at rest_at) (both constant_at (both op_at term_at)))) Literals
+    (choice_reads marks is_not (Led not_word Heads_) (led same_shape not_word head_at) (Choice (Both Names Rests) (Both Constants (Both Ops Terms))) (choice is_word (both name_at rest_at) (both constant_at (both op_at term_at)))
+    (led_reads marks not_word Heads_ head_at heads_read)
     (choice_reads marks is_word (Both Names Rests) (both name_at rest_at) (Both Constants (Both Ops Terms)) (both constant_at (both op_at term_at))
     (loose_reads marks Names name_at Rests rest_at names_read rests_read (λ a t. refl))
     (loose_reads marks Constants constant_at (Both Ops Terms) (both op_at term_at) constants_read (loose_reads marks Ops op_at Terms term_at ops_read terms_read (λ a t. refl)) (λ a t. refl))
     (λ x h. refl) constant_first)
+    (λ x h. refl) not_first)
     (record { same = literal_same; bars = literal_bars_same; is = λ level x h. literal_is x; to = literal_to; from = literal_from })
 
-pub literals_begin : Begins starts_term true Literals
-literals_begin (atom k) h = rw h.0 refl
-literals_begin (compare left op right) h = heads_more starts_term true (term_tokens left) (op_token op ∷ term_tokens right) (terms_begin left h.0)
-literals_begin (sum v a m b) h = rw h.0 refl
+either_way : (t : Shape) → starts_term t ≡ true → starts_literal t ≡ true
+either_way t h = elim (is_not t) as (λ b. cond b true (starts_term t) ≡ true) [ true ↦ refl | false ↦ h ]
 
-pub literals_start : Started starts_term Literals
-literals_start t h =
+pub literals_begin : Begins starts_literal true Literals
+literals_begin (atom k) h = either_way (word k.relation) (rw h.0 refl)
+literals_begin (absent k) h = refl
+literals_begin (compare left op right) h = heads_more starts_literal true (term_tokens left) (op_token op ∷ term_tokens right) (begins left h.0)
+  where
+    begins : Begins starts_literal true Terms
+    begins (name x) h = either_way (word x) (rw h refl)
+    begins (numeral true x) h = refl
+    begins (numeral false x) h = refl
+    begins (quoted x) h = refl
+literals_begin (sum v a m b) h = either_way (word v) (rw h.0 refl)
+
+literals_start_term : Started starts_term Literals
+literals_start_term t h =
     let v = terms_start t h in
     record { value = compare v.value Eq (quoted []); more = v.more ++ (equals ∷ (symbol [] ∷ [])); holds = (v.holds, tt); begins = ap (λ (s : List Shape). s ++ (equals ∷ (symbol [] ∷ []))) v.begins }
+
+pub literals_start : Started starts_literal Literals
+literals_start t h = elim (is_not t) as (λ b. is_not t ≡ b → cond b true (starts_term t) ≡ true → Viable Literals formed (t ∷ [])) [
+  | true ↦ λ e k. record { value = absent (record { relation = []; first = quoted []; others = [] }); more = word [] ∷ (left_paren ∷ (symbol [] ∷ (right_paren ∷ []))); holds = (refl, ((tt, (tt, tt)))); begins = ap (λ (s : Shape). s ∷ (word [] ∷ (left_paren ∷ (symbol [] ∷ (right_paren ∷ []))))) (turned (same_shape_is t not_word e)) }
+  | false ↦ λ e k. literals_start_term t k
+] refl h
 
 -- only a plus or a minus is barred behind a literal
 pub literals_free : (x : Literal) (t : Shape) → is_plus t ≡ false → literal_bars x t ≡ false
 literals_free (atom h) t p = refl
+literals_free (absent h) t p = refl
 literals_free (compare (name v) Eq r) t p = p
 literals_free (compare (name v) Ne r) t p = refl
 literals_free (compare (name v) Lt r) t p = refl
@@ -242,7 +293,7 @@ Bodies = Listed marks Literals 15
 
 pub bodies_read : Reads marks Bodies body_at
 unfolding body_at
-bodies_read = listed_reads marks starts_term Literals literal_at literals_read literals_begin literals_start refl (λ x. literals_free x comma refl) 15
+bodies_read = listed_reads marks starts_literal Literals literal_at literals_read literals_begin literals_start refl (λ x. literals_free x comma refl) 15
 
 abbrev pub body_bars : Literal → List Literal → Shape → Bool
 body_bars l ls = ending (λ t. same_shape t comma) literal_bars (literal_bars l) ls

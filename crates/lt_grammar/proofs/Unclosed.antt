@@ -7,7 +7,7 @@ use Rattle.lt_model.specs.Grammar.{comma, semicolon, right_paren}
 use Rattle.lt_grammar.specs.Tokens.{same_shape, by_word}
 use Rattle.lt_model.specs.declared.syntax.Op.{Op}
 use Rattle.lt_model.specs.declared.syntax.Op.TheVariants.{Eq, Ne, Lt, Le, Gt, Ge}
-use Rattle.lt_grammar.specs.Grammar.{Term, name, numeral, quoted, Head, Literal, atom, compare, sum, Statement, insert, delete, replace, require, print, only, with_commas, in_parens, term_tokens, head_tokens, op_token, plus_token, literal_tokens, where_tokens, need_token, form_tokens}
+use Rattle.lt_grammar.specs.Grammar.{Term, name, numeral, quoted, Head, Literal, atom, absent, compare, sum, Statement, insert, delete, replace, require, print, only, with_commas, in_parens, term_tokens, head_tokens, op_token, plus_token, literal_tokens, where_tokens, need_token, form_tokens}
 use Rattle.lt_grammar.proofs.Shapes.{marks}
 
 further : {A : Type 0} (tokens : A → List Shape) → ((x : A) → Unclosed marks (tokens x)) → (xs : List A) → Unclosed marks (flat_map (λ y. only comma ++ tokens y) xs)
@@ -43,6 +43,7 @@ plus false = refl
 
 literal : (x : Literal) → Unclosed marks (literal_tokens x)
 literal (atom h) = head h
+literal (absent h) = (refl, head h)
 literal (compare left o right) = unclosed_append marks (term_tokens left) (op_token o ∷ term_tokens right) (term left) (op o, term right)
 literal (sum v a m b) = (refl, (refl, unclosed_append marks (term_tokens a) (plus_token m ∷ term_tokens b) (term a) (plus m, term b)))
 

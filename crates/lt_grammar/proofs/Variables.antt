@@ -9,7 +9,7 @@ use Rattle.lt_model.specs.declared.syntax.Term.{Term as TermValue}
 use Rattle.lt_model.specs.Grammar.{HasFewVariables}
 use Rattle.lt_model.specs.Variables.{literal_terms, terms_of, variable_of, variables, with_name}
 use Rattle.lt_grammar.specs.Tokens.{Text}
-use Rattle.lt_grammar.specs.Grammar.{Term, name, numeral, quoted, Head, Literal, atom, compare, sum, Statement, insert, delete, replace, require, print, term_names, terms_names, head_names, literal_names, body_names, statement_names, few_names}
+use Rattle.lt_grammar.specs.Grammar.{Term, name, numeral, quoted, Head, Literal, atom, absent, compare, sum, Statement, insert, delete, replace, require, print, term_names, terms_names, head_names, literal_names, body_names, statement_names, few_names}
 use Rattle.lt_grammar.specs.Meaning.{level_of, term_value, terms_value, literal_value, body_value, statement_value}
 
 abbrev names_of : List TermValue → List Text
@@ -36,6 +36,7 @@ two a b = term a (term_value b ∷ []) ∙ ap (λ (s : List Text). term_names a 
 
 literal : (l : Literal) → names_of (literal_terms (literal_value l)) ≡ literal_names l
 literal (atom h) = arguments h.first h.others
+literal (absent h) = arguments h.first h.others
 literal (compare left op right) = two left right
 literal (sum v a m b) = ap (λ (s : List Text). v ∷ s) (two a b)
 

@@ -10,7 +10,7 @@ use Rattle.lt_reading.specs.Language.{Level, AtMost, InRange, AtClose, Language,
 use Rattle.lt_model.specs.Tokens.{Shape, word, number, symbol, sign}
 use Rattle.lt_model.specs.Variables.{with_name}
 use Rattle.lt_model.specs.Grammar.{where_word, left_paren, right_paren, comma, semicolon, digits_value}
-use Rattle.lt_grammar.specs.Tokens.{Text, is_reserved, relation_word, batch_word, program_word, end_word, commit_word, show_word, at_word, insert_word, delete_word, replace_word, by_word, require_word, some_word, none_word, print_word, int_word, sym_word, equals, plus, minus}
+use Rattle.lt_grammar.specs.Tokens.{Text, is_reserved, relation_word, batch_word, program_word, end_word, commit_word, show_word, at_word, insert_word, delete_word, replace_word, by_word, require_word, some_word, none_word, print_word, int_word, sym_word, not_word, equals, plus, minus}
 
 -- ---- values
 
@@ -28,6 +28,7 @@ pub record Head : Type 0 where
 
 pub data Literal : Type 0 where
   atom : Head → Literal
+  absent : Head → Literal
   compare : Term → Op → Term → Literal
   -- name = a + b, or with a minus
   sum : Text → Term → Bool → Term → Literal
@@ -88,6 +89,7 @@ plus_token true = minus
 
 abbrev pub literal_tokens : Literal → List Shape
 literal_tokens (atom h) = head_tokens h
+literal_tokens (absent h) = only not_word ++ head_tokens h
 literal_tokens (compare left op right) = term_tokens left ++ (only (op_token op) ++ term_tokens right)
 literal_tokens (sum v a m b) = only (word v) ++ only equals ++ (term_tokens a ++ (only (plus_token m) ++ term_tokens b))
 
@@ -146,6 +148,7 @@ IsHead level h = IsName h.relation × AreTerms level h.first h.others
 
 abbrev pub IsLiteral : Level → Literal → Type 0
 IsLiteral level (atom h) = IsHead level h
+IsLiteral level (absent h) = IsHead level h
 IsLiteral level (compare left op right) = IsTerm level left × IsTerm level right
 IsLiteral level (sum v a m b) = IsName v × (IsTerm level a × IsTerm level b)
 
@@ -179,6 +182,7 @@ head_names h = terms_names h.first h.others
 
 abbrev pub literal_names : Literal → List Text
 literal_names (atom h) = head_names h
+literal_names (absent h) = head_names h
 literal_names (compare left op right) = term_names left ++ term_names right
 literal_names (sum v a m b) = v ∷ (term_names a ++ term_names b)
 

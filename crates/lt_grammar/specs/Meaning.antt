@@ -5,7 +5,7 @@ use Rattle.lt_model.specs.declared.syntax.Term.{Term}
 use Rattle.lt_model.specs.declared.syntax.Term.TheVariants.{Name, Cell}
 use Rattle.lt_model.specs.declared.syntax.Head.{Head}
 use Rattle.lt_model.specs.declared.syntax.Literal.{Literal}
-use Rattle.lt_model.specs.declared.syntax.Literal.TheVariants.{Atom, Cmp, Sum}
+use Rattle.lt_model.specs.declared.syntax.Literal.TheVariants.{Atom, Absent, Cmp, Sum}
 use Rattle.lt_model.specs.declared.syntax.Statement.{Statement}
 use Rattle.lt_model.specs.declared.syntax.Statement.TheVariants.{Insert, Delete, Replace, Require, Print}
 use Rattle.lt_model.specs.declared.syntax.Program.{Program}
@@ -37,6 +37,7 @@ head_value h = record { relation = h.relation; terms = terms_value h.first h.oth
 
 abbrev pub literal_value : tree.Literal → Literal
 literal_value (tree.atom h) = Atom (head_value h)
+literal_value (tree.absent h) = Absent (head_value h)
 literal_value (tree.compare left op right) = Cmp (term_value left) op (term_value right)
 literal_value (tree.sum v a minus b) = Sum v (term_value a) minus (term_value b)
 

@@ -5,12 +5,12 @@ use mathlib.Core.Logic.{inl, inr}
 use Rattle.lt_reading.specs.Reading.{Reader, next_is, one, always, in_table, both, led, ended, between, choice, maybe, many, at_once, listed, closed, given}
 use Rattle.lt_model.specs.Tokens.{Shape, word, number, symbol, sign}
 use Rattle.lt_model.specs.Grammar.{where_word, left_paren, right_paren, comma, semicolon, digits_value}
-use Rattle.lt_grammar.specs.Tokens.{Text, same_shape, is_reserved, relation_word, batch_word, program_word, end_word, commit_word, show_word, at_word, insert_word, delete_word, replace_word, by_word, require_word, some_word, none_word, print_word, int_word, sym_word, equals, plus, minus}
+use Rattle.lt_grammar.specs.Tokens.{Text, same_shape, is_reserved, relation_word, batch_word, program_word, end_word, commit_word, show_word, at_word, insert_word, delete_word, replace_word, by_word, require_word, some_word, none_word, print_word, int_word, sym_word, not_word, equals, plus, minus}
 use Rattle.lt_model.specs.declared.kind.Kind.{Kind}
 use Rattle.lt_model.specs.declared.kind.Kind.TheVariants.{Int, Sym}
 use Rattle.lt_model.specs.declared.syntax.Op.{Op}
 use Rattle.lt_model.specs.declared.syntax.Op.TheVariants.{Eq, Ne, Lt, Le, Gt, Ge}
-use Rattle.lt_grammar.specs.Grammar.{Term, name, numeral, quoted, Head, Literal, atom, compare, sum, Statement, insert, delete, replace, require, print, Program, Item, relation, batch, show, past, few_names}
+use Rattle.lt_grammar.specs.Grammar.{Term, name, numeral, quoted, Head, Literal, atom, absent, compare, sum, Statement, insert, delete, replace, require, print, Program, Item, relation, batch, show, past, few_names}
 
 -- whether this token stands next
 abbrev pub stands : Shape → List Shape → Bool
@@ -138,17 +138,25 @@ abbrev pub equation_of : Text → Term → Option (Bool × Term) → Literal
 equation_of v a None = compare (name v) Eq a
 equation_of v a (Some b) = sum v a b.0 b.1
 
-abbrev pub literal_of : (Text × Rest) ⊎ (Term × (Op × Term)) → Literal
-literal_of (inl (v, inl ts)) = atom (record { relation = v; first = ts.0; others = ts.1 })
-literal_of (inl (v, inr (inl (a, b)))) = equation_of v a b
-literal_of (inl (v, inr (inr (op, t)))) = compare (name v) op t
-literal_of (inr (c, (op, t))) = compare c op t
+abbrev pub is_not : Shape → Bool
+is_not t = same_shape t not_word
+
+abbrev pub literal_of : Head ⊎ ((Text × Rest) ⊎ (Term × (Op × Term))) → Literal
+literal_of (inl h) = absent h
+literal_of (inr (inl (v, inl ts))) = atom (record { relation = v; first = ts.0; others = ts.1 })
+literal_of (inr (inl (v, inr (inl (a, b))))) = equation_of v a b
+literal_of (inr (inl (v, inr (inr (op, t))))) = compare (name v) op t
+literal_of (inr (inr (c, (op, t)))) = compare c op t
 
 unfoldable pub literal_at : Reader Shape Literal
-literal_at = given literal_of (choice is_word (both name_at rest_at) (both constant_at (both op_at term_at)))
+literal_at = given literal_of (choice is_not (led same_shape not_word head_at) (choice is_word (both name_at rest_at) (both constant_at (both op_at term_at))))
+
+-- whether a literal may begin so
+abbrev pub starts_literal : Shape → Bool
+starts_literal t = cond (is_not t) true (starts_term t)
 
 unfoldable pub body_at : Reader Shape (Literal × List Literal)
-body_at = listed same_shape comma starts_term literal_at (most_literals - 1)
+body_at = listed same_shape comma starts_literal literal_at (most_literals - 1)
 
 abbrev pub is_where : Shape → Bool
 is_where t = same_shape t where_word

@@ -68,6 +68,9 @@ int_word = word (codes "int")
 abbrev pub sym_word : Shape
 sym_word = word (codes "sym")
 
+abbrev pub not_word : Shape
+not_word = word (codes "not")
+
 abbrev pub is_reserved : List ℕ → Bool
 is_reserved text = list_any (bytes_eq text) reserved
 

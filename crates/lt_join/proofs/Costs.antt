@@ -1,7 +1,7 @@
 -- A level's moves and its children's.
-use Rattle.std.specs.Prelude.{◌≡◌, ℕ, ◌+◌, ◌-◌, ◌^◌, ◌<◌, ◌≤◌, true, false, nat_lt, List, [], ◌∷◌, ◌++◌, length, slice_get, drop, Some, if◌then◌else◌}
+use Rattle.std.specs.Prelude.{◌≡◌, ℕ, zero, suc, ◌+◌, ◌-◌, ◌^◌, ◌<◌, ◌≤◌, true, false, nat_lt, List, [], ◌∷◌, ◌++◌, length, slice_get, drop, Some, if◌then◌else◌}
 use Rattle.std.specs.List.{sum_by}
-use Rattle.std.proofs.Common.{refl, ap, ◌∙◌, inl, inr, cond, arith}
+use Rattle.std.proofs.Common.{refl, sym, ap, ◌∙◌, subst, inl, inr, cond, arith}
 use Rattle.std.proofs.lemmas.Bool.{lt-ltb, ltb-true, le-ltb}
 use Rattle.std.proofs.lemmas.List.Sums.{sum_by-cons}
 use Rattle.lt_join.specs.Walked.{at, CostsAt}
@@ -57,49 +57,60 @@ sum_below-le key f (x ∷ xs) =
     rw (sum_by-cons f x xs) (elim (nat_lt x key) as (λ b. cond b (f x) 0 + sum_below key f xs ≤ f x + sum_by f xs) [ true ↦ omega arith | false ↦ omega arith ])
 
 -- what the levels below a key cost
-abbrev pub child_cost : Plan → State → List ℕ → ℕ → ℕ
-child_cost plan state keys k = cost_from state plan.guides (drop (length keys + 1) plan.levels) (length keys + 1) (with_key (at keys) (length keys) k)
+abbrev pub child_cost : ℕ → Plan → State → List ℕ → ℕ → ℕ
+child_cost absents plan state keys k = cost_from absents state plan.guides (drop (length keys + 1) plan.levels) (length keys + 1) (with_key (at keys) (length keys) k)
 
 -- the moves so far are those of the level and of the keys below this one
-pub record IsPaid (plan : Plan) (state : State) (keys : List ℕ) (level : Level) (begun now left key : ℕ) : Type 0 where
-  pub paid : now + left ≤ begun + join_cost (iterators_at state plan.guides level (length keys) (at keys)) + sum_below key (child_cost plan state keys) (common_keys (iterators_at state plan.guides level (length keys) (at keys)))
+pub record IsPaid (absents : ℕ) (plan : Plan) (state : State) (keys : List ℕ) (level : Level) (begun now left key : ℕ) : Type 0 where
+  pub paid : now + left ≤ begun + join_cost (iterators_at state plan.guides level (length keys) (at keys)) + sum_below key (child_cost absents plan state keys) (common_keys (iterators_at state plan.guides level (length keys) (at keys)))
   pub is_common : key < 2 ^ 128 - 1 → IsIn key (common_keys (iterators_at state plan.guides level (length keys) (at keys)))
 
-pub IsPaid-begun : (plan : Plan) (state : State) (keys : List ℕ) (level : Level) (begun now left key : ℕ) → CostsAt plan state keys level (begun + join_cost (iterators_at state plan.guides level (length keys) (at keys))) now left key → IsPaid plan state keys level begun now left key
-IsPaid-begun plan state keys level begun now left key c = record { paid = let k = c.kept in omega arith; is_common = c.is_common }
+pub IsPaid-begun : (absents : ℕ) (plan : Plan) (state : State) (keys : List ℕ) (level : Level) (begun now left key : ℕ) → CostsAt plan state keys level (begun + join_cost (iterators_at state plan.guides level (length keys) (at keys))) now left key → IsPaid absents plan state keys level begun now left key
+IsPaid-begun absents plan state keys level begun now left key c = record { paid = let k = c.kept in omega arith; is_common = c.is_common }
 
 -- a child's cost, by the keys with this one
-child_is : (plan : Plan) (state : State) (keys : List ℕ) (key : ℕ) → cost_from state plan.guides (drop (length (keys ++ key ∷ [])) plan.levels) (length (keys ++ key ∷ [])) (at (keys ++ key ∷ [])) ≡ child_cost plan state keys key
-child_is plan state keys key =
-    ap (λ n. cost_from state plan.guides (drop n plan.levels) n (at (keys ++ key ∷ []))) (length_push keys key)
-    ∙ ap (cost_from state plan.guides (drop (length keys + 1) plan.levels) (length keys + 1)) (at_push keys key)
+child_is : (absents : ℕ) (plan : Plan) (state : State) (keys : List ℕ) (key : ℕ) → cost_from absents state plan.guides (drop (length (keys ++ key ∷ [])) plan.levels) (length (keys ++ key ∷ [])) (at (keys ++ key ∷ [])) ≡ child_cost absents plan state keys key
+child_is absents plan state keys key =
+    ap (λ n. cost_from absents state plan.guides (drop n plan.levels) n (at (keys ++ key ∷ []))) (length_push keys key)
+    ∙ ap (cost_from absents state plan.guides (drop (length keys + 1) plan.levels) (length keys + 1)) (at_push keys key)
 
 -- a child was paid, and the level went on
-pub IsPaid-more : (plan : Plan) (state : State) (keys0 keys : List ℕ) (level : Level) (begun now left key back now' left' key' : ℕ) → key < 2 ^ 128 - 1 → key < key' → IsPaid plan state keys0 level begun now left key → back ≤ now + cost_from state plan.guides (drop (length (keys0 ++ key ∷ [])) plan.levels) (length (keys0 ++ key ∷ [])) (at (keys0 ++ key ∷ [])) → CostsAt plan state keys0 level (back + left) now' left' key' → IsPaid plan state keys0 level begun now' left' key'
-IsPaid-more plan state keys0 keys level begun now left key back now' left' key' at_key rises paid child c =
-    let cost : cost_from state plan.guides (drop (length (keys0 ++ key ∷ [])) plan.levels) (length (keys0 ++ key ∷ [])) (at (keys0 ++ key ∷ [])) ≡ child_cost plan state keys0 key =
-    ap (λ n. cost_from state plan.guides (drop n plan.levels) n (at (keys0 ++ key ∷ []))) (length_push keys0 key)
-    ∙ ap (cost_from state plan.guides (drop (length keys0 + 1) plan.levels) (length keys0 + 1)) (at_push keys0 key) in
-    let more = sum_below_more key key' (child_cost plan state keys0) (common_keys (iterators_at state plan.guides level (length keys0) (at keys0))) (paid.is_common at_key) rises in
+pub IsPaid-more : (absents : ℕ) (plan : Plan) (state : State) (keys0 keys : List ℕ) (level : Level) (begun now left key back now' left' key' : ℕ) → key < 2 ^ 128 - 1 → key < key' → IsPaid absents plan state keys0 level begun now left key → back ≤ now + cost_from absents state plan.guides (drop (length (keys0 ++ key ∷ [])) plan.levels) (length (keys0 ++ key ∷ [])) (at (keys0 ++ key ∷ [])) → CostsAt plan state keys0 level (back + left) now' left' key' → IsPaid absents plan state keys0 level begun now' left' key'
+IsPaid-more absents plan state keys0 keys level begun now left key back now' left' key' at_key rises paid child c =
+    let cost : cost_from absents state plan.guides (drop (length (keys0 ++ key ∷ [])) plan.levels) (length (keys0 ++ key ∷ [])) (at (keys0 ++ key ∷ [])) ≡ child_cost absents plan state keys0 key =
+    ap (λ n. cost_from absents state plan.guides (drop n plan.levels) n (at (keys0 ++ key ∷ []))) (length_push keys0 key)
+    ∙ ap (cost_from absents state plan.guides (drop (length keys0 + 1) plan.levels) (length keys0 + 1)) (at_push keys0 key) in
+    let more = sum_below_more key key' (child_cost absents plan state keys0) (common_keys (iterators_at state plan.guides level (length keys0) (at keys0))) (paid.is_common at_key) rises in
     record { paid = let p = paid.paid in let k = c.kept in omega arith; is_common = c.is_common }
 
 -- the whole level was paid
-pub cost-all : (plan : Plan) (state : State) (keys : List ℕ) (level : Level) (begun now left key : ℕ) → slice_get plan.levels (length keys) ≡ Some level → IsPaid plan state keys level begun now left key → now ≤ begun + cost_from state plan.guides (drop (length keys) plan.levels) (length keys) (at keys)
-cost-all plan state keys level begun now left key here paid =
-    let most = sum_below-le key (child_cost plan state keys) (common_keys (iterators_at state plan.guides level (length keys) (at keys))) in
+pub cost-all : (absents : ℕ) (plan : Plan) (state : State) (keys : List ℕ) (level : Level) (begun now left key : ℕ) → slice_get plan.levels (length keys) ≡ Some level → IsPaid absents plan state keys level begun now left key → now ≤ begun + cost_from absents state plan.guides (drop (length keys) plan.levels) (length keys) (at keys)
+cost-all absents plan state keys level begun now left key here paid =
+    let most = sum_below-le key (child_cost absents plan state keys) (common_keys (iterators_at state plan.guides level (length keys) (at keys))) in
     rw (drop_at plan.levels (length keys) level here) (let p = paid.paid in omega arith)
 
 -- a walk that stops below a key, or on the way to the level's next one
-pub cost-stopped : (plan : Plan) (state : State) (keys : List ℕ) (level : Level) (begun now left key end : ℕ) → slice_get plan.levels (length keys) ≡ Some level → key < 2 ^ 128 - 1 → IsPaid plan state keys level begun now left key → end ≤ now + cost_from state plan.guides (drop (length (keys ++ key ∷ [])) plan.levels) (length (keys ++ key ∷ [])) (at (keys ++ key ∷ [])) + left → end ≤ begun + cost_from state plan.guides (drop (length keys) plan.levels) (length keys) (at keys)
-cost-stopped plan state keys level begun now left key end here at_key paid child =
-    let cost = child_is plan state keys key in
-    let more = sum_below_more key (key + 1) (child_cost plan state keys) (common_keys (iterators_at state plan.guides level (length keys) (at keys))) (paid.is_common at_key) (omega arith) in
-    let most = sum_below-le (key + 1) (child_cost plan state keys) (common_keys (iterators_at state plan.guides level (length keys) (at keys))) in
+pub cost-stopped : (absents : ℕ) (plan : Plan) (state : State) (keys : List ℕ) (level : Level) (begun now left key end : ℕ) → slice_get plan.levels (length keys) ≡ Some level → key < 2 ^ 128 - 1 → IsPaid absents plan state keys level begun now left key → end ≤ now + cost_from absents state plan.guides (drop (length (keys ++ key ∷ [])) plan.levels) (length (keys ++ key ∷ [])) (at (keys ++ key ∷ [])) + left → end ≤ begun + cost_from absents state plan.guides (drop (length keys) plan.levels) (length keys) (at keys)
+cost-stopped absents plan state keys level begun now left key end here at_key paid child =
+    let cost = child_is absents plan state keys key in
+    let more = sum_below_more key (key + 1) (child_cost absents plan state keys) (common_keys (iterators_at state plan.guides level (length keys) (at keys))) (paid.is_common at_key) (omega arith) in
+    let most = sum_below-le (key + 1) (child_cost absents plan state keys) (common_keys (iterators_at state plan.guides level (length keys) (at keys))) in
     rw (drop_at plan.levels (length keys) level here) (let p = paid.paid in omega arith)
 
 -- a walk that stops where a level is opened
-pub cost-opened : (plan : Plan) (state : State) (keys : List ℕ) (level : Level) (begun now : ℕ) → slice_get plan.levels (length keys) ≡ Some level → now ≤ begun + join_cost (iterators_at state plan.guides level (length keys) (at keys)) → now ≤ begun + cost_from state plan.guides (drop (length keys) plan.levels) (length keys) (at keys)
-cost-opened plan state keys level begun now here within = rw (drop_at plan.levels (length keys) level here) (omega arith)
+pub cost-opened : (absents : ℕ) (plan : Plan) (state : State) (keys : List ℕ) (level : Level) (begun now : ℕ) → slice_get plan.levels (length keys) ≡ Some level → now ≤ begun + join_cost (iterators_at state plan.guides level (length keys) (at keys)) → now ≤ begun + cost_from absents state plan.guides (drop (length keys) plan.levels) (length keys) (at keys)
+cost-opened absents plan state keys level begun now here within = rw (drop_at plan.levels (length keys) level here) (omega arith)
+
+drop_len : {X : Type 0} (xs : List X) (n : ℕ) → n ≡ length xs → drop n xs ≡ []
+drop_len [] zero e = refl
+drop_len [] (suc n) e = refl
+drop_len (x ∷ xs) zero e = absurd (omega (arith, e))
+drop_len (x ∷ xs) (suc n) e = drop_len xs n (omega (arith, e))
+
+-- below all levels the negated atoms are looked up
+pub cost_leaf : (absents : ℕ) (plan : Plan) (state : State) (keys : List ℕ) (begun now : ℕ) → length keys ≡ length plan.levels → now ≤ begun + absents → now ≤ begun + cost_from absents state plan.guides (drop (length keys) plan.levels) (length keys) (at keys)
+cost_leaf absents plan state keys begun now full within =
+    subst (λ (levels : List Level). now ≤ begun + cost_from absents state plan.guides levels (length keys) (at keys)) (sym (drop_len plan.levels (length keys) full)) within
 
 -- ---- what the sense gains
 

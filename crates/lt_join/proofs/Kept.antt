@@ -15,11 +15,11 @@ use Rattle.lt_face.specs.State.{AgreeOn}
 use Rattle.lt_sense.specs.Sense.{AgreeWhereCovered, covers}
 use Rattle.lt_join.specs.Certify.{Witnesses, Vouches}
 use Rattle.lt_query.proofs.Given.{some_answer-satisfied}
-use Rattle.lt_join.proofs.Repair.{answers_same, some_answer_same, Certifies-moved, Witnesses-moved, IsTight-moved, list_any_of, Stands-from_met}
+use Rattle.lt_join.proofs.Repair.{answers_same, some_answer_same, Certifies-moved, Witnesses-moved, IsTight-moved, list_any_of, Stands-from_met, Lacks-from_missed}
 
 -- one assignment that holds and stands makes it true
 pub some_answer-from_witness : (sense : Sense) (body : Body) (state : State) → AreTestsBound body → Witnesses sense body state → some_answer body state ≡ true
-some_answer-from_witness sense body state whole w = some_answer-satisfied body state whole (w.0, w.1, Stands-from_met sense state w.0 body.atoms w.2)
+some_answer-from_witness sense body state whole w = some_answer-satisfied body state whole (w.0, w.1, Stands-from_met sense state w.0 body.atoms w.2, Lacks-from_missed sense state w.0 body.absents w.3)
 
 pub some_answer_kept : (sense : Sense) (body : Body) (s t : State) → AreTestsBound body → AgreeWhereCovered sense s t → Vouches sense body s → (some_answer body s ≡ some_answer body t) × Vouches sense body t
 some_answer_kept sense body s t whole agree vouches =

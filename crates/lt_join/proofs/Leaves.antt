@@ -10,7 +10,7 @@ use Rattle.lt_model.specs.declared.syntax.Op.TheVariants.{Eq}
 use Rattle.lt_model.specs.declared.normal.Test.{Test}
 use Rattle.lt_model.specs.declared.normal.Test.TheVariants.{Cmp, Sum}
 use Rattle.lt_model.specs.declared.normal.Body.{Body}
-use Rattle.lt_face.specs.Lists.{IsIn}
+use Rattle.lt_face.specs.Lists.{IsIn, AnyByRecursion}
 use Rattle.lt_face.specs.State.{Row, State}
 use Rattle.lt_model.specs.Answers.{rows_under, Assignment, Values, cell_of, cells_of, passes, holds, or_else, term_value, give_value, give, give_all, terms_of, answers}
 use Rattle.lt_model.specs.Cells.{is_cell, sum_of}
@@ -19,8 +19,8 @@ use Rattle.lt_query.specs.Answering.{AreTestsBound}
 use Rattle.lt_sense.specs.Kept.{Sense}
 use Rattle.lt_sense.specs.declared.covering.Hit.{Hit}
 use Rattle.lt_face.specs.State.{Has}
-use Rattle.lt_query.specs.Answering.{Stands, IsAnswer}
-use Rattle.lt_join.specs.Certify.{IsWitness, IsMet}
+use Rattle.lt_query.specs.Answering.{Stands, Lacks, IsAnswer}
+use Rattle.lt_join.specs.Certify.{Certifies, IsWitness, IsMet, IsMissed, IsGapped}
 use Rattle.lt_sense.specs.Sense.{covers, IsTight}
 use Rattle.lt_query.specs.declared.plans.Level.{Level}
 use Rattle.lt_query.specs.declared.plans.Guide.{Guide}
@@ -29,15 +29,16 @@ use Rattle.lt_query.specs.Plan.{Keys, term_at, keys_under, IsGuideOf, IsLevelOf,
 use Rattle.lt_join.specs.Explored.{Fits, FitFrom, Explored, hit_of, AreHits}
 use Rattle.lt_query.proofs.Standing.{is_var-true, is_var_itself}
 use Rattle.lt_query.proofs.Given.{Agrees, given_all, cells_same, holds_same, IsIn-answers_of, IsAnswer-from_answers}
-use Rattle.lt_join.proofs.Repair.{All_at, not_missed, IsAscending-answers, Stands-from_met, hit_row_covered}
+use Rattle.lt_join.proofs.Repair.{All_at, not_missed, not_met, IsAscending-answers, Stands-from_met, Lacks-from_missed, hit_row_covered}
 use Rattle.lt_query.proofs.Ascending.{IsAscending-ascending, IsIn-ascending, IsIn-ascending_from, ascending_same}
 use Rattle.lt_model.specs.Answers.{ascending}
 use Rattle.lt_join.specs.declared.Found.{Found}
-use Rattle.lt_join.specs.Walked.{value_from, leaf_assignment, IsCollected}
-use Rattle.lt_join.proofs.Walks.{AgreeBelow, followed}
+use Rattle.lt_join.specs.Walked.{value_from, leaf_assignment, IsCollected, IsSettled}
+use Rattle.lt_join.proofs.Looked.{gaps_missed, hits_met, gaps_same, hits_same}
+use Rattle.lt_join.proofs.Walks.{AgreeBelow, followed, all_met}
 
 pub IsAnswer-from_witness : (sense : Sense) (terms : List Term) (body : Body) (state : State) (row : Row) → IsWitness sense terms body state row → IsAnswer terms body state row
-IsAnswer-from_witness sense terms body state row w = (w.0, w.1, Stands-from_met sense state w.0 body.atoms w.2, w.3)
+IsAnswer-from_witness sense terms body state row w = (w.0, w.1, Stands-from_met sense state w.0 body.atoms w.2, w.3, Lacks-from_missed sense state w.0 body.absents w.4)
 
 -- where a term of the list stands
 place_of : (levels : List Level) (places : List ℕ) (v n : ℕ) → AllByRecursion (λ l. l < n) places → stands (map (term_at levels) places) v ≡ true → (l : ℕ) × (l < n) × (term_at levels l ≡ Var v)
@@ -200,11 +201,6 @@ module _ (body : Body) (plan : Plan) (of_body : IsPlanOf body plan) where
       let row : map keys guide.places ≡ cells_of (leaf_assignment body plan.levels keys) atom.terms = sym (ap (cells_of (leaf_assignment body plan.levels keys)) z.0.terms ∙ row_at keys fit guide.places z.0.places) in
       (subst (λ r. Has state r (cells_of (leaf_assignment body plan.levels keys) atom.terms)) z.0.relation (subst (Has state guide.relation) row h.0), stands_at keys state fit atoms guides z.1 h.1)
 
-  -- a leaf whose keys fit, whose rows are there and whose tests hold gives an answer
-  pub IsAnswer-at_leaf : (terms : List Term) (state : State) (keys : Keys) → FitFrom 0 plan.levels keys → AllByRecursion (λ (guide : Guide). Has state guide.relation (map keys guide.places)) plan.guides → holds (leaf_assignment body plan.levels keys) body ≡ true → IsAnswer terms body state (cells_of (leaf_assignment body plan.levels keys) terms)
-  IsAnswer-at_leaf terms state keys fit there held =
-      (leaf_assignment body plan.levels keys, held, stands_at keys state fit body.atoms plan.guides of_body.guides there, refl)
-
   met_at : (keys : Keys) (state : State) (sense : Sense) → IsTight sense state → FitFrom 0 plan.levels keys → (atoms : List Atom) (guides : List Guide) → AllZip (IsGuideOf plan.levels) atoms guides → AreHits sense guides keys → AllByRecursion (IsMet sense state (leaf_assignment body plan.levels keys)) atoms
   met_at keys state sense tight fit [] [] z h = tt
   met_at keys state sense tight fit [] (guide ∷ guides) z h = absurd z
@@ -220,28 +216,56 @@ module _ (body : Body) (plan : Plan) (of_body : IsPlanOf body plan) where
         met_at keys state sense tight fit atoms guides z.1 h.1,
       )
 
-  -- a leaf whose keys fit, whose rows are hits and whose tests hold gives an answer
-  pub IsWitness-at_leaf : (terms : List Term) (state : State) (sense : Sense) → IsTight sense state → (keys : Keys) → FitFrom 0 plan.levels keys → AreHits sense plan.guides keys → holds (leaf_assignment body plan.levels keys) body ≡ true → IsWitness sense terms body state (cells_of (leaf_assignment body plan.levels keys) terms)
-  IsWitness-at_leaf terms state sense tight keys fit hits held =
-      (leaf_assignment body plan.levels keys, held, met_at keys state sense tight fit body.atoms plan.guides of_body.guides hits, refl)
+  -- a leaf whose keys fit, whose rows are hits, whose tests hold and whose absent rows lie in gaps gives an answer
+  pub IsWitness-at_leaf : (terms : List Term) (state : State) (sense : Sense) → IsTight sense state → (keys : Keys) → FitFrom 0 plan.levels keys → AreHits sense plan.guides keys → holds (leaf_assignment body plan.levels keys) body ≡ true → AllByRecursion (IsGapped sense (leaf_assignment body plan.levels keys)) body.absents → IsWitness sense terms body state (cells_of (leaf_assignment body plan.levels keys) terms)
+  IsWitness-at_leaf terms state sense tight keys fit hits held gapped =
+      (leaf_assignment body plan.levels keys, held, met_at keys state sense tight fit body.atoms plan.guides of_body.guides hits, refl, gaps_missed sense state tight (leaf_assignment body plan.levels keys) body.absents gapped)
 
   -- each answer of an assignment with the keys above these levels was collected
   pub collected_below : (terms : List Term) (state : State) (found : Found) (levels : List Level) (l : ℕ) (keys : Keys) → AreTestsBound body → are_bound body terms ≡ true → IsTight found.sense state → Explored found.sense plan.guides (IsCollected body plan terms found) levels l keys → AreLevelsFrom body plan.levels l levels → l + length levels ≡ length plan.levels
-      → (a : Assignment) → holds a body ≡ true → Stands a body.atoms state → AgreeBelow l keys (keys_under a plan.levels) → IsIn (cells_of a terms) found.rows
-  collected_below terms state found levels l keys whole heads tight explored are e a holds_body stands agree =
+      → (a : Assignment) → holds a body ≡ true → Stands a body.atoms state → Lacks a body.absents state → AgreeBelow l keys (keys_under a plan.levels) → IsIn (cells_of a terms) found.rows
+  collected_below terms state found levels l keys whole heads tight explored are e a holds_body stands none agree =
       elim (followed body plan found.sense state tight a holds_body of_body (IsCollected body plan terms found) levels l keys explored are agree e) [
         | inl missed ↦ absurd (not_missed found.sense state a body.atoms stands missed)
         | inr leaf ↦
             let tests : list_all (passes a) body.tests ≡ true = (and_parts (list_all (λ row. list_all is_cell row) (rows_under a body.atoms)) (list_all (passes a) body.tests) holds_body).1 in
             let same : (v : ℕ) → is_bound body v ≡ true → leaf_assignment body plan.levels leaf.0 v ≡ a v = leaf_same a leaf.0 tests leaf.2 in
             let held : holds (leaf_assignment body plan.levels leaf.0) body ≡ true = holds_same body a (leaf_assignment body plan.levels leaf.0) whole same ∙ holds_body in
-            subst (λ r. IsIn r found.rows) (cells_same (is_bound body) a (leaf_assignment body plan.levels leaf.0) same terms heads) (leaf.1.answer held)
+            elim (leaf.1.answer held) [
+              | inl there ↦ subst (λ r. IsIn r found.rows) (cells_same (is_bound body) a (leaf_assignment body plan.levels leaf.0) same terms heads) there.0
+              | inr hit ↦ absurd (not_met found.sense state a body.absents none (hits_met found.sense state tight a body.absents (hits_same found.sense (is_bound body) a (leaf_assignment body plan.levels leaf.0) same body.absents whole.1 hit)))
+            ]
       ]
+
+  -- a walk over the levels below some keys certifies the assignments with these keys
+  pub certified_below : (sense : Sense) (state : State) (levels : List Level) (l : ℕ) (keys : Keys) → AreTestsBound body → IsTight sense state → Explored sense plan.guides (IsSettled body plan sense) levels l keys → AreLevelsFrom body plan.levels l levels → l + length levels ≡ length plan.levels
+      → (a : Assignment) → holds a body ≡ true → AgreeBelow l keys (keys_under a plan.levels)
+      → (AllByRecursion (IsMet sense state a) body.atoms × AllByRecursion (IsMissed sense state a) body.absents) ⊎ (AnyByRecursion (IsMissed sense state a) body.atoms ⊎ AnyByRecursion (IsMet sense state a) body.absents)
+  certified_below sense state levels l keys whole tight explored are e a holds_body agree =
+      elim (followed body plan sense state tight a holds_body of_body (IsSettled body plan sense) levels l keys explored are agree e) [
+        | inl missed ↦ inr (inl missed)
+        | inr leaf ↦
+            let tests : list_all (passes a) body.tests ≡ true = (and_parts (list_all (λ row. list_all is_cell row) (rows_under a body.atoms)) (list_all (passes a) body.tests) holds_body).1 in
+            let same : (v : ℕ) → is_bound body v ≡ true → leaf_assignment body plan.levels leaf.0 v ≡ a v = leaf_same a leaf.0 tests leaf.2 in
+            let held : holds (leaf_assignment body plan.levels leaf.0) body ≡ true = holds_same body a (leaf_assignment body plan.levels leaf.0) whole same ∙ holds_body in
+            elim (leaf.1.looked held) [
+              | inl gapped ↦ inl (
+                all_met body plan sense state tight a holds_body leaf.0 leaf.2 body.atoms plan.guides of_body.guides leaf.1.hits,
+                gaps_missed sense state tight a body.absents (gaps_same sense (is_bound body) a (leaf_assignment body plan.levels leaf.0) same body.absents whole.1 gapped),
+              )
+              | inr hit ↦ inr (inr (hits_met sense state tight a body.absents (hits_same sense (is_bound body) a (leaf_assignment body plan.levels leaf.0) same body.absents whole.1 hit)))
+            ]
+      ]
+
+  -- a walk over all levels certifies the body
+  pub Certifies-from_explored : (sense : Sense) (state : State) (keys : Keys) → AreTestsBound body → IsTight sense state → Explored sense plan.guides (IsSettled body plan sense) plan.levels 0 keys → Certifies sense body state
+  Certifies-from_explored sense state keys whole tight explored a held =
+      certified_below sense state plan.levels 0 keys whole tight explored of_body.levels (omega arith) a held (λ m lt. absurd (omega arith))
 
   -- each answer was collected
   pub collected : (terms : List Term) (state : State) (found : Found) (keys : Keys) → AreTestsBound body → are_bound body terms ≡ true → IsTight found.sense state → Explored found.sense plan.guides (IsCollected body plan terms found) plan.levels 0 keys → (row : Row) → IsAnswer terms body state row → IsIn row found.rows
   collected terms state found keys whole heads tight explored row answer =
-      subst (λ r. IsIn r found.rows) answer.3 (collected_below terms state found plan.levels 0 keys whole heads tight explored of_body.levels (omega arith) answer.0 answer.1 answer.2 (λ m lt. absurd (omega arith)))
+      subst (λ r. IsIn r found.rows) answer.3 (collected_below terms state found plan.levels 0 keys whole heads tight explored of_body.levels (omega arith) answer.0 answer.1 answer.2 answer.4 (λ m lt. absurd (omega arith)))
 
   -- what was collected, sorted and without repeats, is the answers
   pub answers_are : (terms : List Term) (state : State) (found : Found) (keys : Keys) → AreTestsBound body → are_bound body terms ≡ true → IsTight found.sense state → Explored found.sense plan.guides (IsCollected body plan terms found) plan.levels 0 keys → ((row : Row) → IsIn row found.rows → IsAnswer terms body state row) → ascending found.rows ≡ answers terms body state

@@ -36,4 +36,7 @@ pub mod MendWith
 pub mod PinnedPlan
 pub mod MendCopies
 pub mod MendJoin
+pub mod Alike
 mod MendSamples
+pub mod Looked
+pub mod LookingUp

@@ -1,8 +1,8 @@
 -- Slices of touched keys, joined anew.
-use Rattle.std.specs.Prelude.{◌≡◌, ℕ, zero, suc, ◌+◌, ◌^◌, ◌<◌, ◌≤◌, nat_lt, true, List, [], ◌∷◌, ◌++◌, length, take, slice_get, Some, ◌⊎◌}
+use Rattle.std.specs.Prelude.{◌≡◌, ℕ, zero, suc, ◌+◌, ◌^◌, ◌<◌, ◌≤◌, nat_lt, true, ◌==◌, if◌then◌else◌, List, [], ◌∷◌, ◌++◌, length, take, slice_get, Some, ◌⊎◌}
 use Rattle.std.specs.List.{AllByRecursion, list_all, sum_by}
 use Rattle.std.proofs.Common.{refl, sym, ap, ◌∙◌, subst, inl, inr, arith, get_or}
-use Rattle.std.proofs.lemmas.Bool.{and_parts, ltb-true, true≢false}
+use Rattle.std.proofs.lemmas.Bool.{and_parts, and_from, eq-eqb, ltb-true, lt-ltb, true≢false}
 use Rattle.std.proofs.lemmas.List.Sums.{sum_by-cons, sum_by-append}
 use Rattle.lt_face.specs.Lists.{IsIn, AnyByRecursion}
 use Rattle.lt_face.specs.Rows.{IsCell}
@@ -25,7 +25,7 @@ use Rattle.lt_join.specs.declared.slicing.Slice.{Slice}
 use Rattle.lt_join.specs.Certify.{Certifies}
 use Rattle.lt_join.specs.Cost.{bound}
 use Rattle.lt_join.specs.Holders.{IsPrepared}
-use Rattle.lt_join.specs.MendedPlan.{pinned_plan, MayPin, IsForbidden, mending_cost}
+use Rattle.lt_join.specs.MendedPlan.{pinned_plan, MayPin, IsForbidden, first_admits, slice_cost, mending_cost}
 use Rattle.lt_join.specs.Sliced.{pinned, slice_keys, IsSliceOf}
 use Rattle.lt_join.proofs.Opening.{take_more, take_all}
 use Rattle.lt_join.proofs.Pinned.{holds_pinned}
@@ -100,6 +100,7 @@ IsPrepared-pinned state key body plan terms level cell fits of_body runnable nar
     record {
       runnable = IsRunnable-pinned state key body plan cell fits of_body runnable;
       tests = ((subst (IsTermOf 16) (term_first plan.levels level e) first, (cell, tt)), before.tests);
+      absents = before.absents;
       variables = variables_pinned key 16 plan.levels before.variables;
       narrow = narrow;
     } where
@@ -113,6 +114,22 @@ cell_of_key key h =
     let both = and_parts (nat_lt 0 key) (nat_lt key (2 ^ 120)) h in
     let some = ltb-true 0 key both.0 in
     (omega arith, ltb-true key (2 ^ 120) both.1)
+
+-- a key that is a cell and each pin of the first level is admitted, and its slice may take the moves of the pinned plan
+pub admitted : (key : ℕ) (levels : List Level) (level : Level) → slice_get levels 0 ≡ Some level → IsCell key → AllByRecursion (λ pin. pin ≡ key) level.pins → first_admits levels key ≡ true
+admitted key [] level e cell are = cc
+admitted key (first ∷ levels) level e cell are =
+    let same : level ≡ first = cc in
+    and_from (is_cell key) (list_all (λ pin. pin == key) first.pins)
+    (and_from (nat_lt 0 key) (nat_lt key (2 ^ 120)) (lt-ltb 0 key (omega (arith, cell.0))) (lt-ltb key (2 ^ 120) cell.1))
+    (all_of first.pins (subst (λ (l : Level). AllByRecursion (λ pin. pin ≡ key) l.pins) same are))
+  where
+    all_of : (pins : List ℕ) → AllByRecursion (λ pin. pin ≡ key) pins → list_all (λ pin. pin == key) pins ≡ true
+    all_of [] h = refl
+    all_of (pin ∷ pins) h = and_from (pin == key) (list_all (λ pin. pin == key) pins) (eq-eqb pin key h.0) (all_of pins h.1)
+
+pub cost_admitted : (key : ℕ) (body : Body) (plan : Plan) (state : State) (level : Level) → slice_get plan.levels 0 ≡ Some level → IsCell key → AllByRecursion (λ pin. pin ≡ key) level.pins → bound body (pinned_plan key plan) state ≡ slice_cost key body plan state
+cost_admitted key body plan state level e cell are = sym (ap (λ b. if b then bound body (pinned_plan key plan) state else 0) (admitted key plan.levels level e cell are))
 
 -- ---- slices one by one
 
@@ -146,10 +163,10 @@ sum_more f xs x =
     let none : sum_by f [] ≡ 0 = refl in
     omega arith
 
-pub cost_more : (keys : List ℕ) (i key : ℕ) (plan : Plan) (state : State) (begun now next : ℕ) → i < length keys → key ≡ get_or keys i key → next ≤ now + bound (pinned_plan key plan) state → now ≤ begun + mending_cost (take i keys) plan state → next ≤ begun + mending_cost (take (i + 1) keys) plan state
-cost_more keys i key plan state begun now next lt is one so =
-    let e : mending_cost (take (i + 1) keys) plan state ≡ mending_cost (take i keys) plan state + bound (pinned_plan key plan) state =
-    ap (λ ks. mending_cost ks plan state) (take_more keys i key lt is) ∙ sum_more (λ k. bound (pinned_plan k plan) state) (take i keys) key in
+pub cost_more : (keys : List ℕ) (i key : ℕ) (body : Body) (plan : Plan) (state : State) (begun now next : ℕ) → i < length keys → key ≡ get_or keys i key → next ≤ now + slice_cost key body plan state → now ≤ begun + mending_cost (take i keys) body plan state → next ≤ begun + mending_cost (take (i + 1) keys) body plan state
+cost_more keys i key body plan state begun now next lt is one so =
+    let e : mending_cost (take (i + 1) keys) body plan state ≡ mending_cost (take i keys) body plan state + slice_cost key body plan state =
+    ap (λ ks. mending_cost ks body plan state) (take_more keys i key lt is) ∙ sum_more (λ k. slice_cost k body plan state) (take i keys) key in
     omega arith
 
 sum_take : (f : ℕ → ℕ) (xs : List ℕ) (i : ℕ) → sum_by f (take i xs) ≤ sum_by f xs
@@ -163,12 +180,12 @@ sum_take f (x ∷ xs) (suc i) =
     omega arith
 
 -- so many keys cost no more than all
-pub cost_within : (keys : List ℕ) (i : ℕ) (plan : Plan) (state : State) (begun now : ℕ) → now ≤ begun + mending_cost (take i keys) plan state → now ≤ begun + mending_cost keys plan state
-cost_within keys i plan state begun now so = let e = sum_take (λ k. bound (pinned_plan k plan) state) keys i in omega arith
+pub cost_within : (keys : List ℕ) (i : ℕ) (body : Body) (plan : Plan) (state : State) (begun now : ℕ) → now ≤ begun + mending_cost (take i keys) body plan state → now ≤ begun + mending_cost keys body plan state
+cost_within keys i body plan state begun now so = let e = sum_take (λ k. slice_cost k body plan state) keys i in omega arith
 
 -- one key more, also where it was stopped in the middle
-pub cost_stopped : (keys : List ℕ) (i key : ℕ) (plan : Plan) (state : State) (begun now next : ℕ) → i < length keys → key ≡ get_or keys i key → next ≤ now + bound (pinned_plan key plan) state → now ≤ begun + mending_cost (take i keys) plan state → next ≤ begun + mending_cost keys plan state
-cost_stopped keys i key plan state begun now next lt is one so = cost_within keys (i + 1) plan state begun next (cost_more keys i key plan state begun now next lt is one so)
+pub cost_stopped : (keys : List ℕ) (i key : ℕ) (body : Body) (plan : Plan) (state : State) (begun now next : ℕ) → i < length keys → key ≡ get_or keys i key → next ≤ now + slice_cost key body plan state → now ≤ begun + mending_cost (take i keys) body plan state → next ≤ begun + mending_cost keys body plan state
+cost_stopped keys i key body plan state begun now next lt is one so = cost_within keys (i + 1) body plan state begun next (cost_more keys i key body plan state begun now next lt is one so)
 
 -- ---- pins one by one
 

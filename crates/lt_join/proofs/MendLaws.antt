@@ -25,7 +25,7 @@ use Rattle.lt_join.specs.Certify.{Certifies}
 use Rattle.lt_join.specs.Explored.{IsPassed}
 use Rattle.lt_sense.specs.Cut.{cut}
 use Rattle.lt_join.specs.Mended.{AreSlicesOn, HaveTouched, AreMended, AreJoinedOn}
-use Rattle.lt_join.specs.Sliced.{pinned, slice_keys, united, sliced_rows, CertifiesBut, IsSliceOf, AreRooted}
+use Rattle.lt_join.specs.Sliced.{pinned, slice_keys, united, sliced_rows, CertifiesBut, IsSliceOf, AreRooted, AreRootGaps}
 use Rattle.lt_join.proofs.Gaps.{next_in}
 use Rattle.lt_join.proofs.MendedGaps.{IsPartOf, cut_from, cut_with}
 use Rattle.lt_join.proofs.Pinned.{term_in}
@@ -160,6 +160,12 @@ rooted_cut keys plan root old new mended rooted level is k cell =
       ]
     ]
 
+-- the parts of root gaps are root gaps
+root_gaps_cut : (keys : List ℕ) (root : Sense) → AreRootGaps root → AreRootGaps (cut keys root)
+root_gaps_cut keys root are = All_of (λ (gap : KeptGap). gap.prefix ≡ []) (cut keys root).gaps (λ part at.
+    let found = cut_from keys root part at in
+    sym found.2.prefix ∙ All_at (λ (gap : KeptGap). gap.prefix ≡ []) root.gaps found.0 are found.1)
+
 -- ---- slices
 
 slice_stays : (terms : List Term) (body : Body) (term : Term) (s t : State) (slice : Slice) → AgreeWhereCovered slice.sense s t → IsSliceOf terms body term s slice → IsSliceOf terms body term t slice
@@ -180,6 +186,7 @@ stay_slices terms body plan s t root slices were agree = record {
   rooted = were.rooted;
   tight = IsTight-moved root s t (λ relation row covered. agree relation row (covers_grows root (united root slices) (grows_root root slices) relation row covered)) were.tight;
   root_hits = were.root_hits;
+  root_gaps = were.root_gaps;
 }
 
 -- root gaps cut at the touched keys and mended slices are those of the new state
@@ -202,6 +209,7 @@ mended_are_slices keys terms body plan s t root old new were touched mended risi
   rooted = rooted_cut keys plan root old new mended were.rooted;
   tight = tight_cut keys root old s t touched were.tight;
   root_hits = refl;
+  root_gaps = root_gaps_cut keys root were.root_gaps;
 }
 
 -- ---- what they stand for

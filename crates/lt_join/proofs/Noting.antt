@@ -1,10 +1,11 @@
 -- The gaps that a level's join noted are kept one after another.
-use Rattle.std.specs.Prelude.{◌≡◌, ℕ, zero, suc, ◌+◌, ◌<◌, true, false, List, [], ◌∷◌, ◌++◌, map, length, slice_get, Some}
+use Rattle.std.specs.Prelude.{◌≡◌, ℕ, zero, suc, ◌+◌, ◌<◌, ◌≤◌, true, false, List, [], ◌∷◌, ◌++◌, map, length, slice_get, Some}
 use Rattle.std.specs.List.{AllByRecursion, AllZip}
 use Rattle.std.proofs.Common.{refl, sym, ap, ◌∙◌, subst, arith, get_or}
 use Rattle.std.proofs.lemmas.Bool.{ne_eqb, true≢false, eq-eqb, or_left}
 use Rattle.lt_face.specs.State.{State}
 use Rattle.lt_face.specs.declared.key.Gap.{Gap}
+use Rattle.lt_trie.specs.Trie.{TrieView}
 use Rattle.lt_trie.specs.Under.{keys_under}
 use Rattle.lt_leap.specs.Ring.{keys_at}
 use Rattle.lt_leap.specs.Search.{IsGapOf}
@@ -23,7 +24,7 @@ use Rattle.lt_join.specs.Seat.{seat_keys}
 use Rattle.lt_join.specs.Explored.{prefix_at}
 use Rattle.lt_leap.specs.Common.{has_key}
 use Rattle.lt_join.specs.Walked.{at, Grows}
-use Rattle.lt_join.specs.Holders.{Holder, OfAtom, OfKey, IsOpenedOf, IsSeatOf, IsNotedKept, AreKept, holders_at}
+use Rattle.lt_join.specs.Holders.{Holder, OfAtom, OfKey, IsOver, IsOpenedOf, IsSeatOf, IsNotedKept, AreKept, holders_at}
 use Rattle.lt_join.proofs.Steps.{Grows-chain}
 use Rattle.lt_join.proofs.Opening.{AddsGap, one_gap, gap_added, Grows-none, IsKept-grows, All_more, under_none, under_added}
 
@@ -66,12 +67,24 @@ get_same [] i x y e f = cc
 get_same (z ∷ xs) zero x y e f = f ∙ some_is z x e
 get_same (z ∷ xs) (suc i) x y e f = get_same xs i x y e f
 
+-- an index has no more columns than a row has cells
+pub over_narrow : (state : State) (guide : Guide) (t : TrieView) → IsOver state guide t → length guide.columns ≤ 8
+over_narrow state guide t over = let wide = over.index.wide in let narrow = over.narrow in omega (arith, wide, narrow)
+
 -- a walk's atom is one of the plan's
 pub walk_within : {R : Type 0} (plan : Plan) (state : State) (l : ℕ) (keys : Keys) (hs : List Holder) (ss : List (Seat R)) (i : ℕ) (s : Seat R) (walk : Walk R) → AllZip (IsSeatOf plan state l keys) hs ss → slice_get ss i ≡ Some s → s ≡ Walks walk → walk.guide < length plan.guides
 walk_within plan state l keys hs ss i s walk z e is =
     let f = seat_at (IsSeatOf plan state l keys) hs ss i s z e in
     let a = atom_of plan state l keys f.0 walk (subst (IsSeatOf plan state l keys f.0) is f.2) in
     get_below plan.guides walk.guide a.0 a.2
+
+-- and its order has no more columns than a row has cells
+pub walk_narrow : {R : Type 0} (plan : Plan) (state : State) (l : ℕ) (keys : Keys) (hs : List Holder) (ss : List (Seat R)) (i : ℕ) (s : Seat R) (walk : Walk R) (guide : Guide) → AllZip (IsSeatOf plan state l keys) hs ss → slice_get ss i ≡ Some s → s ≡ Walks walk → guide ≡ get_or plan.guides walk.guide guide → length guide.columns ≤ 8
+walk_narrow plan state l keys hs ss i s walk guide z e is at =
+    let f = seat_at (IsSeatOf plan state l keys) hs ss i s z e in
+    let a = atom_of plan state l keys f.0 walk (subst (IsSeatOf plan state l keys f.0) is f.2) in
+    let same : guide ≡ a.0 = get_same plan.guides walk.guide a.0 guide a.2 at in
+    subst (λ (g : Guide). length g.columns ≤ 8) (sym same) (over_narrow state a.0 walk.trie a.3.over)
 
 pub keys_at-map : {R : Type 0} (ss : List (Seat R)) (i : ℕ) (s : Seat R) → slice_get ss i ≡ Some s → keys_at (map seat_keys ss) i ≡ seat_keys s
 keys_at-map [] i s e = cc

@@ -72,8 +72,11 @@ known_still body (Var v) h = know_all_keeps (stands (terms_of body.atoms)) body.
 
 pub tests_pinned : (term : Term) (key : ℕ) (body : Body) → IsIn term (terms_of body.atoms) → AreTestsBound body → AreTestsBound (pinned term key body)
 tests_pinned term key body at whole = (
-  are_bound_pinned term key body at (term ∷ Cell key ∷ []) ∙ and_from (is_known (is_bound body) term) (list_all (is_known (is_bound body)) (Cell key ∷ [])) (known_still body term (is_known_of (terms_of body.atoms) term at)) refl,
-  each_weaker (λ (test : Test). are_bound body (test_terms test) ≡ true) (λ (test : Test). are_bound (pinned term key body) (test_terms test) ≡ true) (λ test h. are_bound_pinned term key body at (test_terms test) ∙ h) body.tests whole,
+  (
+    are_bound_pinned term key body at (term ∷ Cell key ∷ []) ∙ and_from (is_known (is_bound body) term) (list_all (is_known (is_bound body)) (Cell key ∷ [])) (known_still body term (is_known_of (terms_of body.atoms) term at)) refl,
+    each_weaker (λ (test : Test). are_bound body (test_terms test) ≡ true) (λ (test : Test). are_bound (pinned term key body) (test_terms test) ≡ true) (λ test h. are_bound_pinned term key body at (test_terms test) ∙ h) body.tests whole.0,
+  ),
+  each_weaker (λ (atom : Atom). are_bound body atom.terms ≡ true) (λ (atom : Atom). are_bound (pinned term key body) atom.terms ≡ true) (λ atom h. are_bound_pinned term key body at atom.terms ∙ h) body.absents whole.1,
 )
 
 -- ---- a level's term is one of the atoms'

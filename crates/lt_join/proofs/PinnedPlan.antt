@@ -147,6 +147,7 @@ IsRunnable-pinned state key body plan cell fits of_body runnable =
       pins = pins_pinned key plan.levels cell runnable.pins;
       variables = variables_pinned key body.vars plan.levels runnable.variables;
       widths = runnable.widths;
+      absents = runnable.absents;
       held = λ v stands.
           let at = runnable.held v stands in
           (at.0, subst (λ n. at.0 < n) (sym (length_same key plan.levels)) at.1, term_same key plan.levels at.0 ∙ at.2);

@@ -6,9 +6,10 @@ use Rattle.lt_face.specs.State.{State}
 use Rattle.lt_face.proofs.RowLemmas.{each_weaker}
 use Rattle.lt_model.specs.declared.normal.Term.{Term}
 use Rattle.lt_model.specs.declared.normal.Term.TheVariants.{Var, Cell}
+use Rattle.lt_model.specs.declared.normal.Atom.{Atom}
 use Rattle.lt_model.specs.declared.normal.Test.{Test}
 use Rattle.lt_model.specs.declared.normal.Body.{Body}
-use Rattle.lt_model.specs.Fits.{IsTermOf, IsBodyOf, test_terms}
+use Rattle.lt_model.specs.Fits.{IsTermOf, IsAtomOf, IsBodyOf, test_terms}
 use Rattle.lt_query.specs.declared.plans.Level.{Level}
 use Rattle.lt_query.specs.declared.plans.Guide.{Guide}
 use Rattle.lt_query.specs.declared.plans.Plan.{Plan}
@@ -25,6 +26,8 @@ IsPrepared-from state body plan terms fits runnable narrow = record {
   runnable = runnable;
   tests = each_weaker (λ test. AllByRecursion (IsTermOf body.vars) (test_terms test)) IsTest
       (λ test h. each_weaker (IsTermOf body.vars) (IsTermOf 16) (small_term body.vars fits.has_few_variables) (test_terms test) h) body.tests fits.tests;
+  absents = each_weaker (λ (atom : Atom). IsAtomOf state body.vars atom) (λ (atom : Atom). AllByRecursion (IsTermOf 16) atom.terms)
+      (λ atom h. each_weaker (IsTermOf body.vars) (IsTermOf 16) (small_term body.vars fits.has_few_variables) atom.terms h.has_terms) body.absents fits.absents;
   variables = each_weaker (λ (level : Level). IsTermOf body.vars level.term) (λ (level : Level). IsTermOf 16 level.term)
       (λ level h. small_term body.vars fits.has_few_variables level.term h) plan.levels runnable.variables;
   narrow = narrow;

@@ -16,7 +16,7 @@ use Rattle.lt_sense.specs.Sense.{covers, gap_covers, hit_covers, lies_in, AgreeW
 use Rattle.lt_face.specs.State.{permuted, Has}
 use Rattle.lt_join.specs.Certify.{IsMet, IsMissed, Certifies, Witnesses}
 use Rattle.lt_face.specs.Lists.{AnyByRecursion}
-use Rattle.lt_query.specs.Answering.{Stands}
+use Rattle.lt_query.specs.Answering.{Stands, Lacks}
 use Rattle.lt_query.proofs.Ascending.{IsAscending-ascending, ascending_same}
 use Rattle.lt_face.specs.Rows.{IsAscending}
 use Rattle.lt_query.proofs.Picks.{IsIn-picks, Stands-from_picks, IsIn-answers, IsIn-answers_from, some_answer_is, some_answer-true}
@@ -35,12 +35,23 @@ module _ (sense : Sense) (s t : State) (agree : AgreeWhereCovered sense s t) whe
   missed_moved a (atom ∷ atoms) h =
       elim h [ inl m ↦ inl (λ there. m.0 ((agree atom.relation (cells_of a atom.terms) m.1).1 there), m.1) | inr r ↦ inr (missed_moved a atoms r) ]
 
+  all_missed_moved : (a : Assignment) (atoms : List Atom) → AllByRecursion (IsMissed sense s a) atoms → AllByRecursion (IsMissed sense t a) atoms
+  all_missed_moved a [] h = tt
+  all_missed_moved a (atom ∷ atoms) h = ((λ there. h.0.0 ((agree atom.relation (cells_of a atom.terms) h.0.1).1 there), h.0.1), all_missed_moved a atoms h.1)
+
+  some_met_moved : (a : Assignment) (atoms : List Atom) → AnyByRecursion (IsMet sense s a) atoms → AnyByRecursion (IsMet sense t a) atoms
+  some_met_moved a [] h = h
+  some_met_moved a (atom ∷ atoms) h = elim h [ inl m ↦ inl ((agree atom.relation (cells_of a atom.terms) m.1).0 m.0, m.1) | inr r ↦ inr (some_met_moved a atoms r) ]
+
   pub Certifies-moved : (body : Body) → Certifies sense body s → Certifies sense body t
   Certifies-moved body certified a held =
-      elim (certified a held) [ inl met ↦ inl (met_moved a body.atoms met) | inr missed ↦ inr (missed_moved a body.atoms missed) ]
+      elim (certified a held) [
+        | inl met ↦ inl (met_moved a body.atoms met.0, all_missed_moved a body.absents met.1)
+        | inr other ↦ elim other [ inl missed ↦ inr (inl (missed_moved a body.atoms missed)) | inr met ↦ inr (inr (some_met_moved a body.absents met)) ]
+      ]
 
   pub Witnesses-moved : (body : Body) → Witnesses sense body s → Witnesses sense body t
-  Witnesses-moved body w = (w.0, w.1, met_moved w.0 body.atoms w.2)
+  Witnesses-moved body w = (w.0, w.1, met_moved w.0 body.atoms w.2, all_missed_moved w.0 body.absents w.3)
 
 pub not_missed : (sense : Sense) (s : State) (a : Assignment) (atoms : List Atom) → Stands a atoms s → AnyByRecursion (IsMissed sense s a) atoms → ⊥
 not_missed sense s a [] there missed = missed
@@ -50,12 +61,20 @@ pub Stands-from_met : (sense : Sense) (s : State) (a : Assignment) (atoms : List
 Stands-from_met sense s a [] met = tt
 Stands-from_met sense s a (atom ∷ atoms) met = (met.0.0, Stands-from_met sense s a atoms met.1)
 
--- what stands in the one state stands in the other
-pub Stands-moved : (sense : Sense) (body : Body) (s t : State) → AgreeWhereCovered sense s t → Certifies sense body s → (a : Assignment) → holds a body ≡ true → Stands a body.atoms s → Stands a body.atoms t
-Stands-moved sense body s t agree certified a held there =
+pub Lacks-from_missed : (sense : Sense) (s : State) (a : Assignment) (absents : List Atom) → AllByRecursion (IsMissed sense s a) absents → Lacks a absents s
+Lacks-from_missed sense s a [] missed = tt
+Lacks-from_missed sense s a (atom ∷ absents) missed = (missed.0.0, Lacks-from_missed sense s a absents missed.1)
+
+pub not_met : (sense : Sense) (s : State) (a : Assignment) (absents : List Atom) → Lacks a absents s → AnyByRecursion (IsMet sense s a) absents → ⊥
+not_met sense s a [] none met = met
+not_met sense s a (atom ∷ absents) none met = elim met [ inl m ↦ none.0 m.0 | inr r ↦ not_met sense s a absents none.1 r ]
+
+-- what stands in the one state stands in the other, and what is absent stays so
+pub Stands-moved : (sense : Sense) (body : Body) (s t : State) → AgreeWhereCovered sense s t → Certifies sense body s → (a : Assignment) → holds a body ≡ true → Stands a body.atoms s → Lacks a body.absents s → Stands a body.atoms t × Lacks a body.absents t
+Stands-moved sense body s t agree certified a held there none =
     elim (certified a held) [
-      | inl met ↦ Stands-from_met sense t a body.atoms (met_moved sense s t agree a body.atoms met)
-      | inr missed ↦ absurd (not_missed sense s a body.atoms there missed)
+      | inl met ↦ (Stands-from_met sense t a body.atoms (met_moved sense s t agree a body.atoms met.0), Lacks-from_missed sense t a body.absents (all_missed_moved sense s t agree a body.absents met.1))
+      | inr other ↦ elim other [ inl missed ↦ absurd (not_missed sense s a body.atoms there missed) | inr met ↦ absurd (not_met sense s a body.absents none met) ]
     ]
 
 kept : (sense : Sense) (terms : List Term) (body : Body) (s t : State) → AgreeWhereCovered sense s t → Certifies sense body s → (row : Row) → IsIn row (answers terms body s) → IsIn row (answers terms body t)
@@ -63,11 +82,12 @@ kept sense terms body s t agree certified row h =
     let found = IsIn-answers_from terms body s row h in
     let a : Assignment = assignment_of body found.0 in
     let there : Stands a body.atoms s = Stands-from_picks a body.atoms s (subst (λ p. IsIn p (picks body.atoms s)) (sym found.2) found.1) in
-    let pick_in : IsIn found.0 (picks body.atoms t) = subst (λ p. IsIn p (picks body.atoms t)) found.2 (IsIn-picks a body.atoms t (Stands-moved sense body s t agree certified a found.3 there)) in
-    subst (λ r. IsIn r (answers terms body t)) found.4 (IsIn-answers terms body t found.0 pick_in found.2 found.3)
+    let moved = Stands-moved sense body s t agree certified a found.3 there found.5 in
+    let pick_in : IsIn found.0 (picks body.atoms t) = subst (λ p. IsIn p (picks body.atoms t)) found.2 (IsIn-picks a body.atoms t moved.0) in
+    subst (λ r. IsIn r (answers terms body t)) found.4 (IsIn-answers terms body t found.0 pick_in found.2 found.3 moved.1)
 
 pub IsAscending-answers : (terms : List Term) (body : Body) (s : State) → IsAscending (answers terms body s)
-IsAscending-answers terms body s = IsAscending-ascending (filter_map (answer_of terms body) (picks body.atoms s))
+IsAscending-answers terms body s = IsAscending-ascending (filter_map (answer_of terms body s) (picks body.atoms s))
 
 -- the answers over both states are the same
 pub answers_same : (sense : Sense) (terms : List Term) (body : Body) (s t : State) → AgreeWhereCovered sense s t → Certifies sense body s → answers terms body s ≡ answers terms body t
@@ -91,8 +111,9 @@ some_kept sense body s t agree certified h =
     let found = some_answer-true body s h in
     let a : Assignment = assignment_of body found.0 in
     let there : Stands a body.atoms s = Stands-from_picks a body.atoms s (subst (λ p. IsIn p (picks body.atoms s)) (sym found.2) found.1) in
-    let pick_in : IsIn found.0 (picks body.atoms t) = subst (λ p. IsIn p (picks body.atoms t)) found.2 (IsIn-picks a body.atoms t (Stands-moved sense body s t agree certified a found.3 there)) in
-    some_answer_is body t found.0 pick_in found.2 found.3
+    let moved = Stands-moved sense body s t agree certified a found.3 there found.4 in
+    let pick_in : IsIn found.0 (picks body.atoms t) = subst (λ p. IsIn p (picks body.atoms t)) found.2 (IsIn-picks a body.atoms t moved.0) in
+    some_answer_is body t found.0 pick_in found.2 found.3 moved.1
 
 bool_same : (x y : Bool) → (x ≡ true → y ≡ true) → (y ≡ true → x ≡ true) → x ≡ y
 bool_same true y f g = sym (f refl)

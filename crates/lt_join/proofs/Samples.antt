@@ -11,7 +11,7 @@ use Rattle.lt_query.specs.Plan.{IsPlanOf}
 use Rattle.lt_join.specs.Cost.{bound}
 
 abbrev sample_body : Body
-sample_body = record { atoms = record { relation = 0; terms = Var 0 ∷ Var 0 ∷ [] } ∷ []; tests = Cmp (Var 0) Eq (Cell 3) ∷ []; vars = 1 }
+sample_body = record { atoms = record { relation = 0; terms = Var 0 ∷ Var 0 ∷ [] } ∷ []; absents = []; tests = Cmp (Var 0) Eq (Cell 3) ∷ []; vars = 1 }
 
 abbrev sample_plan : Plan
 sample_plan = record {
@@ -42,5 +42,5 @@ sample = record {
 }
 
 -- two iterators at each level, and one key
-sample_bound : bound sample_plan (record { width = 2; rows = (3 ∷ 3 ∷ []) ∷ (3 ∷ 4 ∷ []) ∷ (5 ∷ 5 ∷ []) ∷ [] } ∷ []) ≡ 2 * (1 + 2) + 2 * (1 + 2)
+sample_bound : bound sample_body sample_plan (record { width = 2; rows = (3 ∷ 3 ∷ []) ∷ (3 ∷ 4 ∷ []) ∷ (5 ∷ 5 ∷ []) ∷ [] } ∷ []) ≡ 2 * (1 + 2) + 2 * (1 + 2)
 sample_bound = refl

@@ -12,7 +12,7 @@ use Rattle.lt_model.specs.declared.normal.Body.{Body}
 use Rattle.lt_model.specs.Answers.{Assignment, cell_of, cells_of, holds, terms_of, answers, ascending}
 use Rattle.lt_model.specs.Bound.{are_bound}
 use Rattle.lt_model.specs.Cells.{is_cell}
-use Rattle.lt_query.specs.Answering.{Stands, IsAnswer, AreTestsBound}
+use Rattle.lt_query.specs.Answering.{Stands, Lacks, IsAnswer, AreTestsBound}
 use Rattle.lt_query.proofs.Ascending.{IsAscending-ascending, IsIn-ascending, IsIn-ascending_from, ascending_same}
 use Rattle.lt_query.proofs.Given.{IsIn-answers_of, IsAnswer-from_answers}
 use Rattle.lt_query.specs.declared.plans.Level.{Level}
@@ -27,15 +27,14 @@ use Rattle.lt_join.specs.declared.Found.{Found}
 use Rattle.lt_join.specs.declared.slicing.Slice.{Slice}
 use Rattle.lt_join.specs.Certify.{Certifies, IsMet, IsMissed}
 use Rattle.lt_join.specs.Cost.{cost_from}
-use Rattle.lt_join.specs.Explored.{AreHits}
 use Rattle.lt_join.specs.Sliced.{pinned, slice_keys, united, sliced_rows, CertifiesBut, IsSliceOf, AreRooted}
-use Rattle.lt_join.specs.Walked.{at, Grows, IsExploredBelow, AreFoundUnder, IsCollected}
-use Rattle.lt_join.proofs.Leaves.{collected_below}
+use Rattle.lt_join.specs.Walked.{at, Grows, IsExploredBelow, AreFoundUnder, IsCollected, IsSettled}
+use Rattle.lt_join.proofs.Leaves.{collected_below, certified_below}
 use Rattle.lt_join.proofs.Noting.{some_is}
 use Rattle.lt_join.proofs.Pinned.{holds_pinned, pinned_holds, are_bound_pinned, tests_pinned, term_in}
 use Rattle.lt_join.proofs.Repair.{All_at, All_of, GapIsTight, IsAscending-answers, not_missed}
-use Rattle.lt_join.proofs.Steps.{covers_grows, met_grows, Explored-grows}
-use Rattle.lt_join.proofs.Walks.{AgreeBelow, certified_below, followed_at}
+use Rattle.lt_join.proofs.Steps.{covers_grows, met_grows, Explored-grows, settled_of}
+use Rattle.lt_join.proofs.Walks.{AgreeBelow, followed_at}
 
 -- ---- the whole
 
@@ -43,6 +42,14 @@ missed_grows : (s t : Sense) → Grows s t → (state : State) (a : Assignment) 
 missed_grows s t grows state a [] h = h
 missed_grows s t grows state a (atom ∷ atoms) h =
     elim h [ inl m ↦ inl (m.0, covers_grows s t grows atom.relation (cells_of a atom.terms) m.1) | inr r ↦ inr (missed_grows s t grows state a atoms r) ]
+
+all_missed_grow : (s t : Sense) → Grows s t → (state : State) (a : Assignment) (atoms : List Atom) → AllByRecursion (IsMissed s state a) atoms → AllByRecursion (IsMissed t state a) atoms
+all_missed_grow s t grows state a [] h = tt
+all_missed_grow s t grows state a (atom ∷ atoms) h = ((h.0.0, covers_grows s t grows atom.relation (cells_of a atom.terms) h.0.1), all_missed_grow s t grows state a atoms h.1)
+
+some_met_grows : (s t : Sense) → Grows s t → (state : State) (a : Assignment) (atoms : List Atom) → AnyByRecursion (IsMet s state a) atoms → AnyByRecursion (IsMet t state a) atoms
+some_met_grows s t grows state a [] h = h
+some_met_grows s t grows state a (atom ∷ atoms) h = elim h [ inl m ↦ inl (m.0, covers_grows s t grows atom.relation (cells_of a atom.terms) m.1) | inr r ↦ inr (some_met_grows s t grows state a atoms r) ]
 
 pub grows_root : (root : Sense) (slices : List Slice) → Grows root (united root slices)
 grows_root root slices = record {
@@ -64,10 +71,13 @@ certified_whole root slices term body state but each a held =
           let certified = All_at (λ (slice : Slice). Certifies slice.sense (pinned term slice.key body) state) slices s.0 each s.1 in
           let grows = grows_slice root slices s.0 s.1 in
           elim (certified a (pinned_holds a term s.0.key body held (sym s.2))) [
-            | inl met ↦ inl (met_grows s.0.sense (united root slices) grows state a body.atoms met)
-            | inr missed ↦ inr (missed_grows s.0.sense (united root slices) grows state a body.atoms missed)
+            | inl met ↦ inl (met_grows s.0.sense (united root slices) grows state a body.atoms met.0, all_missed_grow s.0.sense (united root slices) grows state a body.absents met.1)
+            | inr other ↦ elim other [
+              | inl missed ↦ inr (inl (missed_grows s.0.sense (united root slices) grows state a body.atoms missed))
+              | inr met ↦ inr (inr (some_met_grows s.0.sense (united root slices) grows state a body.absents met))
+            ]
           ]
-      | inr missed ↦ inr (missed_grows root (united root slices) (grows_root root slices) state a body.atoms missed)
+      | inr missed ↦ inr (inl (missed_grows root (united root slices) (grows_root root slices) state a body.atoms missed))
     ]
 
 all_parts : {X : Type 0} (P : X → Type 0) (first : List X) (part : Slice → List X) (slices : List Slice) → AllByRecursion P first → AllByRecursion (λ slice. AllByRecursion P (part slice)) slices → AllByRecursion P (first ++ flat_map part slices)
@@ -89,10 +99,10 @@ tight_whole root slices state tight each = record {
 }
 
 -- an answer with this cell is one of the body with the term pinned to it
-pub answer_pinned : (terms : List Term) (term : Term) (body : Body) (state : State) → AreTestsBound body → are_bound body terms ≡ true → IsIn term (terms_of body.atoms) → (a : Assignment) (key : ℕ) → holds a body ≡ true → Stands a body.atoms state → cell_of a term ≡ key → IsIn (cells_of a terms) (answers terms (pinned term key body) state)
-answer_pinned terms term body state whole heads at a key held stands cell =
+pub answer_pinned : (terms : List Term) (term : Term) (body : Body) (state : State) → AreTestsBound body → are_bound body terms ≡ true → IsIn term (terms_of body.atoms) → (a : Assignment) (key : ℕ) → holds a body ≡ true → Stands a body.atoms state → Lacks a body.absents state → cell_of a term ≡ key → IsIn (cells_of a terms) (answers terms (pinned term key body) state)
+answer_pinned terms term body state whole heads at a key held stands none cell =
     IsIn-answers_of terms (pinned term key body) state (cells_of a terms) (tests_pinned term key body at whole) (are_bound_pinned term key body at terms ∙ heads)
-    (a, pinned_holds a term key body held cell, stands, refl)
+    (a, pinned_holds a term key body held cell, stands, refl, none)
 
 pub answers_whole : (root : Sense) (slices : List Slice) (terms : List Term) (term : Term) (body : Body) (state : State) → AreTestsBound body → are_bound body terms ≡ true → IsIn term (terms_of body.atoms) → CertifiesBut (slice_keys slices) term root body state → AllByRecursion (IsSliceOf terms body term state) slices → answers terms body state ≡ ascending (sliced_rows slices)
 answers_whole root slices terms term body state whole heads at but each =
@@ -103,7 +113,7 @@ answers_whole root slices terms term body state whole heads at but each =
       | inl key ↦
           let s = IsIn-map_from (λ (slice : Slice). slice.key) (cell_of answer.0 term) slices key in
           let is_slice = All_at (IsSliceOf terms body term state) slices s.0 each s.1 in
-          let of_slice : IsIn row s.0.rows = rw is_slice.rows (subst (λ r. IsIn r (answers terms (pinned term s.0.key body) state)) answer.3 (answer_pinned terms term body state whole heads at answer.0 s.0.key answer.1 answer.2 (sym s.2))) in
+          let of_slice : IsIn row s.0.rows = rw is_slice.rows (subst (λ r. IsIn r (answers terms (pinned term s.0.key body) state)) answer.3 (answer_pinned terms term body state whole heads at answer.0 s.0.key answer.1 answer.2 answer.4 (sym s.2))) in
           IsIn-ascending row (sliced_rows slices) (IsIn-flat_map (λ (slice : Slice). slice.rows) s.0 row slices s.1 of_slice)
       | inr missed ↦ absurd (not_missed root state answer.0 body.atoms answer.2 missed)
     ])
@@ -111,7 +121,7 @@ answers_whole root slices terms term body state whole heads at but each =
     let s = IsIn-flat_map_from (λ (slice : Slice). slice.rows) row slices (IsIn-ascending_from row (sliced_rows slices) there) in
     let is_slice = All_at (IsSliceOf terms body term state) slices s.0 each s.1 in
     let answer = IsAnswer-from_answers terms (pinned term s.0.key body) state row (subst (IsIn row) is_slice.rows s.2) in
-    IsIn-answers_of terms body state row whole heads (answer.0, (holds_pinned answer.0 term s.0.key body answer.1).0, answer.2, answer.3))
+    IsIn-answers_of terms body state row whole heads (answer.0, (holds_pinned answer.0 term s.0.key body answer.1).0, answer.2, answer.3, answer.4))
 
 -- ---- the first level
 
@@ -160,21 +170,21 @@ is_slice body plan terms state begun found key rows of_body some whole heads tig
       rows = sorted ∙ ascending_same (ascending found.rows) (answers terms (pinned term key body) state) (IsAscending-ascending found.rows) (IsAscending-answers terms (pinned term key body) state)
           (λ row there. elim (under row (IsIn-ascending_from row found.rows there)) [
             | inl old ↦ absurd (subst (IsIn row) none old)
-            | inr new ↦ subst (λ r. IsIn r (answers terms (pinned term key body) state)) new.3 (answer_pinned terms term body state whole heads stands_in new.0 key new.1 new.2 (new.4 0 (omega arith)))
+            | inr new ↦ subst (λ r. IsIn r (answers terms (pinned term key body) state)) new.3 (answer_pinned terms term body state whole heads stands_in new.0 key new.1 new.2 new.5 (new.4 0 (omega arith)))
           ])
           (λ row there.
           let answer = IsAnswer-from_answers terms (pinned term key body) state row there in
           let held = holds_pinned answer.0 term key body answer.1 in
           IsIn-ascending row found.rows (subst (λ r. IsIn r found.rows) answer.3
-          (collected_below body plan of_body terms state found (drop 1 plan.levels) 1 (at (key ∷ [])) whole heads tight explored are e answer.0 held.0 answer.2 (agree_first answer.0 plan.levels key held.1))));
+          (collected_below body plan of_body terms state found (drop 1 plan.levels) 1 (at (key ∷ [])) whole heads tight explored are e answer.0 held.0 answer.2 answer.4 (agree_first answer.0 plan.levels key held.1))));
       certified = λ a h.
           let held = holds_pinned a term key body h in
-          certified_below body plan found.sense state (drop 1 plan.levels) 1 (at (key ∷ [])) of_body tight
-          (Explored-grows found.sense found.sense (record { gaps = λ gap k. k; hits = λ hit k. k }) plan.guides (IsCollected body plan terms found) (AreHits found.sense plan.guides) (λ keys k. k.hits) (drop 1 plan.levels) 1 (at (key ∷ [])) explored)
+          certified_below body plan of_body found.sense state (drop 1 plan.levels) 1 (at (key ∷ [])) whole tight
+          (Explored-grows found.sense found.sense (record { gaps = λ gap k. k; hits = λ hit k. k }) plan.guides (IsCollected body plan terms found) (IsSettled body plan found.sense) (λ keys k. settled_of body plan terms found keys k) (drop 1 plan.levels) 1 (at (key ∷ [])) explored)
           are e a held.0 (agree_first a plan.levels key held.1);
       tight = tight;
     }
 
 -- the moves below the key
-pub cost_under : (state : State) (guides : List Guide) (levels : List Level) (pushed : List ℕ) (key begun now : ℕ) → pushed ≡ key ∷ [] → now ≤ begun + cost_from state guides (drop (length pushed) levels) (length pushed) (at pushed) → now ≤ begun + cost_from state guides (drop 1 levels) 1 (at (key ∷ []))
-cost_under state guides levels pushed key begun now is h = subst (λ ks. now ≤ begun + cost_from state guides (drop (length ks) levels) (length ks) (at ks)) is h
+pub cost_under : (absents : ℕ) (state : State) (guides : List Guide) (levels : List Level) (pushed : List ℕ) (key begun now : ℕ) → pushed ≡ key ∷ [] → now ≤ begun + cost_from absents state guides (drop (length pushed) levels) (length pushed) (at pushed) → now ≤ begun + cost_from absents state guides (drop 1 levels) 1 (at (key ∷ []))
+cost_under absents state guides levels pushed key begun now is h = subst (λ ks. now ≤ begun + cost_from absents state guides (drop (length ks) levels) (length ks) (at ks)) is h

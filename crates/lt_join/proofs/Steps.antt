@@ -4,10 +4,10 @@ use Rattle.std.specs.List.{AllByRecursion, AllZip, list_any, list_all}
 use Rattle.lt_model.specs.declared.normal.Atom.{Atom}
 use Rattle.lt_face.proofs.Membership.{IsIn-append_left, IsIn-append_right, IsIn-append_cases}
 use Rattle.lt_sense.specs.declared.covering.KeptGap.{KeptGap}
-use Rattle.lt_join.proofs.Repair.{All_at, list_any_from, list_any_of}
-use Rattle.lt_join.proofs.Leaves.{holds_at_leaf, term_fits, stands_at, IsWitness-at_leaf, IsAnswer-from_witness, answers_are}
-use Rattle.lt_join.proofs.Walks.{Certifies-from_explored}
-use Rattle.lt_query.specs.Answering.{AreTestsBound}
+use Rattle.lt_join.proofs.Repair.{All_at, list_any_from, list_any_of, Lacks-from_missed}
+use Rattle.lt_join.proofs.Leaves.{holds_at_leaf, term_fits, stands_at, IsWitness-at_leaf, IsAnswer-from_witness, answers_are, Certifies-from_explored}
+use Rattle.lt_join.proofs.Looked.{gaps_missed, gaps_grow, hit_grows}
+use Rattle.lt_query.specs.Answering.{Lacks, AreTestsBound}
 use Rattle.lt_model.specs.Bound.{are_bound}
 use Rattle.std.proofs.Common.{refl, sym, ap, ◌∙◌, subst, inl, inr, cond, arith, add-zero, get_or}
 use Rattle.std.proofs.lemmas.Bool.{and_parts, ltb-true, cases_order, ne_eqb, eq-eqb, or_cases, or_left, or_right}
@@ -24,12 +24,12 @@ use Rattle.lt_face.specs.State.{Row, State}
 use Rattle.lt_model.specs.Answers.{Assignment, cells_of, passes, holds, ascending, answers}
 use Rattle.lt_model.specs.Cells.{is_cell}
 use Rattle.lt_face.specs.State.{Has}
-use Rattle.lt_join.specs.Certify.{Certifies, IsWitness, IsMet}
+use Rattle.lt_join.specs.Certify.{Certifies, IsWitness, IsMet, IsMissed, IsGapped, IsHitOf}
 use Rattle.lt_sense.specs.Sense.{IsTight, covers, gap_covers, hit_covers}
 use Rattle.lt_face.specs.Lists.{AnyByRecursion}
 use Rattle.lt_query.specs.Plan.{Keys, IsPlanOf, AreLevelsFrom, IsLevelOf, IsGuideOf, term_at}
 use Rattle.lt_join.specs.Explored.{Fits, FitFrom, IsPassed, with_key, Explored, hit_of, AreHits}
-use Rattle.lt_join.specs.Walked.{at, leaf_assignment, IsCollected, Grows, FoundGrows, IsRight, HitsAbove, IsReached, IsExploredBelow, IsAnswerUnder, AreFoundUnder, IsSkipped, StandsAt}
+use Rattle.lt_join.specs.Walked.{at, leaf_assignment, IsCollected, IsSettled, Grows, FoundGrows, IsRight, HitsAbove, IsReached, IsExploredBelow, IsAnswerUnder, AreFoundUnder, IsSkipped, StandsAt}
 
 passed_grows : (s t : Sense) → Grows s t → (l : ℕ) (keys : Keys) (k : ℕ) (guides : List Guide) → AnyByRecursion (IsPassed s l keys k) guides → AnyByRecursion (IsPassed t l keys k) guides
 passed_grows s t grows l keys k [] h = h
@@ -55,8 +55,14 @@ hits_grow s t grows (guide ∷ guides) keys h = (grows.hits (hit_of keys guide) 
 pub IsCollected-grows : (body : Body) (plan : Plan) (terms : List Term) (f g : Found) → FoundGrows f g → (keys : Keys) → IsCollected body plan terms f keys → IsCollected body plan terms g keys
 IsCollected-grows body plan terms f g grows keys h = record {
   hits = hits_grow f.sense g.sense grows.sense plan.guides keys h.hits;
-  answer = λ held. grows.rows _ (h.answer held);
+  answer = λ held. elim (h.answer held) [
+    | inl there ↦ inl (grows.rows _ there.0, gaps_grow f.sense g.sense grows.sense (leaf_assignment body plan.levels keys) body.absents there.1)
+    | inr hit ↦ inr (hit_grows f.sense g.sense grows.sense (leaf_assignment body plan.levels keys) body.absents hit)
+  ];
 }
+
+pub settled_of : (body : Body) (plan : Plan) (terms : List Term) (found : Found) (keys : Keys) → IsCollected body plan terms found keys → IsSettled body plan found.sense keys
+settled_of body plan terms found keys h = record { hits = h.hits; looked = λ held. elim (h.answer held) [ inl there ↦ inl there.1 | inr hit ↦ inr hit ] }
 
 pub IsSkipped-grows : (plan : Plan) (s t : Sense) → Grows s t → (keys : List ℕ) (level : Level) (k : ℕ) → IsSkipped plan s keys level k → IsSkipped plan t keys level k
 IsSkipped-grows plan s t grows keys level k h = elim h [ inl p ↦ inl (passed_grows s t grows (length keys) (at keys) k plan.guides p) | inr u ↦ inr u ]
@@ -80,10 +86,14 @@ pub met_grows : (s t : Sense) → Grows s t → (state : State) (a : Assignment)
 met_grows s t grows state a [] h = tt
 met_grows s t grows state a (atom ∷ atoms) h = ((h.0.0, covers_grows s t grows atom.relation (cells_of a atom.terms) h.0.1), met_grows s t grows state a atoms h.1)
 
+all_missed_grow : (s t : Sense) → Grows s t → (state : State) (a : Assignment) (atoms : List Atom) → AllByRecursion (IsMissed s state a) atoms → AllByRecursion (IsMissed t state a) atoms
+all_missed_grow s t grows state a [] h = tt
+all_missed_grow s t grows state a (atom ∷ atoms) h = ((h.0.0, covers_grows s t grows atom.relation (cells_of a atom.terms) h.0.1), all_missed_grow s t grows state a atoms h.1)
+
 pub witnesses_grow : (s t : Sense) → Grows s t → (terms : List Term) (body : Body) (state : State) (rows : List Row) → AllByRecursion (IsWitness s terms body state) rows → AllByRecursion (IsWitness t terms body state) rows
 witnesses_grow s t grows terms body state [] h = tt
 witnesses_grow s t grows terms body state (row ∷ rows) h =
-    ((h.0.0, h.0.1, met_grows s t grows state h.0.0 body.atoms h.0.2, h.0.3), witnesses_grow s t grows terms body state rows h.1)
+    ((h.0.0, h.0.1, met_grows s t grows state h.0.0 body.atoms h.0.2, h.0.3, all_missed_grow s t grows state h.0.0 body.absents h.0.4), witnesses_grow s t grows terms body state rows h.1)
 
 -- the walk below a key
 pub IsDone : Body → Plan → List Term → Found → List ℕ → ℕ → Type 0
@@ -270,6 +280,13 @@ all_at_cell [] l lt h = absurd (omega arith)
 all_at_cell (k ∷ keys) zero lt h = h.0
 all_at_cell (k ∷ keys) (suc l) lt h = all_at_cell keys l (omega arith) h.1
 
+above_grows : (s t : Sense) → Grows s t → (guides : List Guide) (keys : List ℕ) → HitsAbove s guides keys → HitsAbove t guides keys
+above_grows s t grows [] keys h = tt
+above_grows s t grows (guide ∷ guides) keys h = ((λ above. grows.hits (hit_of (at keys) guide) (h.0 above)), above_grows s t grows guides keys h.1)
+
+IsReached-grows : (plan : Plan) (s t : Sense) → Grows s t → (keys : List ℕ) → IsReached plan s keys → IsReached plan t keys
+IsReached-grows plan s t grows keys h = record { within = h.within; cells = h.cells; fit = h.fit; hits = above_grows s t grows plan.guides keys h.hits }
+
 -- at a leaf
 module _ (body : Body) (plan : Plan) (terms : List Term) (state : State) (keys : List ℕ) (of_body : IsPlanOf body plan) (full : length keys ≡ length plan.levels) where
   leaf_fits : (sense : Sense) → IsReached plan sense keys → FitFrom 0 plan.levels (at keys)
@@ -280,46 +297,47 @@ module _ (body : Body) (plan : Plan) (terms : List Term) (state : State) (keys :
   leaf_holds : (sense : Sense) → IsReached plan sense keys → list_all (passes (leaf_assignment body plan.levels (at keys))) body.tests ≡ holds (leaf_assignment body plan.levels (at keys)) body
   leaf_holds sense reached = holds_at_leaf body plan of_body (at keys) (leaf_fits sense reached) (λ l lt. all_at_cell keys l (omega arith) reached.cells)
 
-  leaf_collected : (found : Found) → IsReached plan found.sense keys → (holds (leaf_assignment body plan.levels (at keys)) body ≡ true → IsIn (cells_of (leaf_assignment body plan.levels (at keys)) terms) found.rows) → IsExploredBelow body plan terms found keys
+  leaf_collected : (found : Found) → IsReached plan found.sense keys
+      → (holds (leaf_assignment body plan.levels (at keys)) body ≡ true → (IsIn (cells_of (leaf_assignment body plan.levels (at keys)) terms) found.rows × AllByRecursion (IsGapped found.sense (leaf_assignment body plan.levels (at keys))) body.absents) ⊎ AnyByRecursion (IsHitOf found.sense (leaf_assignment body plan.levels (at keys))) body.absents) → IsExploredBelow body plan terms found keys
   leaf_collected found reached answer =
       rw (drop_all plan.levels (length keys) full) (record { hits = leaf_hits plan.levels found.sense keys full body.atoms plan.guides of_body.guides reached.hits; answer = answer })
 
+  -- the tests fail
   pub leaf_without : (found : Found) → IsReached plan found.sense keys → None ≡ (if list_all (passes (leaf_assignment body plan.levels (at keys))) body.tests then Some (cells_of (leaf_assignment body plan.levels (at keys)) terms) else None) → IsExploredBelow body plan terms found keys
   leaf_without found reached e = leaf_collected found reached (λ held. absurd (none_when (list_all (passes (leaf_assignment body plan.levels (at keys))) body.tests) (cells_of (leaf_assignment body plan.levels (at keys)) terms) e (leaf_holds found.sense reached ∙ held)))
 
-  pub leaf_with : (found : Found) (row : Row) (rows : List Row) → IsReached plan found.sense keys → IsRight body terms state found → Some row ≡ (if list_all (passes (leaf_assignment body plan.levels (at keys))) body.tests then Some (cells_of (leaf_assignment body plan.levels (at keys)) terms) else None) → rows ≡ found.rows ++ row ∷ [] → FoundGrows found (record { sense = found.sense; rows = rows }) × IsRight body terms state (record { sense = found.sense; rows = rows }) × IsExploredBelow body plan terms (record { sense = found.sense; rows = rows }) keys
-  leaf_with found row rows reached right e is =
-      let leaf = leaf_assignment body plan.levels (at keys) in
-      let parts = some_when (list_all (passes leaf) body.tests) (cells_of leaf terms) row e in
-      let held : holds leaf body ≡ true = sym (leaf_holds found.sense reached) ∙ parts.0 in
-      let fit : FitFrom 0 plan.levels (at keys) = leaf_fits found.sense reached in
-      let hits = leaf_hits plan.levels found.sense keys full body.atoms plan.guides of_body.guides reached.hits in
-      let answer : IsWitness found.sense terms body state row = subst (IsWitness found.sense terms body state) parts.1 (IsWitness-at_leaf body plan of_body terms state found.sense right.tight (at keys) fit hits held) in (
-        record { sense = record { gaps = λ gap h. h; hits = λ hit h. h }; rows = λ r h. rw is (IsIn-append_left r found.rows (row ∷ []) h) },
-        record { tight = right.tight; answers = rw is (All_push (IsWitness found.sense terms body state) found.rows row right.answers answer) },
-        leaf_collected (record { sense = found.sense; rows = rows }) reached (λ held. rw (is, parts.1) (IsIn-append_right row found.rows (row ∷ []) (inl refl))),
-      )
+  -- an absent row is there
+  pub leaf_refused : (found new : Found) → IsReached plan found.sense keys → Grows found.sense new.sense → AnyByRecursion (IsHitOf new.sense (leaf_assignment body plan.levels (at keys))) body.absents → IsExploredBelow body plan terms new keys
+  leaf_refused found new reached grows hit = leaf_collected new (IsReached-grows plan found.sense new.sense grows keys reached) (λ held. inr hit)
 
-  -- the row that was collected is an answer under the keys
-  pub leaf_under : (found : Found) (row : Row) (rows : List Row) → IsReached plan found.sense keys → IsRight body terms state found → Some row ≡ (if list_all (passes (leaf_assignment body plan.levels (at keys))) body.tests then Some (cells_of (leaf_assignment body plan.levels (at keys)) terms) else None) → rows ≡ found.rows ++ row ∷ [] → AreFoundUnder terms body plan state keys found (record { sense = found.sense; rows = rows })
-  leaf_under found row rows reached right e is r there =
+  -- the tests hold, and all absent rows are absent
+  pub leaf_with : (found new : Found) (row : Row) → IsReached plan found.sense keys → IsRight body terms state found → Some row ≡ (if list_all (passes (leaf_assignment body plan.levels (at keys))) body.tests then Some (cells_of (leaf_assignment body plan.levels (at keys)) terms) else None)
+      → Grows found.sense new.sense → IsTight new.sense state → AllByRecursion (IsGapped new.sense (leaf_assignment body plan.levels (at keys))) body.absents → new.rows ≡ found.rows ++ row ∷ []
+      → IsRight body terms state new × IsExploredBelow body plan terms new keys × AreFoundUnder terms body plan state keys found new
+  leaf_with found new row reached right e grows tight gapped is =
       let leaf = leaf_assignment body plan.levels (at keys) in
       let parts = some_when (list_all (passes leaf) body.tests) (cells_of leaf terms) row e in
       let held : holds leaf body ≡ true = sym (leaf_holds found.sense reached) ∙ parts.0 in
       let fit : FitFrom 0 plan.levels (at keys) = leaf_fits found.sense reached in
-      let hits = leaf_hits plan.levels found.sense keys full body.atoms plan.guides of_body.guides reached.hits in
-      let stands = stands_at body plan of_body (at keys) state fit body.atoms plan.guides of_body.guides (hits_there state found.sense right.tight (at keys) plan.guides hits) in
-      let answer : IsAnswerUnder terms body plan state keys row = (leaf, held, stands, parts.1, λ l lt. term_fits body plan of_body (at keys) fit l (omega (arith, full))) in
-      elim (IsIn-append_cases r found.rows (row ∷ []) (subst (IsIn r) is there)) [
-        | inl old ↦ inl old
-        | inr new ↦ elim new [ inl same ↦ inr (subst (IsAnswerUnder terms body plan state keys) same answer) | inr none ↦ absurd none ]
-      ]
+      let there : IsReached plan new.sense keys = IsReached-grows plan found.sense new.sense grows keys reached in
+      let hits = leaf_hits plan.levels new.sense keys full body.atoms plan.guides of_body.guides there.hits in
+      let stands = stands_at body plan of_body (at keys) state fit body.atoms plan.guides of_body.guides (hits_there state new.sense tight (at keys) plan.guides hits) in
+      let none : Lacks leaf body.absents state = Lacks-from_missed new.sense state leaf body.absents (gaps_missed new.sense state tight leaf body.absents gapped) in
+      let answer : IsWitness new.sense terms body state row = subst (IsWitness new.sense terms body state) parts.1 (IsWitness-at_leaf body plan of_body terms state new.sense tight (at keys) fit hits held gapped) in
+      let under : IsAnswerUnder terms body plan state keys row = (leaf, held, stands, parts.1, λ l lt. term_fits body plan of_body (at keys) fit l (omega (arith, full)), none) in (
+        record { tight = tight; answers = rw is (All_push (IsWitness new.sense terms body state) found.rows row (witnesses_grow found.sense new.sense grows terms body state found.rows right.answers) answer) },
+        leaf_collected new there (λ held. inl (rw (is, parts.1) (IsIn-append_right row found.rows (row ∷ []) (inl refl)), gapped)),
+        λ r here. elim (IsIn-append_cases r found.rows (row ∷ []) (subst (IsIn r) is here)) [
+          | inl old ↦ inl old
+          | inr last ↦ elim last [ inl same ↦ inr (subst (IsAnswerUnder terms body plan state keys) same under) | inr no_more ↦ absurd no_more ]
+        ],
+      )
 
 -- ---- under the keys
 
 pub under_shorter : (terms : List Term) (body : Body) (plan : Plan) (state : State) (keys : List ℕ) (k : ℕ) (row : Row) → IsAnswerUnder terms body plan state (keys ++ k ∷ []) row → IsAnswerUnder terms body plan state keys row
 under_shorter terms body plan state keys k row u =
-    (u.0, u.1, u.2, u.3, λ l lt. u.4 l (let n = length_push keys k in omega arith) ∙ at_push_below keys k l lt)
+    (u.0, u.1, u.2, u.3, λ l lt. u.4 l (let n = length_push keys k in omega arith) ∙ at_push_below keys k l lt, u.5)
 
 -- one key was explored
 pub under_more : (terms : List Term) (body : Body) (plan : Plan) (state : State) (keys pushed : List ℕ) (k : ℕ) (begun f g : Found) → pushed ≡ keys ++ k ∷ [] → AreFoundUnder terms body plan state keys begun f → AreFoundUnder terms body plan state pushed f g → AreFoundUnder terms body plan state keys begun g
@@ -363,8 +381,8 @@ IsRight-none body terms state = record { tight = record { gaps = tt; hits = tt }
 pub found_all : (body : Body) (plan : Plan) (terms : List Term) (state : State) (found : Found) → IsPlanOf body plan → AreTestsBound body → are_bound body terms ≡ true → IsRight body terms state found → IsExploredBelow body plan terms found [] → (ascending found.rows ≡ answers terms body state) × Certifies found.sense body state
 found_all body plan terms state found of_body whole heads right explored = (
   answers_are body plan of_body terms state found (at []) whole heads right.tight explored (λ row there. IsAnswer-from_witness found.sense terms body state row (All_at (IsWitness found.sense terms body state) found.rows row right.answers there)),
-  Certifies-from_explored body plan found.sense state (at []) of_body right.tight
-      (Explored-grows found.sense found.sense (record { gaps = λ gap h. h; hits = λ hit h. h }) plan.guides (IsCollected body plan terms found) (AreHits found.sense plan.guides) (λ keys h. h.hits) plan.levels 0 (at []) explored),
+  Certifies-from_explored body plan of_body found.sense state (at []) whole right.tight
+      (Explored-grows found.sense found.sense (record { gaps = λ gap h. h; hits = λ hit h. h }) plan.guides (IsCollected body plan terms found) (IsSettled body plan found.sense) (λ keys h. settled_of body plan terms found keys h) plan.levels 0 (at []) explored),
 )
 
 -- a flag that is true only where false is

@@ -23,11 +23,11 @@ use Rattle.lt_join.proofs.Leaves.{collected}
 use Rattle.lt_join.proofs.Steps.{found_all}
 
 IsAnswer-from_some : (body : Body) (state : State) → some_answer body state ≡ true → IsAnswer [] body state []
-IsAnswer-from_some body state h = (let found = IsSatisfied-from_some body state h in (found.0, found.1, found.2, refl))
+IsAnswer-from_some body state h = (let found = IsSatisfied-from_some body state h in (found.0, found.1, found.2, refl, found.3))
 
 first_witness : (sense : Sense) (body : Body) (state : State) (rows : List Row) → 0 < length rows → AllByRecursion (IsWitness sense [] body state) rows → Witnesses sense body state
 first_witness sense body state [] lt h = absurd (omega arith)
-first_witness sense body state (row ∷ rows) lt h = (h.0.0, h.0.1, h.0.2)
+first_witness sense body state (row ∷ rows) lt h = (h.0.0, h.0.1, h.0.2, h.0.4)
 
 -- it stopped at an answer
 pub told_true : (body : Body) (state : State) (found : Found) → AreTestsBound body → IsRight body [] state found → 0 < length found.rows → (true ≡ some_answer body state) × Vouches found.sense body state

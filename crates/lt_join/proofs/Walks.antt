@@ -112,7 +112,7 @@ module _ (body : Body) (plan : Plan) (sense : Sense) (state : State) (tight : Is
   missed_some l keys agree (atom ∷ atoms) (guide ∷ guides) z p =
       elim p [ inl h ↦ inl (missed_one l keys agree atom guide z.0 h) | inr r ↦ inr (missed_some l keys agree atoms guides z.1 r) ]
 
-  all_met : (keys : Keys) → AgreeBelow (length plan.levels) keys (keys_under a plan.levels) → (atoms : List Atom) (guides : List Guide) → AllZip (IsGuideOf plan.levels) atoms guides → AreHits sense guides keys → AllByRecursion (IsMet sense state a) atoms
+  pub all_met : (keys : Keys) → AgreeBelow (length plan.levels) keys (keys_under a plan.levels) → (atoms : List Atom) (guides : List Guide) → AllZip (IsGuideOf plan.levels) atoms guides → AreHits sense guides keys → AllByRecursion (IsMet sense state a) atoms
   all_met keys agree [] [] z h = tt
   all_met keys agree [] (guide ∷ guides) z h = absurd z
   all_met keys agree (atom ∷ atoms) [] z h = absurd z
@@ -180,17 +180,3 @@ module _ (body : Body) (plan : Plan) (sense : Sense) (state : State) (tight : Is
           | inl missed ↦ inl missed
           | inr deeper ↦ followed levels (l + 1) (with_key keys l (keys_under a plan.levels l)) deeper are.1 (with_key_agrees l keys agree) (omega arith)
         ]
-
--- a walk over the levels below some keys certifies the assignments with these keys
-pub certified_below : (body : Body) (plan : Plan) (sense : Sense) (state : State) (levels : List Level) (l : ℕ) (keys : Keys) → IsPlanOf body plan → IsTight sense state → Explored sense plan.guides (AreHits sense plan.guides) levels l keys → AreLevelsFrom body plan.levels l levels → l + length levels ≡ length plan.levels
-    → (a : Assignment) → holds a body ≡ true → AgreeBelow l keys (keys_under a plan.levels) → AllByRecursion (IsMet sense state a) body.atoms ⊎ AnyByRecursion (IsMissed sense state a) body.atoms
-certified_below body plan sense state levels l keys of_body tight explored are e a held agree =
-    elim (followed body plan sense state tight a held of_body (AreHits sense plan.guides) levels l keys explored are agree e) [
-      | inl missed ↦ inr missed
-      | inr leaf ↦ inl (all_met body plan sense state tight a held leaf.0 leaf.2 body.atoms plan.guides of_body.guides leaf.1)
-    ]
-
--- a walk over all levels certifies the body
-pub Certifies-from_explored : (body : Body) (plan : Plan) (sense : Sense) (state : State) (keys : Keys) → IsPlanOf body plan → IsTight sense state → Explored sense plan.guides (AreHits sense plan.guides) plan.levels 0 keys → Certifies sense body state
-Certifies-from_explored body plan sense state keys of_body tight explored a held =
-    certified_below body plan sense state plan.levels 0 keys of_body tight explored of_body.levels (omega arith) a held (λ m lt. absurd (omega arith))

@@ -4,6 +4,7 @@ use Rattle.std.specs.List.{list_any, list_all, filter_map, sum_by}
 use Rattle.lt_leap.specs.Common.{has_key, common_keys}
 use Rattle.lt_leap.specs.Potential.{join_cost}
 use Rattle.lt_trie.specs.Under.{next_cell}
+use Rattle.lt_model.specs.declared.normal.Body.{Body}
 use Rattle.lt_query.specs.declared.plans.Level.{Level}
 use Rattle.lt_query.specs.declared.plans.Guide.{Guide}
 use Rattle.lt_query.specs.declared.plans.Plan.{Plan}
@@ -26,16 +27,16 @@ abbrev pub iterators_at : State → List Guide → Level → ℕ → Keys → Li
 iterators_at state guides level l keys =
     map (iterator_keys state l keys) (filter (λ guide. has_key (levels_of guide) l) guides) ++ (map (λ pin. pin ∷ []) level.pins ++ map (λ m. keys m ∷ []) level.ties)
 
--- the moves of the levels from this one on
-abbrev pub cost_from : State → List Guide → List Level → ℕ → Keys → ℕ
-cost_from state guides [] l keys = 0
-cost_from state guides (level ∷ levels) l keys =
+-- the moves of the levels from this one on, and below them one for each negated atom, of which there are so many
+abbrev pub cost_from : ℕ → State → List Guide → List Level → ℕ → Keys → ℕ
+cost_from absents state guides [] l keys = absents
+cost_from absents state guides (level ∷ levels) l keys =
     let iterators = iterators_at state guides level l keys in
-    join_cost iterators + sum_by (λ k. cost_from state guides levels (l + 1) (with_key keys l k)) (common_keys iterators)
+    join_cost iterators + sum_by (λ k. cost_from absents state guides levels (l + 1) (with_key keys l k)) (common_keys iterators)
 
 -- the moves of a whole join
-abbrev pub bound : Plan → State → ℕ
-bound plan state = cost_from state plan.guides plan.levels 0 (λ l. 0)
+abbrev pub bound : Body → Plan → State → ℕ
+bound body plan state = cost_from (length body.absents) state plan.guides plan.levels 0 (λ l. 0)
 
 -- ---- what a sense may gain
 

@@ -9,6 +9,7 @@ use Rattle.lt_face.specs.State.{Row, State, IsIndexOf}
 use Rattle.lt_face.specs.declared.key.Gap.{Gap}
 use Rattle.lt_trie.specs.Trie.{TrieView}
 use Rattle.lt_model.specs.declared.normal.Term.{Term}
+use Rattle.lt_model.specs.declared.normal.Atom.{Atom}
 use Rattle.lt_model.specs.declared.normal.Body.{Body}
 use Rattle.lt_model.specs.Fits.{IsTermOf}
 use Rattle.lt_query.specs.Runnable.{IsRunnable}
@@ -17,12 +18,13 @@ use Rattle.lt_query.specs.declared.plans.Level.{Level}
 use Rattle.lt_query.specs.declared.plans.Guide.{Guide}
 use Rattle.lt_query.specs.declared.plans.Plan.{Plan}
 use Rattle.lt_query.specs.Plan.{Keys, levels_of}
-use Rattle.lt_query.specs.Lists.{IsRising}
+use Rattle.lt_query.specs.Lists.{IsRising, below}
 use Rattle.lt_sense.specs.declared.covering.KeptGap.{KeptGap}
 use Rattle.lt_sense.specs.Kept.{Sense}
 use Rattle.lt_sense.specs.Sense.{IsTight}
 use Rattle.lt_join.specs.declared.seat.Seat.{Seat}
 use Rattle.lt_join.specs.declared.seat.Seat.TheVariants.{Walks, Single}
+use Rattle.lt_join.specs.LookUp.{LookUpView}
 use Rattle.lt_join.specs.Seat.{seat_keys, seat_here}
 use Rattle.lt_join.specs.Explored.{prefix_at}
 use Rattle.lt_leap.specs.Common.{has_key}
@@ -150,10 +152,20 @@ pub record IsUsable (guides : List Guide) (level : Level) (above : List ℕ) : T
   pub keys : AllByRecursion (λ k. k < 2 ^ 120) above
   pub few : length guides + (length level.pins + length level.ties) < 2 ^ 32
 
+-- where rows of a relation are looked up: in its index with so many columns in their own order
+pub record IsLookUpFor (state : State) (relation width : ℕ) (look_up : LookUpView) : Type 0 where
+  pub columns : look_up.columns ≡ below width
+  pub index : IsIndexOf state relation (below width) look_up.width look_up.rows
+
+-- where a negated atom is looked up
+abbrev pub IsLookUpOf : State → Atom → LookUpView → Type 0
+IsLookUpOf state atom look_up = IsLookUpFor state atom.relation (length atom.terms) look_up
+
 -- A body and a plan of it that can be walked for these terms: numbers of variables are below 16, constants are cells, and
 -- an answer is no wider than a row.
 pub record IsPrepared (body : Body) (plan : Plan) (terms : List Term) : Type 0 where
   pub runnable : IsRunnable body plan
   pub tests : AllByRecursion IsTest body.tests
+  pub absents : AllByRecursion (λ (atom : Atom). AllByRecursion (IsTermOf most_variables) atom.terms) body.absents
   pub variables : AllByRecursion (λ (level : Level). IsTermOf most_variables level.term) plan.levels
   pub narrow : length terms ≤ most_columns

@@ -11,3 +11,4 @@ pub mod Seat
 pub mod Sliced
 pub mod Values
 pub mod Walked
+pub mod LookUp

@@ -13,15 +13,17 @@ use Rattle.lt_sense.specs.declared.covering.KeptGap.{KeptGap}
 use Rattle.lt_sense.specs.Kept.{Sense}
 use Rattle.lt_sense.specs.Sense.{covers, gap_covers, IsTight}
 use Rattle.lt_join.specs.declared.slicing.Slice.{Slice}
-use Rattle.lt_join.specs.Sliced.{slice_keys, IsSliceOf, AreRooted}
+use Rattle.lt_join.specs.Sliced.{slice_keys, IsSliceOf, AreRooted, AreRootGaps}
 
--- the root gaps of a body on a state, and its slices, ascending by their keys; beside the root gaps nothing is kept
+-- the root gaps of a body on a state, and its slices, ascending by their keys; beside the root gaps, which have the empty prefix,
+-- nothing is kept
 pub record AreSlicesOn (terms : List Term) (body : Body) (plan : Plan) (state : State) (root : Sense) (slices : List Slice) : Type 0 where
   pub ascending : IsRising (slice_keys slices)
   pub each : AllByRecursion (IsSliceOf terms body (term_at plan.levels 0) state) slices
   pub rooted : AreRooted plan root (slice_keys slices)
   pub tight : IsTight root state
   pub root_hits : root.hits ≡ []
+  pub root_gaps : AreRootGaps root
 
 -- ---- touched keys
 

@@ -16,10 +16,10 @@ use Rattle.lt_model.specs.Answers.{Assignment, Values, cell_of, cells_of, holds,
 use Rattle.lt_model.specs.Cells.{is_cell}
 use Rattle.lt_model.specs.Bound.{is_var}
 use Rattle.lt_sense.specs.Sense.{IsTight}
-use Rattle.lt_join.specs.Certify.{IsWitness}
+use Rattle.lt_join.specs.Certify.{IsWitness, IsGapped, IsHitOf}
 use Rattle.lt_face.specs.Lists.{AnyByRecursion}
 use Rattle.lt_query.specs.Plan.{Keys, term_at}
-use Rattle.lt_query.specs.Answering.{Stands}
+use Rattle.lt_query.specs.Answering.{Stands, Lacks}
 use Rattle.lt_leap.specs.Common.{common_keys}
 use Rattle.lt_join.specs.Cost.{iterators_at}
 use Rattle.lt_join.specs.Explored.{Fits, IsPassed, Explored, hit_of, AreHits}
@@ -36,10 +36,19 @@ value_from (level ∷ levels) l keys v = if is_var v level.term then Some (keys 
 abbrev pub leaf_assignment : Body → List Level → Keys → Assignment
 leaf_assignment body levels keys v = unwrap_or (give_all (value_from levels 0 keys) body.tests v) 0
 
--- a leaf's rows are hits, and the answer that its keys give was collected
+-- a leaf's rows are hits, and the answer that its keys give was collected and its absent rows lie in gaps, or one of these is
+-- a hit
 pub record IsCollected (body : Body) (plan : Plan) (terms : List Term) (found : Found) (keys : Keys) : Type 0 where
   pub hits : AreHits found.sense plan.guides keys
-  pub answer : holds (leaf_assignment body plan.levels keys) body ≡ true → IsIn (cells_of (leaf_assignment body plan.levels keys) terms) found.rows
+  pub answer : holds (leaf_assignment body plan.levels keys) body ≡ true →
+      (IsIn (cells_of (leaf_assignment body plan.levels keys) terms) found.rows × AllByRecursion (IsGapped found.sense (leaf_assignment body plan.levels keys)) body.absents)
+      ⊎ AnyByRecursion (IsHitOf found.sense (leaf_assignment body plan.levels keys)) body.absents
+
+-- the same, of the sense alone
+pub record IsSettled (body : Body) (plan : Plan) (sense : Sense) (keys : Keys) : Type 0 where
+  pub hits : AreHits sense plan.guides keys
+  pub looked : holds (leaf_assignment body plan.levels keys) body ≡ true →
+      AllByRecursion (IsGapped sense (leaf_assignment body plan.levels keys)) body.absents ⊎ AnyByRecursion (IsHitOf sense (leaf_assignment body plan.levels keys)) body.absents
 
 -- what was there still is
 pub record Grows (old new : Sense) : Type 0 where
@@ -55,10 +64,11 @@ pub record IsRight (body : Body) (terms : List Term) (state : State) (found : Fo
   pub tight : IsTight found.sense state
   pub answers : AllByRecursion (IsWitness found.sense terms body state) found.rows
 
--- the terms' cells under an assignment that holds, whose rows the state has and whose cells at the first levels are the keys
+-- the terms' cells under an assignment that holds, whose rows the state has, whose absent rows it lacks, and whose cells at the
+-- first levels are the keys
 abbrev pub IsAnswerUnder : List Term → Body → Plan → State → List ℕ → Row → Type 0
 IsAnswerUnder terms body plan state keys row =
-    (a : Assignment) × (holds a body ≡ true) × Stands a body.atoms state × (cells_of a terms ≡ row) × ((l : ℕ) → l < length keys → cell_of a (term_at plan.levels l) ≡ at keys l)
+    (a : Assignment) × (holds a body ≡ true) × Stands a body.atoms state × (cells_of a terms ≡ row) × ((l : ℕ) → l < length keys → cell_of a (term_at plan.levels l) ≡ at keys l) × Lacks a body.absents state
 
 -- each row that was found was there before, or is an answer under the keys
 abbrev pub AreFoundUnder : List Term → Body → Plan → State → List ℕ → Found → Found → Type 0

@@ -6,8 +6,10 @@ ghost use Rattle.lt_model.specs.Answers.{answers as answers_of, some_answer};
 ghost use Rattle.lt_model.specs.Bound.{are_bound};
 ghost use Rattle.lt_model.specs.Fits.{IsBodyOf};
 ghost use Rattle.lt_query.specs.Answering.{AreTestsBound};
+ghost use Rattle.lt_query.specs.Lists.{below};
 ghost use Rattle.lt_query.specs.Plan.{IsPlanOf};
 ghost use Rattle.lt_query.specs.Runnable.{IsRunnable};
+ghost use Rattle.lt_sense.specs.Ordered.{IsSealed};
 ghost use Rattle.lt_sense.specs.Sense.{IsTight};
 ghost use Rattle.lt_join.specs.Certify.{Certifies, Vouches};
 ghost use Rattle.lt_join.specs.Cost.{bound};
@@ -15,6 +17,7 @@ ghost use Rattle.lt_join.specs.Holders.{IsPrepared};
 
 use crate::Found;
 use crate::ascending::ascending;
+use crate::looking_up::look_ups_of;
 use crate::noted::NotedGaps;
 use crate::walk::{descend, roots_of};
 use lt_face::indexes::Indexes;
@@ -25,7 +28,7 @@ use lt_query::{Body, Plan, TermList};
 use lt_sense::Sense;
 use std::alloc::Global;
 
-/// As `answers`, of a body and a plan that can be walked, however many literals there are.
+/// As `answers_unsealed`, of a body and a plan that can be walked, however many literals there are.
 pub(crate) fn answers_prepared<I: Indexes, L>(
     alloc: Global,
     body: &Body,
@@ -37,6 +40,7 @@ pub(crate) fn answers_prepared<I: Indexes, L>(
     requires of_body { IsPlanOf body.now plan.now }
     requires prepared { IsPrepared body.now plan.now terms.now }
     requires has_indexes { AllByRecursion (λ guide. I.has_index indexes.now guide.relation guide.columns ≡ true) plan.now.guides }
+    requires has_firsts { AllByRecursion (λ atom. I.has_index indexes.now atom.relation (below (length atom.terms)) ≡ true) body.now.absents }
     requires tests { AreTestsBound body.now }
     requires are_bound { IsTrue (are_bound body.now terms.now) }
     ensures rows { IfOk result (λ found. found.0 ≡ answers_of terms.now body.now (I.state indexes.now)) }
@@ -45,27 +49,56 @@ pub(crate) fn answers_prepared<I: Indexes, L>(
     ensures gaps { IfOk result (λ found. moves.old + length found.1.gaps ≤ moves.new) }
     ensures hits { IfOk result (λ found. moves.old + length found.1.hits ≤ moves.new) }
     // also where memory is refused
-    ensures cost { moves.new ≤ moves.old + bound plan.now (I.state indexes.now) }
+    ensures cost { moves.new ≤ moves.old + bound body.now plan.now (I.state indexes.now) }
     ensures moves { moves.old ≤ moves.new }
 {
     let mut keys = Items::new(alloc);
     let mut noted = NotedGaps::new(alloc);
     let mut iters = roots_of(alloc, indexes, plan)?;
+    let look_ups = look_ups_of(alloc, indexes, body)?;
     let mut found = Found {
         sense: Sense::new(alloc),
         rows: Items::new(alloc),
     };
     descend(
-        alloc, indexes, &mut iters, body, plan, terms, &mut keys, &mut noted, &mut found, moves,
-        false,
+        alloc, indexes, &mut iters, &look_ups, body, plan, terms, &mut keys, &mut noted,
+        &mut found, moves, false,
     )?;
     let rows = ascending(found.rows.into_vec())?;
     Ok((rows, found.sense))
 }
 
-/// The answers of a body, ascending and each once: the terms' cells under the assignments that hold and whose rows are in
-/// the indexes' state; and what they were sensitive to. The plan is any of the body's, and each index that it goes through
-/// is there.
+/// As `answers`, with the sense in the order in which it was gathered.
+pub fn answers_unsealed<I: Indexes, L>(
+    alloc: Global,
+    body: &Body,
+    plan: &Plan,
+    terms: &TermList,
+    indexes: &I,
+    moves: &mut Moves<L>,
+) -> Result<(RowList, Sense), NoMemory>
+    requires of_body { IsPlanOf body.now plan.now }
+    requires runnable { IsRunnable body.now plan.now }
+    requires fits { IsBodyOf (I.state indexes.now) body.now }
+    requires has_indexes { AllByRecursion (λ guide. I.has_index indexes.now guide.relation guide.columns ≡ true) plan.now.guides }
+    requires has_firsts { AllByRecursion (λ atom. I.has_index indexes.now atom.relation (below (length atom.terms)) ≡ true) body.now.absents }
+    requires are_bound { IsTrue (are_bound body.now terms.now) }
+    requires narrow { length terms.now ≤ most_columns }
+    ensures rows { IfOk result (λ found. found.0 ≡ answers_of terms.now body.now (I.state indexes.now)) }
+    ensures certified { IfOk result (λ found. Certifies found.1 body.now (I.state indexes.now)) }
+    ensures tight { IfOk result (λ found. IsTight found.1 (I.state indexes.now)) }
+    ensures gaps { IfOk result (λ found. moves.old + length found.1.gaps ≤ moves.new) }
+    ensures hits { IfOk result (λ found. moves.old + length found.1.hits ≤ moves.new) }
+    // also where memory is refused
+    ensures cost { moves.new ≤ moves.old + bound body.now plan.now (I.state indexes.now) }
+    ensures moves { moves.old ≤ moves.new }
+{
+    answers_prepared(alloc, body, plan, terms, indexes, moves)
+}
+
+/// The answers of a body, ascending and each once: the terms' cells under the assignments that hold, whose rows are in the
+/// indexes' state, and none of whose absent rows is; and what they were sensitive to, sealed. The plan is any of the body's, each
+/// index that it goes through is there, and so is the first index of each negated atom.
 pub fn answers<I: Indexes, L>(
     alloc: Global,
     body: &Body,
@@ -78,6 +111,7 @@ pub fn answers<I: Indexes, L>(
     requires runnable { IsRunnable body.now plan.now }
     requires fits { IsBodyOf (I.state indexes.now) body.now }
     requires has_indexes { AllByRecursion (λ guide. I.has_index indexes.now guide.relation guide.columns ≡ true) plan.now.guides }
+    requires has_firsts { AllByRecursion (λ atom. I.has_index indexes.now atom.relation (below (length atom.terms)) ≡ true) body.now.absents }
     requires are_bound { IsTrue (are_bound body.now terms.now) }
     requires narrow { length terms.now ≤ most_columns }
     ensures rows { IfOk result (λ found. found.0 ≡ answers_of terms.now body.now (I.state indexes.now)) }
@@ -86,13 +120,54 @@ pub fn answers<I: Indexes, L>(
     ensures gaps { IfOk result (λ found. moves.old + length found.1.gaps ≤ moves.new) }
     ensures hits { IfOk result (λ found. moves.old + length found.1.hits ≤ moves.new) }
     // also where memory is refused
-    ensures cost { moves.new ≤ moves.old + bound plan.now (I.state indexes.now) }
+    ensures cost { moves.new ≤ moves.old + bound body.now plan.now (I.state indexes.now) }
     ensures moves { moves.old ≤ moves.new }
+    ensures sealed { IfOk result (λ found. IsSealed found.1) }
 {
-    answers_prepared(alloc, body, plan, terms, indexes, moves)
+    let (rows, mut sense) = answers_unsealed(alloc, body, plan, terms, indexes, moves)?;
+    sense.seal()?;
+    Ok((rows, sense))
 }
 
-/// Whether the body has an answer, and what that was sensitive to. It stops at the first.
+/// As `some`, with the sense in the order in which it was gathered.
+pub fn some_unsealed<I: Indexes, L>(
+    alloc: Global,
+    body: &Body,
+    plan: &Plan,
+    indexes: &I,
+    moves: &mut Moves<L>,
+) -> Result<(bool, Sense), NoMemory>
+    requires of_body { IsPlanOf body.now plan.now }
+    requires runnable { IsRunnable body.now plan.now }
+    requires fits { IsBodyOf (I.state indexes.now) body.now }
+    requires has_indexes { AllByRecursion (λ guide. I.has_index indexes.now guide.relation guide.columns ≡ true) plan.now.guides }
+    requires has_firsts { AllByRecursion (λ atom. I.has_index indexes.now atom.relation (below (length atom.terms)) ≡ true) body.now.absents }
+    ensures truth { IfOk result (λ found. found.0 ≡ some_answer body.now (I.state indexes.now)) }
+    ensures vouched { IfOk result (λ found. Vouches found.1 body.now (I.state indexes.now)) }
+    ensures tight { IfOk result (λ found. IsTight found.1 (I.state indexes.now)) }
+    ensures gaps { IfOk result (λ found. moves.old + length found.1.gaps ≤ moves.new) }
+    ensures hits { IfOk result (λ found. moves.old + length found.1.hits ≤ moves.new) }
+    // also where memory is refused
+    ensures cost { moves.new ≤ moves.old + bound body.now plan.now (I.state indexes.now) }
+    ensures moves { moves.old ≤ moves.new }
+{
+    let mut keys = Items::new(alloc);
+    let mut noted = NotedGaps::new(alloc);
+    let mut iters = roots_of(alloc, indexes, plan)?;
+    let look_ups = look_ups_of(alloc, indexes, body)?;
+    let terms = Items::new(alloc);
+    let mut found = Found {
+        sense: Sense::new(alloc),
+        rows: Items::new(alloc),
+    };
+    let truth = descend(
+        alloc, indexes, &mut iters, &look_ups, body, plan, &terms, &mut keys, &mut noted,
+        &mut found, moves, true,
+    )?;
+    Ok((truth, found.sense))
+}
+
+/// Whether the body has an answer, and what that was sensitive to, sealed. It stops at the first.
 pub fn some<I: Indexes, L>(
     alloc: Global,
     body: &Body,
@@ -104,26 +179,18 @@ pub fn some<I: Indexes, L>(
     requires runnable { IsRunnable body.now plan.now }
     requires fits { IsBodyOf (I.state indexes.now) body.now }
     requires has_indexes { AllByRecursion (λ guide. I.has_index indexes.now guide.relation guide.columns ≡ true) plan.now.guides }
+    requires has_firsts { AllByRecursion (λ atom. I.has_index indexes.now atom.relation (below (length atom.terms)) ≡ true) body.now.absents }
     ensures truth { IfOk result (λ found. found.0 ≡ some_answer body.now (I.state indexes.now)) }
     ensures vouched { IfOk result (λ found. Vouches found.1 body.now (I.state indexes.now)) }
     ensures tight { IfOk result (λ found. IsTight found.1 (I.state indexes.now)) }
     ensures gaps { IfOk result (λ found. moves.old + length found.1.gaps ≤ moves.new) }
     ensures hits { IfOk result (λ found. moves.old + length found.1.hits ≤ moves.new) }
     // also where memory is refused
-    ensures cost { moves.new ≤ moves.old + bound plan.now (I.state indexes.now) }
+    ensures cost { moves.new ≤ moves.old + bound body.now plan.now (I.state indexes.now) }
     ensures moves { moves.old ≤ moves.new }
+    ensures sealed { IfOk result (λ found. IsSealed found.1) }
 {
-    let mut keys = Items::new(alloc);
-    let mut noted = NotedGaps::new(alloc);
-    let mut iters = roots_of(alloc, indexes, plan)?;
-    let terms = Items::new(alloc);
-    let mut found = Found {
-        sense: Sense::new(alloc),
-        rows: Items::new(alloc),
-    };
-    let truth = descend(
-        alloc, indexes, &mut iters, body, plan, &terms, &mut keys, &mut noted, &mut found, moves,
-        true,
-    )?;
-    Ok((truth, found.sense))
+    let (truth, mut sense) = some_unsealed(alloc, body, plan, indexes, moves)?;
+    sense.seal()?;
+    Ok((truth, sense))
 }

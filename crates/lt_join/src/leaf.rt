@@ -31,6 +31,19 @@ fn give_levels(values: &mut Values, levels: &[Level], keys: &[Key])
     }
 }
 
+/// The values that the keys of all levels give the variables.
+pub(crate) fn leaf_values(body: &Body, plan: &Plan, keys: &Items<Key>) -> Values
+    requires as_long { length plan.now.levels ≤ length keys.now }
+    requires variables { AllByRecursion (λ level. IsTermOf most_variables level.term) plan.now.levels }
+    requires tests { AllByRecursion IsTest body.now.tests }
+    ensures { assigned (values_in result.cells) ≡ leaf_assignment body.now plan.now.levels (at keys.now) }
+{
+    let mut values = Values::none();
+    give_levels(&mut values, plan.levels.as_slice(), keys.as_slice());
+    give_each(&mut values, body.tests.as_slice());
+    values
+}
+
 /// The answer that the keys of all levels give, where the tests hold.
 pub(crate) fn leaf_answer(
     alloc: Global,

@@ -8,6 +8,7 @@ mod covering;
 mod keeping;
 mod leaf;
 mod level;
+mod looking_up;
 mod mending;
 mod mending_copy;
 mod mending_join;
@@ -22,7 +23,7 @@ mod slicing;
 pub mod values;
 mod walk;
 
-pub use answer::{answers, some};
+pub use answer::{answers, answers_unsealed, some, some_unsealed};
 pub use covering::agreeing_states_answer_alike;
 use lt_face::items::RowList;
 use lt_sense::Sense;
@@ -33,7 +34,7 @@ pub use mending_read::{rows_of_slices, spot_in};
 pub use mending_shared::{SharedSlice, SharedSlices};
 pub use mending_touched::touched_keys;
 pub use seat::{LoneKey, Seat, Walk};
-pub use slicing::{Slice, slices, slices_make_the_whole};
+pub use slicing::{Slice, slices, slices_make_the_whole, slices_unsealed};
 
 /// What a walk has found so far: the sense, and rows that are answers.
 #[derive(Drop)]

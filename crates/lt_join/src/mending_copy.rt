@@ -49,8 +49,10 @@ pub(crate) fn pin_body(alloc: Global, body: &Body, term: Term, key: Key) -> Resu
     };
     let tests = with_test(alloc, test, body.tests.as_slice())?;
     let atoms = copy_atoms(alloc, body.atoms.as_slice())?;
+    let absents = copy_atoms(alloc, body.absents.as_slice())?;
     Ok(Body {
         atoms,
+        absents,
         tests,
         vars: body.vars,
     })

@@ -7,13 +7,12 @@ ghost use Rattle.lt_face.specs.State.{State};
 ghost use Rattle.lt_model.specs.Bound.{are_bound};
 ghost use Rattle.lt_model.specs.Cells.{is_cell};
 ghost use Rattle.lt_model.specs.Fits.{IsBodyOf};
-ghost use Rattle.lt_query.specs.Lists.{IsRising};
+ghost use Rattle.lt_query.specs.Lists.{IsRising, below};
 ghost use Rattle.lt_query.specs.Plan.{IsPlanOf, term_at};
 ghost use Rattle.lt_query.specs.Runnable.{IsRunnable};
-ghost use Rattle.lt_join.specs.Cost.{bound};
 ghost use Rattle.lt_sense.specs.Cut.{cut};
 ghost use Rattle.lt_join.specs.Mended.{AreSlicesOn, HaveTouched, AreMended};
-ghost use Rattle.lt_join.specs.MendedPlan.{IsForbidden, pinned_plan, mending_cost};
+ghost use Rattle.lt_join.specs.MendedPlan.{IsForbidden, slice_cost, mending_cost};
 ghost use Rattle.lt_join.specs.Sliced.{slice_keys, IsSliceOf};
 
 use crate::answer::answers_prepared;
@@ -69,13 +68,14 @@ fn join_slice<I: Indexes, L>(
     requires runnable { IsRunnable body.now plan.now }
     requires fits { IsBodyOf (I.state indexes.now) body.now }
     requires has_indexes { AllByRecursion (λ guide. I.has_index indexes.now guide.relation guide.columns ≡ true) plan.now.guides }
+    requires has_firsts { AllByRecursion (λ atom. I.has_index indexes.now atom.relation (below (length atom.terms)) ≡ true) body.now.absents }
     requires are_bound { IsTrue (are_bound body.now terms.now) }
     requires narrow { length terms.now ≤ most_columns }
     requires has_levels { 0 < length plan.now.levels }
     ensures key { IfOk result (λ slice. slice.key ≡ key) }
     ensures slice { IfOk result (IsSliceOf terms.now body.now (term_at plan.now.levels 0) (I.state indexes.now)) }
     // also where memory is refused
-    ensures cost { moves.new ≤ moves.old + bound (pinned_plan key plan.now) (I.state indexes.now) }
+    ensures cost { moves.new ≤ moves.old + slice_cost key body.now plan.now (I.state indexes.now) }
     ensures moves { moves.old ≤ moves.new }
 {
     let level = &plan.levels.as_slice()[0];
@@ -104,13 +104,14 @@ fn join_slices<I: Indexes, L>(
     requires runnable { IsRunnable body.now plan.now }
     requires fits { IsBodyOf (I.state indexes.now) body.now }
     requires has_indexes { AllByRecursion (λ guide. I.has_index indexes.now guide.relation guide.columns ≡ true) plan.now.guides }
+    requires has_firsts { AllByRecursion (λ atom. I.has_index indexes.now atom.relation (below (length atom.terms)) ≡ true) body.now.absents }
     requires are_bound { IsTrue (are_bound body.now terms.now) }
     requires narrow { length terms.now ≤ most_columns }
     requires has_levels { 0 < length plan.now.levels }
     ensures keys { IfOk result (λ slices. slice_keys slices ≡ keys.now) }
     ensures slices { IfOk result (AllByRecursion (IsSliceOf terms.now body.now (term_at plan.now.levels 0) (I.state indexes.now))) }
     // also where memory is refused
-    ensures cost { moves.new ≤ moves.old + mending_cost keys.now plan.now (I.state indexes.now) }
+    ensures cost { moves.new ≤ moves.old + mending_cost keys.now body.now plan.now (I.state indexes.now) }
     ensures moves { moves.old ≤ moves.new }
 {
     let mut slices = Items::new(alloc);
@@ -140,6 +141,7 @@ pub fn mend<I: Indexes, L>(
     requires runnable { IsRunnable body.now plan.now }
     requires fits { IsBodyOf (I.state indexes.now) body.now }
     requires has_indexes { AllByRecursion (λ guide. I.has_index indexes.now guide.relation guide.columns ≡ true) plan.now.guides }
+    requires has_firsts { AllByRecursion (λ atom. I.has_index indexes.now atom.relation (below (length atom.terms)) ≡ true) body.now.absents }
     requires are_bound { IsTrue (are_bound body.now terms.now) }
     requires narrow { length terms.now ≤ most_columns }
     requires has_levels { 0 < length plan.now.levels }
@@ -149,7 +151,7 @@ pub fn mend<I: Indexes, L>(
     ensures slices { IfOk result (λ mended. AreMended keys.now slices.now mended.1) }
     ensures right { IfOk result (λ mended. (s : State) → AreSlicesOn terms.now body.now plan.now s root.now slices.now → HaveTouched keys.now root.now slices.now s (I.state indexes.now) → AreSlicesOn terms.now body.now plan.now (I.state indexes.now) mended.0 mended.1) }
     // also where memory is refused
-    ensures cost { moves.new ≤ moves.old + mending_cost keys.now plan.now (I.state indexes.now) }
+    ensures cost { moves.new ≤ moves.old + mending_cost keys.now body.now plan.now (I.state indexes.now) }
     ensures moves { moves.old ≤ moves.new }
 {
     let joined = join_slices(alloc, body, plan, terms, indexes, keys, moves)?;

@@ -1,9 +1,9 @@
 //! The answers of a body, key by key of its first variable.
-ghost use Rattle.std.specs.Prelude.{◌≡◌, ◌≤◌, ◌<◌, ◌+◌, ◌-◌, ◌^◌, ◌∷◌, [], List, true, length, slice_get, drop, Some, IfOk, IsTrue};
+ghost use Rattle.std.specs.Prelude.{◌≡◌, ◌≤◌, ◌<◌, ◌+◌, ◌-◌, ◌^◌, ◌∷◌, [], ℕ, List, true, length, slice_get, drop, Some, IfOk, OnOk, IsTrue};
 ghost use Rattle.std.specs.List.{AllByRecursion, AllZip};
 ghost use Rattle.lt_face.specs.Limits.{most_columns};
 ghost use Rattle.lt_face.specs.Lists.{IsIn};
-ghost use Rattle.lt_face.specs.State.{State};
+ghost use Rattle.lt_face.specs.State.{Row as RowView, State};
 ghost use Rattle.lt_model.specs.declared.normal.Term.{Term as TermView};
 ghost use Rattle.lt_model.specs.declared.normal.Body.{Body as BodyView};
 ghost use Rattle.lt_model.specs.Answers.{answers as answers_of, ascending as ascending_rows, terms_of};
@@ -11,22 +11,25 @@ ghost use Rattle.lt_model.specs.Bound.{are_bound};
 ghost use Rattle.lt_model.specs.Cells.{is_cell};
 ghost use Rattle.lt_model.specs.Fits.{IsBodyOf};
 ghost use Rattle.lt_query.specs.Answering.{AreTestsBound};
-ghost use Rattle.lt_query.specs.Lists.{IsRising};
+ghost use Rattle.lt_query.specs.Lists.{IsRising, below};
 ghost use Rattle.lt_query.specs.Plan.{IsPlanOf, term_at};
 ghost use Rattle.lt_query.specs.Runnable.{IsRunnable};
+ghost use Rattle.lt_sense.specs.Cells.{HaveSameCells};
 ghost use Rattle.lt_sense.specs.Kept.{Sense as SenseView};
-ghost use Rattle.lt_sense.specs.Sense.{IsTight};
+ghost use Rattle.lt_sense.specs.Ordered.{IsSealed};
+ghost use Rattle.lt_sense.specs.Sense.{covers, IsTight};
 ghost use Rattle.lt_join.specs.Certify.{Certifies};
 ghost use Rattle.lt_join.specs.Cost.{bound, cost_from};
 ghost use Rattle.lt_join.specs.Explored.{Fits};
-ghost use Rattle.lt_join.specs.Holders.{IsPrepared, IsTrieOf, IsOpen, atoms_at};
+ghost use Rattle.lt_join.specs.Holders.{IsPrepared, IsTrieOf, IsOpen, IsLookUpOf, atoms_at};
 ghost use Rattle.lt_join.specs.Walked.{at};
 ghost use Rattle.lt_join.specs.declared.slicing.Slice.{Slice as SliceView};
-ghost use Rattle.lt_join.specs.Sliced.{pinned, slice_keys, united, sliced_rows, CertifiesBut, IsSliceOf, AreRooted, AreRootGaps, AreFoundKeys};
+ghost use Rattle.lt_join.specs.Sliced.{pinned, slice_keys, united, sliced_rows, AreSealed, CertifiesBut, IsSliceOf, AreRooted, AreRootGaps, AreFoundKeys};
 
 use crate::Found;
 use crate::ascending::ascending;
 use crate::level::{Joined, next_key, open_level};
+use crate::looking_up::{LookUp, look_ups_of};
 use crate::mending_shared::{SharedSlice, SharedSlices};
 use crate::noted::NotedGaps;
 use crate::walk::{add_hits, descend, enter, leave, roots_of};
@@ -56,12 +59,29 @@ pub fn slices_make_the_whole()
     ensures answers { (root : SenseView) (slices : List SliceView) (terms : List TermView) (term : TermView) (body : BodyView) (state : State) → AreTestsBound body → are_bound body terms ≡ true → IsIn term (terms_of body.atoms) → CertifiesBut (slice_keys slices) term root body state → AllByRecursion (IsSliceOf terms body term state) slices → answers_of terms body state ≡ ascending_rows (sliced_rows slices) }
 {}
 
+/// Puts the sense in order, where that is asked for.
+fn seal_if(sense: &mut Sense, sealing: bool) -> Result<(), NoMemory>
+    ensures sealed { OnOk result (sealing ≡ true → IsSealed sense.new) }
+    ensures cells { OnOk result (HaveSameCells sense.old.gaps sense.new.gaps) }
+    ensures covers { OnOk result ((relation : ℕ) (row : RowView) → covers sense.new relation row ≡ covers sense.old relation row) }
+    ensures gaps { OnOk result (length sense.new.gaps ≤ length sense.old.gaps) }
+    ensures hits { OnOk result (length sense.new.hits ≤ length sense.old.hits) }
+    ensures tight { OnOk result ((state : State) → IsTight sense.old state → IsTight sense.new state) }
+{
+    if !sealing {
+        return Ok(());
+    }
+    sense.seal()?;
+    Ok(())
+}
+
 /// The slice of the key where the first level stands.
 fn slice_at<'a, I: Indexes, L>(
     alloc: Global,
     tables: &'a I,
     iters: &mut Vec<TrieIter<'a, I::Rows>>,
     joined: &Joined<'a, I::Rows>,
+    look_ups: &[LookUp<'a, I::Rows>],
     body: &Body,
     plan: &Plan,
     level: &Level,
@@ -69,6 +89,7 @@ fn slice_at<'a, I: Indexes, L>(
     keys: &mut Items<Key>,
     noted: &mut NotedGaps,
     moves: &mut Moves<L>,
+    sealing: bool,
 ) -> Result<Slice, NoMemory>
     requires of_body { IsPlanOf body.now plan.now }
     requires prepared { IsPrepared body.now plan.now terms.now }
@@ -77,16 +98,18 @@ fn slice_at<'a, I: Indexes, L>(
     requires first { slice_get plan.now.levels 0 ≡ Some level.now }
     requires at_root { keys.old ≡ [] }
     requires iters { AllZip (IsTrieOf (I.state tables.now) (length keys.old) (at keys.old)) plan.now.guides iters.old.items }
+    requires look_ups { AllZip (IsLookUpOf (I.state tables.now)) body.now.absents look_ups.now }
     requires is_open { IsOpen plan.now (I.state tables.now) keys.old level.now joined.now.leap joined.now.key }
     requires stands { (is_cell joined.now.key ≡ true) × Fits level.now (at keys.old) joined.now.key }
     requires at_key { joined.now.key < 2 ^ 128 - 1 }
     // also where memory is refused
-    ensures cost { moves.new ≤ moves.old + cost_from (I.state tables.now) plan.now.guides (drop 1 plan.now.levels) 1 (at (joined.now.key ∷ [])) }
+    ensures cost { moves.new ≤ moves.old + cost_from (length body.now.absents) (I.state tables.now) plan.now.guides (drop 1 plan.now.levels) 1 (at (joined.now.key ∷ [])) }
     ensures moves { moves.old ≤ moves.new }
     ensures back { IfOk result (λ _. keys.new ≡ keys.old) }
     ensures iters { IfOk result (λ _. AllZip (IsTrieOf (I.state tables.now) (length keys.old) (at keys.old)) plan.now.guides iters.new.items) }
     ensures key { IfOk result (λ slice. slice.key ≡ joined.now.key) }
     ensures slice { IfOk result (IsSliceOf terms.now body.now (term_at plan.now.levels 0) (I.state tables.now)) }
+    ensures sealed { IfOk result (λ slice. sealing ≡ true → IsSealed slice.sense) }
     ensures gaps { IfOk result (λ slice. length slice.sense.gaps + moves.old ≤ moves.new) }
     ensures hits { IfOk result (λ slice. length slice.sense.hits + moves.old ≤ moves.new + length (atoms_at plan.now.guides 0)) }
 {
@@ -99,32 +122,35 @@ fn slice_at<'a, I: Indexes, L>(
     keys.push(joined.key)?;
     add_hits(alloc, tables, iters, plan, keys, &mut found.sense)?;
     descend(
-        alloc, tables, iters, body, plan, terms, keys, noted, &mut found, moves, false,
+        alloc, tables, iters, look_ups, body, plan, terms, keys, noted, &mut found, moves, false,
     )?;
     keys.pop();
     leave(tables, iters, plan, keys, joined.key);
     let rows = ascending(found.rows.into_vec())?;
+    let mut sense = found.sense;
+    seal_if(&mut sense, sealing)?;
     Ok(Slice {
         key: joined.key,
         rows,
-        sense: found.sense,
+        sense,
     })
 }
 
-/// The body's answers and what they were sensitive to, key by key of its first variable: the root gaps, which are those of
-/// that variable's level, and a slice for each key that was found there. The body has an atom; else it is as in `answers`.
-pub fn slices<I: Indexes, L>(
+/// As `slices`, which seals, and `slices_unsealed`, which doesn't.
+fn gather_slices<I: Indexes, L>(
     alloc: Global,
     body: &Body,
     plan: &Plan,
     terms: &TermList,
     indexes: &I,
     moves: &mut Moves<L>,
+    sealing: bool,
 ) -> Result<(Sense, SharedSlices), NoMemory>
     requires of_body { IsPlanOf body.now plan.now }
     requires runnable { IsRunnable body.now plan.now }
     requires fits { IsBodyOf (I.state indexes.now) body.now }
     requires has_indexes { AllByRecursion (λ guide. I.has_index indexes.now guide.relation guide.columns ≡ true) plan.now.guides }
+    requires has_firsts { AllByRecursion (λ atom. I.has_index indexes.now atom.relation (below (length atom.terms)) ≡ true) body.now.absents }
     requires are_bound { IsTrue (are_bound body.now terms.now) }
     requires narrow { length terms.now ≤ most_columns }
     requires has_levels { 0 < length plan.now.levels }
@@ -140,12 +166,14 @@ pub fn slices<I: Indexes, L>(
     ensures gaps { IfOk result (λ found. moves.old + length (united found.0 found.1).gaps ≤ moves.new) }
     ensures hits { IfOk result (λ found. moves.old + length (united found.0 found.1).hits ≤ moves.new) }
     // also where memory is refused
-    ensures cost { moves.new ≤ moves.old + bound plan.now (I.state indexes.now) }
+    ensures cost { moves.new ≤ moves.old + bound body.now plan.now (I.state indexes.now) }
     ensures moves { moves.old ≤ moves.new }
+    ensures sealed { IfOk result (λ found. sealing ≡ true → AreSealed found.0 found.1) }
 {
     let mut keys = Items::new(alloc);
     let mut noted = NotedGaps::new(alloc);
     let mut iters = roots_of(alloc, indexes, plan)?;
+    let look_ups = look_ups_of(alloc, indexes, body)?;
     let mut root = Sense::new(alloc);
     let mut slices = Items::new(alloc);
     let level = &plan.levels.as_slice()[0];
@@ -154,8 +182,8 @@ pub fn slices<I: Indexes, L>(
     )?;
     while joined.key < END {
         let slice = slice_at(
-            alloc, indexes, &mut iters, &joined, body, plan, level, terms, &mut keys, &mut noted,
-            moves,
+            alloc, indexes, &mut iters, &joined, &look_ups, body, plan, level, terms, &mut keys,
+            &mut noted, moves, sealing,
         )?;
         let shared = SharedSlice::new(alloc, slice)?;
         slices.push(shared)?;
@@ -170,5 +198,78 @@ pub fn slices<I: Indexes, L>(
             moves,
         )?;
     }
+    seal_if(&mut root, sealing)?;
     Ok((root, slices))
+}
+
+/// As `slices`, with the senses in the order in which they were gathered.
+pub fn slices_unsealed<I: Indexes, L>(
+    alloc: Global,
+    body: &Body,
+    plan: &Plan,
+    terms: &TermList,
+    indexes: &I,
+    moves: &mut Moves<L>,
+) -> Result<(Sense, SharedSlices), NoMemory>
+    requires of_body { IsPlanOf body.now plan.now }
+    requires runnable { IsRunnable body.now plan.now }
+    requires fits { IsBodyOf (I.state indexes.now) body.now }
+    requires has_indexes { AllByRecursion (λ guide. I.has_index indexes.now guide.relation guide.columns ≡ true) plan.now.guides }
+    requires has_firsts { AllByRecursion (λ atom. I.has_index indexes.now atom.relation (below (length atom.terms)) ≡ true) body.now.absents }
+    requires are_bound { IsTrue (are_bound body.now terms.now) }
+    requires narrow { length terms.now ≤ most_columns }
+    requires has_levels { 0 < length plan.now.levels }
+    ensures ascending { IfOk result (λ found. IsRising (slice_keys found.1)) }
+    ensures slices { IfOk result (λ found. AllByRecursion (IsSliceOf terms.now body.now (term_at plan.now.levels 0) (I.state indexes.now)) found.1) }
+    ensures found { IfOk result (λ found. AreFoundKeys plan.now (I.state indexes.now) (slice_keys found.1)) }
+    ensures rooted { IfOk result (λ found. AreRooted plan.now found.0 (slice_keys found.1)) }
+    ensures root_gaps { IfOk result (λ found. AreRootGaps found.0) }
+    ensures root_hits { IfOk result (λ found. found.0.hits ≡ []) }
+    ensures rows { IfOk result (λ found. ascending_rows (sliced_rows found.1) ≡ answers_of terms.now body.now (I.state indexes.now)) }
+    ensures certified { IfOk result (λ found. Certifies (united found.0 found.1) body.now (I.state indexes.now)) }
+    ensures tight { IfOk result (λ found. IsTight (united found.0 found.1) (I.state indexes.now)) }
+    ensures gaps { IfOk result (λ found. moves.old + length (united found.0 found.1).gaps ≤ moves.new) }
+    ensures hits { IfOk result (λ found. moves.old + length (united found.0 found.1).hits ≤ moves.new) }
+    // also where memory is refused
+    ensures cost { moves.new ≤ moves.old + bound body.now plan.now (I.state indexes.now) }
+    ensures moves { moves.old ≤ moves.new }
+{
+    gather_slices(alloc, body, plan, terms, indexes, moves, false)
+}
+
+/// The body's answers and what they were sensitive to, key by key of its first variable: the root gaps, which are those of
+/// that variable's level, and a slice for each key that was found there, all sealed. The body has an atom; else it is as in `answers`.
+pub fn slices<I: Indexes, L>(
+    alloc: Global,
+    body: &Body,
+    plan: &Plan,
+    terms: &TermList,
+    indexes: &I,
+    moves: &mut Moves<L>,
+) -> Result<(Sense, SharedSlices), NoMemory>
+    requires of_body { IsPlanOf body.now plan.now }
+    requires runnable { IsRunnable body.now plan.now }
+    requires fits { IsBodyOf (I.state indexes.now) body.now }
+    requires has_indexes { AllByRecursion (λ guide. I.has_index indexes.now guide.relation guide.columns ≡ true) plan.now.guides }
+    requires has_firsts { AllByRecursion (λ atom. I.has_index indexes.now atom.relation (below (length atom.terms)) ≡ true) body.now.absents }
+    requires are_bound { IsTrue (are_bound body.now terms.now) }
+    requires narrow { length terms.now ≤ most_columns }
+    requires has_levels { 0 < length plan.now.levels }
+    ensures ascending { IfOk result (λ found. IsRising (slice_keys found.1)) }
+    ensures slices { IfOk result (λ found. AllByRecursion (IsSliceOf terms.now body.now (term_at plan.now.levels 0) (I.state indexes.now)) found.1) }
+    ensures found { IfOk result (λ found. AreFoundKeys plan.now (I.state indexes.now) (slice_keys found.1)) }
+    ensures rooted { IfOk result (λ found. AreRooted plan.now found.0 (slice_keys found.1)) }
+    ensures root_gaps { IfOk result (λ found. AreRootGaps found.0) }
+    ensures root_hits { IfOk result (λ found. found.0.hits ≡ []) }
+    ensures rows { IfOk result (λ found. ascending_rows (sliced_rows found.1) ≡ answers_of terms.now body.now (I.state indexes.now)) }
+    ensures certified { IfOk result (λ found. Certifies (united found.0 found.1) body.now (I.state indexes.now)) }
+    ensures tight { IfOk result (λ found. IsTight (united found.0 found.1) (I.state indexes.now)) }
+    ensures gaps { IfOk result (λ found. moves.old + length (united found.0 found.1).gaps ≤ moves.new) }
+    ensures hits { IfOk result (λ found. moves.old + length (united found.0 found.1).hits ≤ moves.new) }
+    // also where memory is refused
+    ensures cost { moves.new ≤ moves.old + bound body.now plan.now (I.state indexes.now) }
+    ensures moves { moves.old ≤ moves.new }
+    ensures sealed { IfOk result (λ found. AreSealed found.0 found.1) }
+{
+    gather_slices(alloc, body, plan, terms, indexes, moves, true)
 }

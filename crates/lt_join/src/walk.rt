@@ -7,11 +7,12 @@ ghost use Rattle.lt_join.specs.Explored.{with_key};
 ghost use Rattle.lt_query.specs.Plan.{IsPlanOf};
 ghost use Rattle.lt_join.specs.Cost.{cost_from, GainsFewer};
 ghost use Rattle.lt_join.specs.Walked.{at, Grows, HitsAbove, FoundGrows, IsRight, IsReached, IsExploredBelow, AreFoundUnder};
-ghost use Rattle.lt_join.specs.Holders.{IsPrepared, IsWalkable, IsTrieOf, IsOpen, atoms_at};
+ghost use Rattle.lt_join.specs.Holders.{IsPrepared, IsWalkable, IsTrieOf, IsOpen, IsLookUpOf, atoms_at};
 
 use crate::Found;
 use crate::leaf::leaf_answer;
 use crate::level::{Joined, holds, next_key, open_level};
+use crate::looking_up::{LookUp, lacks_rows};
 use crate::noted::NotedGaps;
 use crate::seat::Seat;
 use lt_face::indexes::Indexes;
@@ -139,35 +140,54 @@ pub(crate) fn roots_of<'a, I: Indexes>(
 }
 
 /// Adds the answer that the keys of all levels give, where they give one, and answers whether the walk stops there.
-fn at_leaf<I: Indexes>(
+fn at_leaf<'a, I: Indexes, L>(
     alloc: Global,
-    _tables: &I,
+    tables: &'a I,
+    look_ups: &[LookUp<'a, I::Rows>],
     body: &Body,
     plan: &Plan,
     terms: &Items<Term>,
     keys: &Items<Key>,
     found: &mut Found,
+    moves: &mut Moves<L>,
     first: bool,
 ) -> Result<bool, NoMemory>
     requires of_body { IsPlanOf body.now plan.now }
     requires prepared { IsPrepared body.now plan.now terms.now }
     requires full { length keys.now ≡ length plan.now.levels }
+    requires look_ups { AllZip (IsLookUpOf (I.state tables.now)) body.now.absents look_ups.now }
     requires reached { IsReached plan.now found.old.sense keys.now }
-    requires right { IsRight body.now terms.now (I.state _tables.now) found.old }
-    ensures sense { IfOk result (λ _. found.new.sense ≡ found.old.sense) }
+    requires right { IsRight body.now terms.now (I.state tables.now) found.old }
+    // also where memory is refused
+    ensures cost { moves.new ≤ moves.old + length body.now.absents }
+    ensures moves { moves.old ≤ moves.new }
+    ensures gains { IfOk result (λ _. GainsFewer found.old.sense found.new.sense moves.old moves.new) }
     ensures grows { IfOk result (λ _. FoundGrows found.old found.new) }
-    ensures right { IfOk result (λ _. IsRight body.now terms.now (I.state _tables.now) found.new) }
-    ensures under { IfOk result (λ _. AreFoundUnder terms.now body.now plan.now (I.state _tables.now) keys.now found.old found.new) }
+    ensures right { IfOk result (λ _. IsRight body.now terms.now (I.state tables.now) found.new) }
+    ensures under { IfOk result (λ _. AreFoundUnder terms.now body.now plan.now (I.state tables.now) keys.now found.old found.new) }
     ensures explored { IfOk result (λ _. IsExploredBelow body.now plan.now terms.now found.new keys.now) }
     ensures stopped { IfOk result (λ stopped. stopped ≡ true → 0 < length found.new.rows) }
     ensures asked { IfOk result (λ stopped. stopped ≡ true → first ≡ true) }
     ensures unfound { IfOk result (λ stopped. first ≡ true → stopped ≡ false → found.new.rows ≡ found.old.rows) }
 {
-    if let Some(row) = leaf_answer(alloc, body, plan, terms, keys) {
-        found.rows.push(row)?;
-        return Ok(first);
+    let Some(row) = leaf_answer(alloc, body, plan, terms, keys) else {
+        return Ok(false);
+    };
+    let lacks = lacks_rows(
+        alloc,
+        tables,
+        look_ups,
+        body,
+        plan,
+        keys,
+        &mut found.sense,
+        moves,
+    )?;
+    if !lacks {
+        return Ok(false);
     }
-    Ok(false)
+    found.rows.push(row)?;
+    Ok(first)
 }
 
 /// Explores the levels below the keys. Where the first answer suffices, it stops there.
@@ -175,6 +195,7 @@ pub(crate) fn descend<'a, I: Indexes, L>(
     alloc: Global,
     tables: &'a I,
     iters: &mut Vec<TrieIter<'a, I::Rows>>,
+    look_ups: &[LookUp<'a, I::Rows>],
     body: &Body,
     plan: &Plan,
     terms: &Items<Term>,
@@ -187,10 +208,11 @@ pub(crate) fn descend<'a, I: Indexes, L>(
     requires of_body { IsPlanOf body.now plan.now }
     requires prepared { IsPrepared body.now plan.now terms.now }
     requires iters { AllZip (IsTrieOf (I.state tables.now) (length keys.old) (at keys.old)) plan.now.guides iters.old.items }
+    requires look_ups { AllZip (IsLookUpOf (I.state tables.now)) body.now.absents look_ups.now }
     requires reached { IsReached plan.now found.old.sense keys.old }
     requires right { IsRight body.now terms.now (I.state tables.now) found.old }
     // also where memory is refused
-    ensures cost { moves.new ≤ moves.old + cost_from (I.state tables.now) plan.now.guides (drop (length keys.old) plan.now.levels) (length keys.old) (at keys.old) }
+    ensures cost { moves.new ≤ moves.old + cost_from (length body.now.absents) (I.state tables.now) plan.now.guides (drop (length keys.old) plan.now.levels) (length keys.old) (at keys.old) }
     ensures moves { moves.old ≤ moves.new }
     ensures gains { IfOk result (λ _. GainsFewer found.old.sense found.new.sense moves.old moves.new) }
     ensures back { IfOk result (λ _. keys.new ≡ keys.old) }
@@ -206,7 +228,9 @@ pub(crate) fn descend<'a, I: Indexes, L>(
 {
     let depth = keys.len();
     if depth == plan.levels.len() {
-        return at_leaf(alloc, tables, body, plan, terms, keys, found, first);
+        return at_leaf(
+            alloc, tables, look_ups, body, plan, terms, keys, found, moves, first,
+        );
     }
     let level = &plan.levels.as_slice()[depth];
     let mut joined = open_level(
@@ -225,7 +249,7 @@ pub(crate) fn descend<'a, I: Indexes, L>(
         keys.push(joined.key)?;
         add_hits(alloc, tables, iters, plan, keys, &mut found.sense)?;
         let stopped = descend(
-            alloc, tables, iters, body, plan, terms, keys, noted, found, moves, first,
+            alloc, tables, iters, look_ups, body, plan, terms, keys, noted, found, moves, first,
         )?;
         keys.pop();
         leave(tables, iters, plan, keys, joined.key);

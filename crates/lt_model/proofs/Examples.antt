@@ -127,7 +127,7 @@ bad_at_two = refl
 
 -- r(x0), x1 = x0 + 1
 abbrev next_body : Body
-next_body = record { atoms = record { relation = 0; terms = Var 0 ∷ [] } ∷ []; tests = Sum 1 (Var 0) false (Cell (int 1)) ∷ []; vars = 2 }
+next_body = record { atoms = record { relation = 0; terms = Var 0 ∷ [] } ∷ []; absents = []; tests = Sum 1 (Var 0) false (Cell (int 1)) ∷ []; vars = 2 }
 
 -- r has these rows of one int, and e these of two
 abbrev state_of : List Row → List Row → State
@@ -135,18 +135,18 @@ state_of r e = record { width = 1; rows = r } ∷ record { width = 2; rows = e }
 
 -- e(x0, x0)
 abbrev loop_body : Body
-loop_body = record { atoms = record { relation = 1; terms = Var 0 ∷ Var 0 ∷ [] } ∷ []; tests = []; vars = 1 }
+loop_body = record { atoms = record { relation = 1; terms = Var 0 ∷ Var 0 ∷ [] } ∷ []; absents = []; tests = []; vars = 1 }
 
 -- r(x0), r(x1), x0 > x1
 abbrev pairs_body : Body
-pairs_body = record { atoms = record { relation = 0; terms = Var 0 ∷ [] } ∷ record { relation = 0; terms = Var 1 ∷ [] } ∷ []; tests = Cmp (Var 0) Gt (Var 1) ∷ []; vars = 2 }
+pairs_body = record { atoms = record { relation = 0; terms = Var 0 ∷ [] } ∷ record { relation = 0; terms = Var 1 ∷ [] } ∷ []; absents = []; tests = Cmp (Var 0) Gt (Var 1) ∷ []; vars = 2 }
 
 -- r(c)
 abbrev there_body : ℕ → Body
-there_body c = record { atoms = record { relation = 0; terms = Cell c ∷ [] } ∷ []; tests = []; vars = 0 }
+there_body c = record { atoms = record { relation = 0; terms = Cell c ∷ [] } ∷ []; absents = []; tests = []; vars = 0 }
 
 abbrev no_body : Body
-no_body = record { atoms = []; tests = []; vars = 0 }
+no_body = record { atoms = []; absents = []; tests = []; vars = 0 }
 
 -- ---- which variables are bound
 
@@ -160,7 +160,7 @@ nothing_binds : is_bound next_body 2 ≡ false
 nothing_binds = refl
 
 -- other comparisons bind nothing
-above_binds_nothing : are_bound (record { atoms = []; tests = Cmp (Var 0) Gt (Cell (int 1)) ∷ []; vars = 1 }) (Var 0 ∷ []) ≡ false
+above_binds_nothing : are_bound (record { atoms = []; absents = []; tests = Cmp (Var 0) Gt (Cell (int 1)) ∷ []; vars = 1 }) (Var 0 ∷ []) ≡ false
 above_binds_nothing = refl
 
 -- ---- answers
@@ -182,7 +182,7 @@ next_answers : answers (Var 0 ∷ Var 1 ∷ []) next_body (state_of ((int 4 ∷ 
 next_answers = refl
 
 -- ascending, and each once
-sorted_answers : answers (Cell 9 ∷ Var 1 ∷ []) (record { atoms = record { relation = 1; terms = Var 0 ∷ Var 1 ∷ [] } ∷ []; tests = []; vars = 2 }) (state_of [] ((1 ∷ 8 ∷ []) ∷ (2 ∷ 6 ∷ []) ∷ (3 ∷ 8 ∷ []) ∷ [])) ≡ (9 ∷ 6 ∷ []) ∷ (9 ∷ 8 ∷ []) ∷ []
+sorted_answers : answers (Cell 9 ∷ Var 1 ∷ []) (record { atoms = record { relation = 1; terms = Var 0 ∷ Var 1 ∷ [] } ∷ []; absents = []; tests = []; vars = 2 }) (state_of [] ((1 ∷ 8 ∷ []) ∷ (2 ∷ 6 ∷ []) ∷ (3 ∷ 8 ∷ []) ∷ [])) ≡ (9 ∷ 6 ∷ []) ∷ (9 ∷ 8 ∷ []) ∷ []
 sorted_answers = refl
 
 -- a body with no literals holds once
@@ -277,7 +277,7 @@ nothing_to_do : run [] (state_of [] []) ≡ (Done [], [])
 nothing_to_do = refl
 
 -- the first leaves r(2), the second is refused and leaves nothing, the third sees r(2) alone
-one_after_another : serial ((Insert (r_cell 2) no_body ∷ []) ∷ failing ∷ (Print (Var 0 ∷ []) (Int ∷ []) (record { atoms = r_var 0 ∷ []; tests = []; vars = 1 }) ∷ []) ∷ []) (state_of [] []) ≡ ((Done [], plus 2 ∷ []) ∷ (Refused 2, []) ∷ (Done (record { statement = 1; kinds = Int ∷ []; rows = (2 ∷ []) ∷ [] } ∷ []), []) ∷ [], state_of ((2 ∷ []) ∷ []) [])
+one_after_another : serial ((Insert (r_cell 2) no_body ∷ []) ∷ failing ∷ (Print (Var 0 ∷ []) (Int ∷ []) (record { atoms = r_var 0 ∷ []; absents = []; tests = []; vars = 1 }) ∷ []) ∷ []) (state_of [] []) ≡ ((Done [], plus 2 ∷ []) ∷ (Refused 2, []) ∷ (Done (record { statement = 1; kinds = Int ∷ []; rows = (2 ∷ []) ∷ [] } ∷ []), []) ∷ [], state_of ((2 ∷ []) ∷ []) [])
 one_after_another = refl
 
 delete_and_insert : serial ((Delete (r_cell 1) no_body ∷ []) ∷ (Insert (r_cell 1) no_body ∷ []) ∷ []) (state_of ((1 ∷ []) ∷ []) []) ≡ ((Done [], minus 1 ∷ []) ∷ (Done [], plus 1 ∷ []) ∷ [], state_of ((1 ∷ []) ∷ []) [])

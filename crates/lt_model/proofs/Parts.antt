@@ -4,7 +4,7 @@ use Rattle.std.specs.Prelude.{codes, pos, neg_ℤ, ◌*◌, ◌^◌, ◌-◌, na
 use Rattle.lt_model.specs.declared.kind.Kind.TheVariants.{Int, Sym}
 use Rattle.lt_model.specs.declared.mark.Mark.{Mark}
 use Rattle.lt_model.specs.declared.syntax.Literal.{Literal}
-use Rattle.lt_model.specs.declared.syntax.Literal.TheVariants.{Atom, Cmp, Sum}
+use Rattle.lt_model.specs.declared.syntax.Literal.TheVariants.{Atom, Absent, Cmp, Sum}
 use Rattle.lt_model.specs.declared.syntax.Op.TheVariants.{Eq, Gt}
 use Rattle.lt_model.specs.declared.syntax.Statement.TheVariants.{Require, Print}
 use Rattle.lt_model.specs.Cells.{zero_cell, last_int, cell_int, cell_text, sym_cell, sum_of}
@@ -113,6 +113,22 @@ atom_after = refl
 by_sum : code (r_of x ∷ Sum y (s.var x) true (s.int 1) ∷ []) ≡ None
 by_sum = refl
 
+-- a negated atom binds nothing, but its relation, its width and its kinds are judged
+not_bound : code (Absent (s.on (codes "r") (s.var x ∷ [])) ∷ []) ≡ Some 23
+not_bound = refl
+
+bound_elsewhere : code (Absent (s.on (codes "r") (s.var y ∷ [])) ∷ r_of x ∷ Sum y (s.var x) true (s.int 1) ∷ []) ≡ None
+bound_elsewhere = refl
+
+negated_unknown : code (Absent (s.on (codes "t") (s.row1 1)) ∷ []) ≡ Some 20
+negated_unknown = refl
+
+negated_width : code (Absent (s.on (codes "r") (s.row2 1 2)) ∷ []) ≡ Some 21
+negated_width = refl
+
+negated_kind : code (r_of x ∷ Absent (s.on (codes "s") (s.var x ∷ [])) ∷ []) ≡ Some 22
+negated_kind = refl
+
 -- kinds: constants against each other, a variable in two columns, a chain of comparisons, a sum of a symbol
 constants : code (Cmp (s.int 1) Eq (s.quoted (codes "a")) ∷ []) ≡ Some 22
 constants = refl
@@ -150,10 +166,10 @@ abbrev stock_atom : ℕ → normal.Atom
 stock_atom v = record { relation = 0; terms = normal_terms.Cell (zero_cell + 1) ∷ normal_terms.Var v ∷ [] }
 
 abbrev some_left : Body
-some_left = record { atoms = stock_atom 0 ∷ []; tests = normal_tests.Cmp (normal_terms.Var 0) Gt (normal_terms.Cell zero_cell) ∷ []; vars = 1 }
+some_left = record { atoms = stock_atom 0 ∷ []; absents = []; tests = normal_tests.Cmp (normal_terms.Var 0) Gt (normal_terms.Cell zero_cell) ∷ []; vars = 1 }
 
 abbrev one_less : Body
-one_less = record { atoms = stock_atom 0 ∷ []; tests = normal_tests.Sum 1 (normal_terms.Var 0) true (normal_terms.Cell (zero_cell + 1)) ∷ []; vars = 2 }
+one_less = record { atoms = stock_atom 0 ∷ []; absents = []; tests = normal_tests.Sum 1 (normal_terms.Var 0) true (normal_terms.Cell (zero_cell + 1)) ∷ []; vars = 2 }
 
 abbrev normal_buyer : List Stmt
 normal_buyer = stmts.Require true some_left ∷ stmts.Replace (stock_atom 0) (stock_atom 1) one_less ∷ []
@@ -177,8 +193,10 @@ buyer_fits = record {
   each = (
     record {
       atoms = (an_atom 0 1 (omega arith), tt);
+      absents = tt;
       tests = ((omega arith, (a_cell zero_cell refl refl, tt)), tt);
       is_bound = (refl, tt);
+      are_absents_bound = tt;
       has_few_variables = omega arith;
       has_few_literals = omega arith;
     },
@@ -186,8 +204,10 @@ buyer_fits = record {
       (
         record {
           atoms = (an_atom 0 2 (omega arith), tt);
+          absents = tt;
           tests = ((omega arith, (omega arith, (one_cell, tt))), tt);
           is_bound = (refl, tt);
+          are_absents_bound = tt;
           has_few_variables = omega arith;
           has_few_literals = omega arith;
         },

@@ -93,3 +93,23 @@ older_version = whole (codes "relation r(int); batch program p insert r(2); inse
 refused : Script (codes "relation r(int); batch program l insert r(1); end; commit; batch program p insert r(2); require none r(2); insert r(3); end; commit; show r;") s.refused End
 unfolding digits
 refused = whole (codes "relation r(int); batch program l insert r(1); end; commit; batch program p insert r(2); require none r(2); insert r(3); end; commit; show r;") 1 s.refused refl refl refl
+
+negated : Script (codes "relation r(int); relation s(int); batch program l insert r(1); insert r(2); insert s(2); end; commit; batch program q print (x) where r(x), not s(x); end; commit;") s.negated End
+unfolding digits
+negated = whole (codes "relation r(int); relation s(int); batch program l insert r(1); insert r(2); insert s(2); end; commit; batch program q print (x) where r(x), not s(x); end; commit;") 1 s.negated refl refl refl
+
+negated_after_delete : Script (codes "relation r(int); relation s(int); batch program l insert r(1); insert r(2); insert s(2); end; commit; batch program p delete s(2); end; program q print (x) where r(x), not s(x); end; commit;") s.negated_after_delete End
+unfolding digits
+negated_after_delete = whole (codes "relation r(int); relation s(int); batch program l insert r(1); insert r(2); insert s(2); end; commit; batch program p delete s(2); end; program q print (x) where r(x), not s(x); end; commit;") 1 s.negated_after_delete refl refl refl
+
+negated_after_insert : Script (codes "relation r(int); relation s(int); batch program l insert r(1); insert r(2); insert s(2); end; commit; batch program p insert s(1); end; program q print (x) where r(x), not s(x); end; commit;") s.negated_after_insert End
+unfolding digits
+negated_after_insert = whole (codes "relation r(int); relation s(int); batch program l insert r(1); insert r(2); insert s(2); end; commit; batch program p insert s(1); end; program q print (x) where r(x), not s(x); end; commit;") 1 s.negated_after_insert refl refl refl
+
+negated_alone : Script (codes "relation r(int); relation s(int); batch program l insert r(1); insert r(2); insert s(2); end; commit; batch program p print (x) where not r(x); end; commit;") s.negated_alone End
+unfolding digits
+negated_alone = whole (codes "relation r(int); relation s(int); batch program l insert r(1); insert r(2); insert s(2); end; commit; batch program p print (x) where not r(x); end; commit;") 1 s.negated_alone refl refl refl
+
+no_seven : Script (codes "relation r(int); relation s(int); batch program l insert r(1); insert r(2); insert s(2); end; commit; batch program p require some not s(7); end; commit;") s.no_seven End
+unfolding digits
+no_seven = whole (codes "relation r(int); relation s(int); batch program l insert r(1); insert r(2); insert s(2); end; commit; batch program p require some not s(7); end; commit;") 1 s.no_seven refl refl refl

@@ -2,7 +2,7 @@
 use Rattle.std.specs.Prelude.{ℕ, Bool, true, false, ◌&&◌, not, ◌==◌, nat_lt, nat_le, if◌then◌else◌, List, [], ◌∷◌, map, Option, Some, None, unwrap_or, filter_map, flat_map, option_and_then}
 use Rattle.std.specs.List.{list_all, list_any}
 use Rattle.std.specs.Ordering.{is_eq}
-use Rattle.lt_face.specs.Rows.{row_cmp, with_row}
+use Rattle.lt_face.specs.Rows.{row_cmp, has_row, with_row}
 use Rattle.lt_model.specs.declared.syntax.Op.{Op}
 use Rattle.lt_model.specs.declared.syntax.Op.TheVariants.{Eq, Ne, Lt, Le, Gt, Ge}
 use Rattle.lt_model.specs.declared.normal.Term.{Term}
@@ -45,12 +45,12 @@ abbrev pub is_value : Option ℕ → ℕ → Bool
 is_value None x = false
 is_value (Some y) x = y == x
 
--- whether a literal that is no atom holds
+-- whether a comparison or a sum holds
 abbrev pub passes : Assignment → Test → Bool
 passes a (Cmp left op right) = compare_by op (cell_of a left) (cell_of a right)
 passes a (Sum v x minus y) = is_value (sum_of minus (cell_of a x) (cell_of a y)) (a v)
 
--- whether the atoms' rows are of cells, and each literal that is no atom holds
+-- whether the atoms' rows are of cells, and each comparison and each sum holds
 abbrev pub holds : Assignment → Body → Bool
 holds a body = list_all (λ row. list_all is_cell row) (rows_under a body.atoms) && list_all (passes a) body.tests
 
@@ -109,23 +109,27 @@ rows_eq [] (y ∷ ys) = false
 rows_eq (x ∷ xs) [] = false
 rows_eq (x ∷ xs) (y ∷ ys) = is_eq (row_cmp x y) && rows_eq xs ys
 
--- whether a pick is the rows of an assignment that holds
-abbrev pub fits_pick : Body → Assignment → List Row → Bool
-fits_pick body a pick = rows_eq (rows_under a body.atoms) pick && holds a body
+-- whether the state has none of the rows that the negated atoms name
+abbrev pub lacks : Assignment → List Atom → State → Bool
+lacks a absents state = list_all (λ (atom : Atom). not (has_row (rows_in state atom.relation) (cells_of a atom.terms))) absents
 
--- the terms' cells, where the pick is the rows of an assignment that holds
-abbrev pub answer_of : List Term → Body → List Row → Option Row
-answer_of terms body pick = let a : Assignment = assignment_of body pick in if fits_pick body a pick then Some (cells_of a terms) else None
+-- whether a pick is the rows of an assignment that holds and has no absent row in the state
+abbrev pub fits_pick : Body → State → Assignment → List Row → Bool
+fits_pick body state a pick = rows_eq (rows_under a body.atoms) pick && (holds a body && lacks a body.absents state)
+
+-- the terms' cells, where the pick fits
+abbrev pub answer_of : List Term → Body → State → List Row → Option Row
+answer_of terms body state pick = let a : Assignment = assignment_of body pick in if fits_pick body state a pick then Some (cells_of a terms) else None
 
 -- ascending, without repeats
 abbrev pub ascending : List Row → List Row
 ascending [] = []
 ascending (row ∷ rows) = with_row (ascending rows) row
 
--- the terms' cells over all picks that are the rows of an assignment that holds
+-- the terms' cells over all picks that fit
 abbrev pub answers : List Term → Body → State → List Row
-answers terms body state = ascending (filter_map (answer_of terms body) (picks body.atoms state))
+answers terms body state = ascending (filter_map (answer_of terms body state) (picks body.atoms state))
 
 -- whether there is such a pick
 abbrev pub some_answer : Body → State → Bool
-some_answer body state = list_any (λ pick. fits_pick body (assignment_of body pick) pick) (picks body.atoms state)
+some_answer body state = list_any (λ pick. fits_pick body state (assignment_of body pick) pick) (picks body.atoms state)

@@ -34,13 +34,15 @@ abbrev pub test_terms : Test → List Term
 test_terms (Cmp left op right) = left ∷ right ∷ []
 test_terms (Sum var a minus b) = Var var ∷ a ∷ b ∷ []
 
--- each variable of its tests is bound
+-- each variable of its tests and of its negated atoms is bound
 pub record IsBodyOf (state : State) (body : Body) : Type 0 where
   pub atoms : AllByRecursion (IsAtomOf state body.vars) body.atoms
+  pub absents : AllByRecursion (IsAtomOf state body.vars) body.absents
   pub tests : AllByRecursion (λ test. AllByRecursion (IsTermOf body.vars) (test_terms test)) body.tests
   pub is_bound : AllByRecursion (λ test. IsTrue (are_bound body (test_terms test))) body.tests
+  pub are_absents_bound : AllByRecursion (λ (atom : Atom). IsTrue (are_bound body atom.terms)) body.absents
   pub has_few_variables : body.vars ≤ most_variables
-  pub has_few_literals : length body.atoms + length body.tests ≤ most_literals
+  pub has_few_literals : length body.atoms + length body.absents + length body.tests ≤ most_literals
 
 -- a head's variables are bound by the body
 pub record IsHeadOf (state : State) (body : Body) (head : Atom) : Type 0 where

@@ -7,7 +7,7 @@ use Rattle.lt_model.specs.declared.syntax.Term.{Term}
 use Rattle.lt_model.specs.declared.syntax.Term.TheVariants.{Name, Cell}
 use Rattle.lt_model.specs.declared.syntax.Head.{Head}
 use Rattle.lt_model.specs.declared.syntax.Literal.{Literal}
-use Rattle.lt_model.specs.declared.syntax.Literal.TheVariants.{Atom, Cmp, Sum}
+use Rattle.lt_model.specs.declared.syntax.Literal.TheVariants.{Atom, Absent, Cmp, Sum}
 use Rattle.lt_model.specs.declared.syntax.Statement.{Statement}
 use Rattle.lt_model.specs.declared.syntax.Statement.TheVariants.{Print}
 use Rattle.lt_model.specs.declared.syntax.Program.{Program}
@@ -27,6 +27,7 @@ pub record AreTermsWithin (terms : List Term) : Type 0 where
 
 abbrev pub IsLiteralWithin : Literal → Type 0
 IsLiteralWithin (Atom head) = AreTermsWithin head.terms
+IsLiteralWithin (Absent head) = AreTermsWithin head.terms
 IsLiteralWithin (Cmp left op right) = HasCell left × HasCell right
 IsLiteralWithin (Sum var a minus b) = HasCell a × HasCell b
 

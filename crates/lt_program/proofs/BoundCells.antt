@@ -15,7 +15,7 @@ use Rattle.lt_model.specs.declared.normal.Test.{Test}
 use Rattle.lt_model.specs.declared.normal.Test.TheVariants.{Cmp, Sum}
 use Rattle.lt_model.specs.declared.syntax.Op.TheVariants.{Eq}
 use Rattle.lt_model.specs.Cells.{is_cell, sum_of, int_or_none, zero_cell, last_int}
-use Rattle.lt_model.specs.Answers.{Assignment, Values, cells_of, rows_under, passes, holds, or_else, value_at, term_value, terms_of, give_value, give, give_all, picks, rows_eq, fits_pick, assignment_of, answer_of, answers, ascending}
+use Rattle.lt_model.specs.Answers.{Assignment, Values, cells_of, rows_under, passes, holds, or_else, value_at, term_value, terms_of, give_value, give, give_all, picks, rows_eq, lacks, fits_pick, assignment_of, answer_of, answers, ascending}
 use Rattle.lt_model.specs.Bound.{stands, is_known, is_bound, are_bound}
 use Rattle.lt_model.specs.Fits.{IsTermOf, test_terms}
 use Rattle.lt_model.proofs.Laws.{same_is}
@@ -165,12 +165,12 @@ each_cell vars known values a (Var v ∷ terms) agrees cells h k =
     (cells v (a v) (agrees.told v both.0), each_cell vars known values a terms agrees cells h.1 both.1)
 each_cell vars known values a (Cell c ∷ terms) agrees cells h k = (h.0, each_cell vars known values a terms agrees cells h.1 k)
 
-answer_cells : (vars : ℕ) (terms : List Term) (body : Body) (pick : List Row) → AreTestsOf vars body.tests → AllByRecursion (IsTermOf vars) terms → IsTrue (are_bound body terms) → AreRows pick → fits_pick body (assignment_of body pick) pick ≡ true → AllByRecursion IsCell (cells_of (assignment_of body pick) terms)
-answer_cells vars terms body pick tests_of terms_are bound rows fits =
+answer_cells : (vars : ℕ) (terms : List Term) (body : Body) (state : State) (pick : List Row) → AreTestsOf vars body.tests → AllByRecursion (IsTermOf vars) terms → IsTrue (are_bound body terms) → AreRows pick → fits_pick body state (assignment_of body pick) pick ≡ true → AllByRecursion IsCell (cells_of (assignment_of body pick) terms)
+answer_cells vars terms body state pick tests_of terms_are bound rows fits =
     let a : Assignment = assignment_of body pick in
     let first : Values = value_at (terms_of body.atoms) (flat_map (λ row. row) pick) in
-    let parts = and_parts (rows_eq (rows_under a body.atoms) pick) (holds a body) fits in
-    let tests = and_parts (list_all (λ row. list_all is_cell row) (rows_under a body.atoms)) (list_all (passes a) body.tests) parts.1 in
+    let parts = and_parts (rows_eq (rows_under a body.atoms) pick) (holds a body && lacks a body.absents state) fits in
+    let tests = and_parts (list_all (λ row. list_all is_cell row) (rows_under a body.atoms)) (list_all (passes a) body.tests) (and_parts (holds a body) (lacks a body.absents state) parts.1).0 in
     let flat : flat_map (λ row. row) pick ≡ cells_of a (terms_of body.atoms) = ap (flat_map (λ row. row)) (sym (rows_eq_is (rows_under a body.atoms) pick parts.0)) ∙ flat_rows a body.atoms in
     let begun : Agrees (stands (terms_of body.atoms)) first a = record {
       sound = λ u y e. sym (assigned_has first body.tests u y e);
@@ -193,10 +193,10 @@ each_ascending (row ∷ rows) all = each_with_row (AllByRecursion IsCell) (ascen
 -- the rows of a body's answers are of cells
 pub answers_cells : (vars : ℕ) (terms : List Term) (body : Body) (state : State) → AreTestsOf vars body.tests → AllByRecursion (IsTermOf vars) terms → IsTrue (are_bound body terms) → HasCells state → AreRows (answers terms body state)
 answers_cells vars terms body state tests_of terms_are bound cells =
-    each_ascending (filter_map (answer_of terms body) (picks body.atoms state))
-    (each_found AreRows (answer_of terms body) (picks body.atoms state) (λ pick row h e.
-    elim (fits_pick body (assignment_of body pick) pick) as (λ b. fits_pick body (assignment_of body pick) pick ≡ b → cond b (Some (cells_of (assignment_of body pick) terms)) None ≡ Some row → AllByRecursion IsCell row) [
-      | true ↦ λ fits k. subst (AllByRecursion IsCell) (row_is (cells_of (assignment_of body pick) terms) row k) (answer_cells vars terms body pick tests_of terms_are bound h fits)
+    each_ascending (filter_map (answer_of terms body state) (picks body.atoms state))
+    (each_found AreRows (answer_of terms body state) (picks body.atoms state) (λ pick row h e.
+    elim (fits_pick body state (assignment_of body pick) pick) as (λ b. fits_pick body state (assignment_of body pick) pick ≡ b → cond b (Some (cells_of (assignment_of body pick) terms)) None ≡ Some row → AllByRecursion IsCell row) [
+      | true ↦ λ fits k. subst (AllByRecursion IsCell) (row_is (cells_of (assignment_of body pick) terms) row k) (answer_cells vars terms body state pick tests_of terms_are bound h fits)
       | false ↦ λ fits k. cc
     ] refl e) (picks_cells state body.atoms cells))
   where

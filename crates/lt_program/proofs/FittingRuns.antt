@@ -32,12 +32,12 @@ abbrev cons_found : Option Row → List Row → List Row
 cons_found None rows = rows
 cons_found (Some row) rows = row ∷ rows
 
-found_wide : (terms : List Term) (body : Body) (all : List (List Row)) → AllByRecursion (λ row. length row ≡ length terms) (filter_map (answer_of terms body) all)
-found_wide terms body [] = tt
-found_wide terms body (pick ∷ all) =
-    elim (fits_pick body (assignment_of body pick) pick) as (λ b. AllByRecursion (λ row. length row ≡ length terms) (cons_found (cond b (Some (cells_of (assignment_of body pick) terms)) None) (filter_map (answer_of terms body) all))) [
-      | true ↦ (length-map terms (cell_of (assignment_of body pick)), found_wide terms body all)
-      | false ↦ found_wide terms body all
+found_wide : (terms : List Term) (body : Body) (state : State) (all : List (List Row)) → AllByRecursion (λ row. length row ≡ length terms) (filter_map (answer_of terms body state) all)
+found_wide terms body state [] = tt
+found_wide terms body state (pick ∷ all) =
+    elim (fits_pick body state (assignment_of body pick) pick) as (λ b. AllByRecursion (λ row. length row ≡ length terms) (cons_found (cond b (Some (cells_of (assignment_of body pick) terms)) None) (filter_map (answer_of terms body state) all))) [
+      | true ↦ (length-map terms (cell_of (assignment_of body pick)), found_wide terms body state all)
+      | false ↦ found_wide terms body state all
     ]
 
 ascending_each : (P : Row → Type 0) (rows : List Row) → AllByRecursion P rows → AllByRecursion P (ascending rows)
@@ -45,7 +45,7 @@ ascending_each P [] all = tt
 ascending_each P (row ∷ rows) all = each_with_row P (ascending rows) row (ascending_each P rows all.1) all.0
 
 answers_wide : (terms : List Term) (body : Body) (state : State) → AllByRecursion (λ row. length row ≡ length terms) (answers terms body state)
-answers_wide terms body state = ascending_each (λ row. length row ≡ length terms) (filter_map (answer_of terms body) (picks body.atoms state)) (found_wide terms body (picks body.atoms state))
+answers_wide terms body state = ascending_each (λ row. length row ≡ length terms) (filter_map (answer_of terms body state) (picks body.atoms state)) (found_wide terms body state (picks body.atoms state))
 
 pushed : {X : Type 0} (P : X → Type 0) (xs : List X) (x : X) → AllByRecursion P xs → P x → AllByRecursion P (xs ++ x ∷ [])
 pushed P [] x all h = (h, tt)

@@ -18,8 +18,12 @@ use Rattle.lt_base.proofs.OwnOrder.{row_eq-true, row_eq-itself}
 use Rattle.lt_query.specs.declared.plans.Guide.{Guide}
 use Rattle.lt_query.specs.declared.plans.Level.{Level}
 use Rattle.lt_query.specs.declared.plans.IndexName.{IndexName}
-use Rattle.lt_query.specs.Needs.{body_of, index_of, IsNeeded, AreNamed}
-use Rattle.lt_query.specs.Plan.{IsGuideOf, term_at}
+use Rattle.lt_query.specs.Needs.{body_of, index_of, first_index, IsWalked, IsLookedUp, IsNeeded, AreNamed, HaveFirsts}
+use Rattle.lt_query.specs.Lists.{below}
+use Rattle.lt_query.specs.declared.plans.Plan.{Plan}
+use Rattle.lt_query.specs.Plan.{IsGuideOf, IsPlanOf, term_at}
+use Rattle.lt_query.proofs.Distinct.{IsIn-below, IsIn-below_from, length-below}
+use Rattle.lt_query.proofs.Elements.{All_from}
 use Rattle.lt_query.specs.Laws.{FittingHasWidths}
 use Rattle.lt_query.specs.Runnable.{AreWide, HasWidths}
 use Rattle.lt_query.specs.Stated.{stated_plan}
@@ -74,9 +78,13 @@ module _ (base tables : List Table) (names : List IndexName) (made : AreMade bas
   made_guides [] all = tt
   made_guides (guide ∷ guides) all = (made_named (index_of guide) all.0, made_guides guides all.1)
 
-  pub made_all : (program : List Stmt) → ((stmt : Stmt) → IsIn stmt program → AreNamed names (stated_plan (body_of stmt))) → HasIndexes tables program
-  made_all [] each = tt
-  made_all (stmt ∷ program) each = (made_guides (stated_plan (body_of stmt)).guides (each stmt (inl refl)), made_all program (λ s there. each s (inr there)))
+  made_firsts : (atoms : List Atom) → AllByRecursion (λ (atom : Atom). IsIn (first_index atom) names) atoms → AllByRecursion (λ (atom : Atom). has_index tables atom.relation (below (length atom.terms)) ≡ true) atoms
+  made_firsts [] all = tt
+  made_firsts (atom ∷ atoms) all = (made_named (first_index atom) all.0, made_firsts atoms all.1)
+
+  pub made_all : (program : List Stmt) → ((stmt : Stmt) → IsIn stmt program → AreNamed names (stated_plan (body_of stmt))) → AllByRecursion (λ (stmt : Stmt). HaveFirsts names (body_of stmt)) program → HasIndexes tables program
+  made_all [] each firsts = tt
+  made_all (stmt ∷ program) each firsts = ((made_guides (stated_plan (body_of stmt)).guides (each stmt (inl refl)), made_firsts (body_of stmt).absents firsts.0), made_all program (λ s there. each s (inr there)) firsts.1)
 
   pub made_only : (P : IndexName → Type 0) → ((name : IndexName) → IsIn name names → P name) → (relation : ℕ) (columns : List ℕ) → has_index tables relation columns ≡ true → (has_index base relation columns ≡ true) ⊎ P (record { relation = relation; columns = columns })
   made_only P each relation columns h =
@@ -119,27 +127,62 @@ wide_there (r ∷ state) (suc relation) width h = let lt = wide_there state rela
 some_is : (x y : ℕ) → Some x ≡ Some y → x ≡ y
 some_is x y e = cc
 
-module _ (state : State) (program : List Stmt) (fits : Fits state program) (name : IndexName) (needed : IsNeeded program name) where
-  the_atom : (atom : Atom) × IsAtomOf state (body_of needed.0).vars atom × IsGuideOf needed.2.0.levels atom needed.2.3.0
-  the_atom =
-      let found = guide_atom needed.2.0.levels (body_of needed.0).atoms needed.2.0.guides needed.2.3.0 needed.2.1.guides needed.2.3.1 in
-      let body = body_fits state needed.0 (each_in (FitsStatement state) program needed.0 needed.1 fits.each) in
-      (found.0, each_in (IsAtomOf state (body_of needed.0).vars) (body_of needed.0).atoms found.0 found.1 body.atoms, found.2)
+module _ (state : State) (program : List Stmt) (fits : Fits state program) (name : IndexName) (stmt : Stmt) (there : IsIn stmt program) where
+  the_body : IsBodyOf state (body_of stmt)
+  the_body = body_fits state stmt (each_in (FitsStatement state) program stmt there fits.each)
 
-  pub needed_there : name.relation < length state
-  needed_there =
-      let same : needed.2.3.0.relation ≡ name.relation = ap (λ (n : IndexName). n.relation) needed.2.3.2 in
-      subst (λ r. r < length state) (sym the_atom.2.relation ∙ same) (wide_there state the_atom.0.relation (length the_atom.0.terms) the_atom.1.is_wide)
+  walked_there : (plan : Plan) → IsPlanOf (body_of stmt) plan → IsWalked plan name → name.relation < length state
+  walked_there plan of_body walked =
+      let found = guide_atom plan.levels (body_of stmt).atoms plan.guides walked.0 of_body.guides walked.1 in
+      let is = each_in (IsAtomOf state (body_of stmt).vars) (body_of stmt).atoms found.0 found.1 the_body.atoms in
+      let same : walked.0.relation ≡ name.relation = ap (λ (n : IndexName). n.relation) walked.2 in
+      subst (λ r. r < length state) (sym found.2.relation ∙ same) (wide_there state found.0.relation (length found.0.terms) is.is_wide)
 
-  pub needed_perm : (width : ℕ) → IsWide state name.relation width → IsPermOf width name.columns
-  needed_perm width wide =
-      let guide = needed.2.3.0 in
-      let same : guide.relation ≡ name.relation = ap (λ (n : IndexName). n.relation) needed.2.3.2 in
-      let columns : guide.columns ≡ name.columns = ap (λ (n : IndexName). n.columns) needed.2.3.2 in
-      let here : IsWide state the_atom.0.relation width = subst (λ r. IsWide state r width) (sym same ∙ the_atom.2.relation) wide in
-      let w : width ≡ length the_atom.0.terms = some_is width (length the_atom.0.terms) (sym here ∙ the_atom.1.is_wide) in
-      let long : width ≡ length guide.places = w ∙ (ap length the_atom.2.terms ∙ length-map guide.places (term_at needed.2.0.levels)) in
-      subst (IsPermOf width) columns (subst (λ n. IsPermOf n guide.columns) (sym long) (record { as_long = the_atom.2.as_long; within = the_atom.2.columns; each = the_atom.2.each }))
+  walked_perm : (plan : Plan) → IsPlanOf (body_of stmt) plan → IsWalked plan name → (width : ℕ) → IsWide state name.relation width → IsPermOf width name.columns
+  walked_perm plan of_body walked width wide =
+      let found = guide_atom plan.levels (body_of stmt).atoms plan.guides walked.0 of_body.guides walked.1 in
+      let is = each_in (IsAtomOf state (body_of stmt).vars) (body_of stmt).atoms found.0 found.1 the_body.atoms in
+      let guide = walked.0 in
+      let same : guide.relation ≡ name.relation = ap (λ (n : IndexName). n.relation) walked.2 in
+      let columns : guide.columns ≡ name.columns = ap (λ (n : IndexName). n.columns) walked.2 in
+      let here : IsWide state found.0.relation width = subst (λ r. IsWide state r width) (sym same ∙ found.2.relation) wide in
+      let w : width ≡ length found.0.terms = some_is width (length found.0.terms) (sym here ∙ is.is_wide) in
+      let long : width ≡ length guide.places = w ∙ (ap length found.2.terms ∙ length-map guide.places (term_at plan.levels)) in
+      subst (IsPermOf width) columns (subst (λ n. IsPermOf n guide.columns) (sym long) (record { as_long = found.2.as_long; within = found.2.columns; each = found.2.each }))
+
+  looked_there : IsLookedUp (body_of stmt) name → name.relation < length state
+  looked_there looked =
+      let is = each_in (IsAtomOf state (body_of stmt).vars) (body_of stmt).absents looked.0 looked.1 the_body.absents in
+      subst (λ (n : IndexName). n.relation < length state) looked.2 (wide_there state looked.0.relation (length looked.0.terms) is.is_wide)
+
+  looked_perm : IsLookedUp (body_of stmt) name → (width : ℕ) → IsWide state name.relation width → IsPermOf width name.columns
+  looked_perm looked width wide =
+      let atom = looked.0 in
+      let is = each_in (IsAtomOf state (body_of stmt).vars) (body_of stmt).absents atom looked.1 the_body.absents in
+      let same : atom.relation ≡ name.relation = ap (λ (n : IndexName). n.relation) looked.2 in
+      let columns : below (length atom.terms) ≡ name.columns = ap (λ (n : IndexName). n.columns) looked.2 in
+      let here : IsWide state atom.relation width = subst (λ r. IsWide state r width) (sym same) wide in
+      let w : width ≡ length atom.terms = some_is width (length atom.terms) (sym here ∙ is.is_wide) in
+      subst (IsPermOf width) columns (subst (λ n. IsPermOf width (below n)) w (own_perm width))
+    where
+      own_perm : (n : ℕ) → IsPermOf n (below n)
+      own_perm n = record {
+        as_long = length-below n;
+        within = All_from (λ c. c < n) (below n) (λ c k. IsIn-below_from n c k);
+        each = λ c lt. IsIn-below n c lt;
+      }
+
+pub needed_there : (state : State) (program : List Stmt) → Fits state program → (name : IndexName) → IsNeeded program name → name.relation < length state
+needed_there state program fits name needed = elim needed.2 [
+  | inl walked ↦ walked_there state program fits name needed.0 needed.1 walked.0 walked.1 walked.3
+  | inr looked ↦ looked_there state program fits name needed.0 needed.1 looked
+]
+
+pub needed_perm : (state : State) (program : List Stmt) → Fits state program → (name : IndexName) → IsNeeded program name → (width : ℕ) → IsWide state name.relation width → IsPermOf width name.columns
+needed_perm state program fits name needed width wide = elim needed.2 [
+  | inl walked ↦ walked_perm state program fits name needed.0 needed.1 walked.0 walked.1 walked.3 width wide
+  | inr looked ↦ looked_perm state program fits name needed.0 needed.1 looked width wide
+]
 
 pub in_place : {X : Type 0} (xs : List X) (i : ℕ) (x : X) → i < length xs → x ≡ get_or xs i x → IsIn x xs
 in_place [] i x lt is = absurd (omega arith)

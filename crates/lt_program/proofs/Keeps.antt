@@ -67,10 +67,10 @@ module _ (program : List Stmt) (base : List Table) (course : Course) (t : TallyV
       (made.0, made.1 ∙ ap (λ (v : TallyView). v.parts ++ made.0 ∷ []) is, subst (λ (o : Part). IsMendedPart keys o made.0) one made.2)
 
   -- what the joins of the keys' slices may take
-  pub mending_moves : (keys : List ℕ) (stmt : Stmt) (old new : ℕ) → slice_get program (length course.parts) ≡ Some stmt → new ≤ old + mending_cost keys (stated_plan (body_of stmt)) (laid (state_of base) course.marks)
+  pub mending_moves : (keys : List ℕ) (stmt : Stmt) (old new : ℕ) → slice_get program (length course.parts) ≡ Some stmt → new ≤ old + mending_cost keys (body_of stmt) (stated_plan (body_of stmt)) (laid (state_of base) course.marks)
       → new ≤ old + mending_on keys (slice_get t.program (length t.parts)) (state_before (length t.parts) t.program (state_of t.base))
   mending_moves keys stmt old new there cost =
-      let before : new ≤ old + mending_cost keys (stated_plan (body_of stmt)) (state_before (length course.parts) program (state_of base)) = subst (λ (m : Marks). new ≤ old + mending_cost keys (stated_plan (body_of stmt)) (laid (state_of base) m)) sound.run.marks cost in
+      let before : new ≤ old + mending_cost keys (body_of stmt) (stated_plan (body_of stmt)) (state_before (length course.parts) program (state_of base)) = subst (λ (m : Marks). new ≤ old + mending_cost keys (body_of stmt) (stated_plan (body_of stmt)) (laid (state_of base) m)) sound.run.marks cost in
       let found : new ≤ old + mending_on keys (slice_get program (length course.parts)) (state_before (length course.parts) program (state_of base)) = subst (λ (o : Option Stmt). new ≤ old + mending_on keys o (state_before (length course.parts) program (state_of base))) (sym there) before in
       subst (λ (v : TallyView). new ≤ old + mending_on keys (slice_get v.program (length v.parts)) (state_before (length v.parts) v.program (state_of v.base))) is found
 

@@ -17,7 +17,7 @@ use Rattle.lt_base.specs.Tables.{Table, has_index}
 use Rattle.lt_query.specs.declared.plans.Guide.{Guide}
 use Rattle.lt_query.specs.declared.plans.Level.{Level}
 use Rattle.lt_query.specs.declared.plans.Plan.{Plan}
-use Rattle.lt_query.specs.Lists.{IsRising}
+use Rattle.lt_query.specs.Lists.{IsRising, below}
 use Rattle.lt_query.specs.Needs.{body_of}
 use Rattle.lt_query.specs.Plan.{term_at, IsGuideOf, IsPlanOf}
 use Rattle.lt_query.specs.Runnable.{IsWidth, HasWidths, AreWide, IsRunnable}
@@ -34,7 +34,7 @@ use Rattle.lt_join.specs.Cost.{bound}
 use Rattle.lt_sense.specs.Cut.{cut}
 use Rattle.lt_join.specs.Mended.{AreSlicesOn, HaveTouched, AreMended}
 use Rattle.lt_join.specs.MendedPlan.{mending_cost}
-use Rattle.lt_join.specs.Sliced.{slice_keys, united, sliced_rows, IsSliceOf, AreRooted}
+use Rattle.lt_join.specs.Sliced.{slice_keys, united, sliced_rows, IsSliceOf, AreRooted, AreRootGaps}
 use Rattle.lt_join.proofs.MendLaws.{certified_of, tight_of, answers_of}
 use Rattle.lt_join.proofs.Repair.{GapIsTight}
 use Rattle.lt_program.specs.declared.part.Outcome.{Outcome}
@@ -65,14 +65,14 @@ none_of [] le = refl
 none_of (x ∷ xs) le = absurd (omega arith)
 
 pub no_level : (body : Body) → body.atoms ≡ [] → has_level body ≡ false
-no_level body e = ap (λ (atoms : List Atom). has_level (record { atoms = atoms; tests = body.tests; vars = body.vars })) e
+no_level body e = ap (λ (atoms : List Atom). has_level (record { atoms = atoms; absents = body.absents; tests = body.tests; vars = body.vars })) e
 
 -- the plan of a body has a level exactly where the body has an atom
 pub level_there : (body : Body) (n : ℕ) → HasWidths body → n ≡ length body.atoms → nat_lt 0 n ≡ has_level body
 level_there body n widths is =
     elim (cases_lt 0 (length body.atoms)) [
       | inl lt ↦
-          let some : 0 < length (stated_plan body).levels = level_of_atoms (stated_plan body).levels body.atoms (stated_plan body).guides (IsPlanOf-stated body).guides widths lt in
+          let some : 0 < length (stated_plan body).levels = level_of_atoms (stated_plan body).levels body.atoms (stated_plan body).guides (IsPlanOf-stated body).guides widths.0 lt in
           ap (nat_lt 0) is ∙ (lt-ltb 0 (length body.atoms) lt ∙ sym (lt-ltb 0 (length (stated_plan body).levels) some))
       | inr le ↦ ap (nat_lt 0) is ∙ (le-ltb 0 (length body.atoms) le ∙ sym (no_level body (none_of body.atoms le)))
     ]
@@ -139,7 +139,7 @@ module _ (base state : State) (stmt : Stmt) (root : Sense) (slices : List Slice)
   -- the rows of its slices are the answers of its terms
   pub rows_by : (rows : List Row) → rows ≡ ascending (sliced_rows slices) → rows ≡ answers (slice_terms stmt) (body_of stmt) state
   rows_by rows is =
-      is ∙ sym (answers_of (slice_terms stmt) (body_of stmt) (stated_plan (body_of stmt)) state root slices (IsPlanOf-stated (body_of stmt)) with_level (body_fits base stmt fits).is_bound (terms_picked base stmt wide fits sliced).bound are)
+      is ∙ sym (answers_of (slice_terms stmt) (body_of stmt) (stated_plan (body_of stmt)) state root slices (IsPlanOf-stated (body_of stmt)) with_level ((body_fits base stmt fits).is_bound, (body_fits base stmt fits).are_absents_bound) (terms_picked base stmt wide fits sliced).bound are)
 
   pub part_by_is : (outcome : Outcome) → outcome ≡ outcome_on stmt state → IsPartOn stmt state (record { outcome = outcome; sense = root; slices = slices })
   part_by_is outcome is = record {
@@ -182,8 +182,14 @@ module _ (stmt : Stmt) (body : Body) (plan : Plan) (is : body ≡ body_of stmt) 
 pub planned_fits : (state : State) (stmt : Stmt) (body : Body) → body ≡ body_of stmt → FitsStatement state stmt → IsBodyOf state body
 planned_fits state stmt body is fits = subst (IsBodyOf state) (sym is) (body_fits state stmt fits)
 
+pub planned_walks : (tables : List Table) (body : Body) (plan : Plan) → IsPlanned body plan → HasIndexesOf tables body → AllByRecursion (λ (guide : Guide). has_index tables guide.relation guide.columns ≡ true) plan.guides
+planned_walks tables body plan planned has = subst (λ (p : Plan). AllByRecursion (λ (guide : Guide). has_index tables guide.relation guide.columns ≡ true) p.guides) (sym planned.stated) has.0
+
 pub planned_indexes : (tables : List Table) (stmt : Stmt) (plan : Plan) → IsPlanned (body_of stmt) plan → HasIndexesOf tables (body_of stmt) → AllByRecursion (λ (guide : Guide). has_index tables guide.relation guide.columns ≡ true) plan.guides
-planned_indexes tables stmt plan planned has = subst (λ (p : Plan). AllByRecursion (λ (guide : Guide). has_index tables guide.relation guide.columns ≡ true) p.guides) (sym planned.stated) has
+planned_indexes tables stmt plan planned has = planned_walks tables (body_of stmt) plan planned has
+
+pub planned_firsts : (tables : List Table) (stmt : Stmt) (body : Body) → body ≡ body_of stmt → HasIndexesOf tables (body_of stmt) → AllByRecursion (λ (atom : Atom). has_index tables atom.relation (below (length atom.terms)) ≡ true) body.absents
+planned_firsts tables stmt body is has = subst (λ (b : Body). AllByRecursion (λ (atom : Atom). has_index tables atom.relation (below (length atom.terms)) ≡ true) b.absents) (sym is) has.1
 
 pub planned_bound : (state : State) (stmt : Stmt) (body : Body) (terms : List Term) → body ≡ body_of stmt → terms ≡ slice_terms stmt → AreWide state → FitsStatement state stmt → is_sliced stmt ≡ true → are_bound body terms ≡ true
 planned_bound state stmt body terms is terms_are wide fits sliced =
@@ -205,18 +211,18 @@ each_first P (x ∷ xs) ys h = (h.0, each_first P xs ys h.1)
 
 -- what a join answers are the statement's slices
 pub found_are : (stmt : Stmt) (body : Body) (plan : Plan) (terms : List Term) (state : State) (root : Sense) (slices : List Slice) → body ≡ body_of stmt → IsPlanned (body_of stmt) plan → terms ≡ slice_terms stmt
-    → IsRising (slice_keys slices) → AllByRecursion (IsSliceOf terms body (term_at plan.levels 0) state) slices → AreRooted plan root (slice_keys slices) → IsTight (united root slices) state → root.hits ≡ []
+    → IsRising (slice_keys slices) → AllByRecursion (IsSliceOf terms body (term_at plan.levels 0) state) slices → AreRooted plan root (slice_keys slices) → IsTight (united root slices) state → root.hits ≡ [] → AreRootGaps root
     → AreSlicesOn (slice_terms stmt) (body_of stmt) (stated_plan (body_of stmt)) state root slices
-found_are stmt body plan terms state root slices is planned terms_are rising each rooted tight none =
+found_are stmt body plan terms state root slices is planned terms_are rising each rooted tight none gaps =
     let of_root : IsTight root state = record {
       gaps = each_first (GapIsTight state) root.gaps (flat_map (λ (slice : Slice). slice.sense.gaps) slices) tight.gaps;
       hits = each_first (λ (hit : Hit). Has state hit.relation hit.row) root.hits (flat_map (λ (slice : Slice). slice.sense.hits) slices) tight.hits;
     } in
     are_moved terms (slice_terms stmt) body (body_of stmt) plan (stated_plan (body_of stmt)) state root slices terms_are is planned.stated
-    (record { ascending = rising; each = each; rooted = rooted; tight = of_root; root_hits = none })
+    (record { ascending = rising; each = each; rooted = rooted; tight = of_root; root_hits = none; root_gaps = gaps })
 
-pub cost_told : (state : State) (stmt : Stmt) (plan : Plan) (old new : ℕ) → IsPlanned (body_of stmt) plan → new ≤ old + bound plan state → new ≤ old + bound (stated_plan (body_of stmt)) state
-cost_told state stmt plan old new planned h = subst (λ (p : Plan). new ≤ old + bound p state) planned.stated h
+pub cost_told : (state : State) (stmt : Stmt) (body : Body) (plan : Plan) (old new : ℕ) → body ≡ body_of stmt → IsPlanned (body_of stmt) plan → new ≤ old + bound body plan state → new ≤ old + bound (body_of stmt) (stated_plan (body_of stmt)) state
+cost_told state stmt body plan old new is planned h = subst (λ (p : Plan). new ≤ old + bound (body_of stmt) p state) planned.stated (subst (λ (b : Body). new ≤ old + bound b plan state) is h)
 
 -- ---- mending
 
@@ -239,6 +245,6 @@ mended_is old new xs ks keys root slices xs_are ks_are root_is slices_are made m
   slices = subst (λ (l : List Slice). AreMended keys old.slices l) (sym slices_are) (subst (λ (l : List Slice). AreMended keys l slices) xs_are (subst (λ (l : List ℕ). AreMended l xs slices) ks_are mended));
 }
 
-pub mending_told : (state : State) (stmt : Stmt) (plan : Plan) (ks keys : List ℕ) (old new : ℕ) → IsPlanned (body_of stmt) plan → ks ≡ keys → new ≤ old + mending_cost ks plan state → new ≤ old + mending_cost keys (stated_plan (body_of stmt)) state
-mending_told state stmt plan ks keys old new planned ks_are h =
-    subst (λ (l : List ℕ). new ≤ old + mending_cost l (stated_plan (body_of stmt)) state) ks_are (subst (λ (p : Plan). new ≤ old + mending_cost ks p state) planned.stated h)
+pub mending_told : (state : State) (stmt : Stmt) (body : Body) (plan : Plan) (ks keys : List ℕ) (old new : ℕ) → body ≡ body_of stmt → IsPlanned (body_of stmt) plan → ks ≡ keys → new ≤ old + mending_cost ks body plan state → new ≤ old + mending_cost keys (body_of stmt) (stated_plan (body_of stmt)) state
+mending_told state stmt body plan ks keys old new is planned ks_are h =
+    subst (λ (l : List ℕ). new ≤ old + mending_cost l (body_of stmt) (stated_plan (body_of stmt)) state) ks_are (subst (λ (p : Plan). new ≤ old + mending_cost ks (body_of stmt) p state) planned.stated (subst (λ (b : Body). new ≤ old + mending_cost ks b plan state) is h))

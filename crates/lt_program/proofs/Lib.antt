@@ -18,3 +18,6 @@ pub mod Keeps
 pub mod LaterMarks
 pub mod TwoHeads
 pub mod KeptSlices
+pub mod Bare
+pub mod Alike
+pub mod ReadingMarked

@@ -20,4 +20,4 @@ pub print_picked : (body : Body) (terms : List Term) (kinds : ℕ) → ArePrinte
 print_picked body terms kinds h = record { narrow = omega (arith, h.is_wide, h.has_few); within = h.has_terms; bound = h.is_bound }
 
 pub answers_rise : (terms : List Term) (body : Body) (state : State) (rows : List Row) → rows ≡ answers terms body state → IsAscending rows
-answers_rise terms body state rows is = subst IsAscending (sym is) (IsAscending-ascending (filter_map (answer_of terms body) (picks body.atoms state)))
+answers_rise terms body state rows is = subst IsAscending (sym is) (IsAscending-ascending (filter_map (answer_of terms body state) (picks body.atoms state)))

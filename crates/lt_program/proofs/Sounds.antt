@@ -1,5 +1,5 @@
 -- What is always so of a tally stays so.
-use Rattle.std.proofs.Common.{◌≡◌, ℕ, zero, suc, ◌+◌, ◌≤◌, false, List, [], ◌∷◌, ◌++◌, length, Some, get_or, refl, sym, ap, ◌∙◌, subst, arith}
+use Rattle.std.proofs.Common.{◌≡◌, ℕ, zero, suc, ◌+◌, ◌≤◌, false, List, [], ◌∷◌, ◌++◌, length, Some, None, get_or, refl, sym, ap, ◌∙◌, subst, arith}
 use Rattle.std.specs.Prelude.{slice_get}
 use Rattle.std.specs.List.{AllByRecursion}
 use Rattle.std.proofs.lemmas.Option.{slice_get-get_or}
@@ -86,3 +86,14 @@ cost_told program base course t stmt old new is sound there cost =
     let before : new ≤ old + statement_cost stmt (state_before (length course.parts) program (state_of base)) = subst (λ m. new ≤ old + statement_cost stmt (laid (state_of base) m)) sound.run.marks cost in
     let found : new ≤ old + cost_on (slice_get program (length course.parts)) (state_before (length course.parts) program (state_of base)) = subst (λ o. new ≤ old + cost_on o (state_before (length course.parts) program (state_of base))) (sym there) before in
     subst (λ (v : TallyView). new ≤ old + cost_on (slice_get v.program (length v.parts)) (state_before (length v.parts) v.program (state_of v.base))) is found
+
+-- the same course, without what is laid
+pub sound_again : (program : List Stmt) (base : List Table) (course : Course) → IsSound program base course → IsSound program base (record course { laid = None })
+sound_again program base course sound = record {
+  fits = sound.fits;
+  indexes = sound.indexes;
+  is_state = sound.is_state;
+  wide = sound.wide;
+  laid = tt;
+  run = sound.run;
+}

@@ -44,7 +44,7 @@ part_stays base s t (Replace gone come body) part fits agree is = record {
   sliced = kept_stays s t (Replace gone come body) part agree is.sliced;
 }
 part_stays base s t (Require some body) part fits agree is =
-    let kept = some_answer_kept (sense_of part) body s t fits.is_bound agree is.vouches in
+    let kept = some_answer_kept (sense_of part) body s t (fits.is_bound, fits.are_absents_bound) agree is.vouches in
     record {
       outcome = is.outcome ∙ ap Truth kept.0;
       vouches = kept.1;

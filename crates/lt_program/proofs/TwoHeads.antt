@@ -39,16 +39,16 @@ drop_cells a (x ∷ xs) ys = drop_cells a xs ys
 -- answers made of those of more terms, row by row
 answers_cut : (f : Row → Row) (more terms : List Term) (body : Body) (state : State) → ((a : Assignment) → f (cells_of a more) ≡ cells_of a terms) → ascending (map f (answers more body state)) ≡ answers terms body state
 answers_cut f more terms body state cut =
-    ascending_same (ascending (map f (answers more body state))) (answers terms body state) (IsAscending-ascending (map f (answers more body state))) (IsAscending-ascending (filter_map (answer_of terms body) (picks body.atoms state)))
+    ascending_same (ascending (map f (answers more body state))) (answers terms body state) (IsAscending-ascending (map f (answers more body state))) (IsAscending-ascending (filter_map (answer_of terms body state) (picks body.atoms state)))
     (λ q h.
     let whole = IsIn-map_from f q (answers more body state) (IsIn-ascending_from q (map f (answers more body state)) h) in
     let pick = IsIn-answers_from more body state whole.0 whole.1 in
     let same : cells_of (assignment_of body pick.0) terms ≡ q = sym (cut (assignment_of body pick.0)) ∙ (ap f pick.4 ∙ whole.2) in
-    subst (λ r. IsIn r (answers terms body state)) same (IsIn-answers terms body state pick.0 pick.1 pick.2 pick.3))
+    subst (λ r. IsIn r (answers terms body state)) same (IsIn-answers terms body state pick.0 pick.1 pick.2 pick.3 pick.5))
     (λ q h.
     let pick = IsIn-answers_from terms body state q h in
     let a : Assignment = assignment_of body pick.0 in
-    let there = IsIn-map f (cells_of a more) (answers more body state) (IsIn-answers more body state pick.0 pick.1 pick.2 pick.3) in
+    let there = IsIn-map f (cells_of a more) (answers more body state) (IsIn-answers more body state pick.0 pick.1 pick.2 pick.3 pick.5) in
     IsIn-ascending q (map f (answers more body state)) (subst (λ r. IsIn r (map f (answers more body state))) (cut a ∙ pick.4) there))
 
 -- the cells before the second head's are the first head's answers

@@ -31,8 +31,10 @@ module _ (state : State) (marks : Marks) where
   body_laid : (body : Body) → IsBodyOf state body → IsBodyOf (laid state marks) body
   body_laid body h = record {
     atoms = each_weaker (IsAtomOf state body.vars) (IsAtomOf (laid state marks) body.vars) (λ atom k. atom_laid body.vars atom k) body.atoms h.atoms;
+    absents = each_weaker (IsAtomOf state body.vars) (IsAtomOf (laid state marks) body.vars) (λ atom k. atom_laid body.vars atom k) body.absents h.absents;
     tests = h.tests;
     is_bound = h.is_bound;
+    are_absents_bound = h.are_absents_bound;
     has_few_variables = h.has_few_variables;
     has_few_literals = h.has_few_literals;
   }

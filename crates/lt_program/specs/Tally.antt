@@ -4,6 +4,7 @@ use Rattle.std.specs.List.{AllByRecursion}
 use Rattle.lt_face.specs.Limits.{most_columns}
 use Rattle.lt_face.specs.State.{State}
 use Rattle.lt_model.specs.declared.normal.Term.{Term}
+use Rattle.lt_model.specs.declared.normal.Atom.{Atom}
 use Rattle.lt_model.specs.declared.normal.Body.{Body}
 use Rattle.lt_model.specs.declared.normal.Stmt.{Stmt}
 use Rattle.lt_model.specs.declared.normal.Stmt.TheVariants.{Insert, Delete, Replace, Require, Print}
@@ -16,6 +17,7 @@ use Rattle.lt_model.specs.Effect.{Effect, effect}
 use Rattle.lt_model.specs.Run.{run, run_on}
 use Rattle.lt_base.specs.Tables.{Table, state_of, has_index}
 use Rattle.lt_query.specs.declared.plans.Guide.{Guide}
+use Rattle.lt_query.specs.Lists.{below}
 use Rattle.lt_query.specs.Needs.{body_of}
 use Rattle.lt_query.specs.Stated.{stated_plan}
 use Rattle.lt_sense.specs.Kept.{Sense}
@@ -103,8 +105,8 @@ pub record IsPartOn (stmt : Stmt) (state : State) (part : Part) : Type 0 where
 
 -- so many moves its evaluation may take: what the join of its body may take, of a `replace` once for each head
 abbrev pub statement_cost : Stmt → State → ℕ
-statement_cost (Replace gone come body) state = bound (stated_plan body) state + bound (stated_plan body) state
-statement_cost stmt state = bound (stated_plan (body_of stmt)) state
+statement_cost (Replace gone come body) state = bound body (stated_plan body) state + bound body (stated_plan body) state
+statement_cost stmt state = bound (body_of stmt) (stated_plan (body_of stmt)) state
 
 -- ---- the statements of a program
 
@@ -127,7 +129,7 @@ cost_on (Some stmt) state = statement_cost stmt state
 -- so many moves the mending of a statement kept by slices may take: what the joins of the keys' slices may take
 abbrev pub mending_on : List ℕ → Option Stmt → State → ℕ
 mending_on keys None state = 0
-mending_on keys (Some stmt) state = mending_cost keys (stated_plan (body_of stmt)) state
+mending_on keys (Some stmt) state = mending_cost keys (body_of stmt) (stated_plan (body_of stmt)) state
 
 -- the moves that the first n statements may take, each on the state before it
 abbrev pub cost_of_first : ℕ → List Stmt → State → ℕ
@@ -144,7 +146,9 @@ ends_at program state = ends_from (length program) 0 program state
 
 -- the database has each index through which the plan of the body goes
 abbrev pub HasIndexesOf : List Table → Body → Type 0
-HasIndexesOf tables body = AllByRecursion (λ (guide : Guide). has_index tables guide.relation guide.columns ≡ true) (stated_plan body).guides
+HasIndexesOf tables body =
+    AllByRecursion (λ (guide : Guide). has_index tables guide.relation guide.columns ≡ true) (stated_plan body).guides
+    × AllByRecursion (λ (atom : Atom). has_index tables atom.relation (below (length atom.terms)) ≡ true) body.absents
 
 -- the database has each index that the plans of the program need
 abbrev pub HasIndexes : List Table → List Stmt → Type 0

@@ -13,12 +13,15 @@ ghost use Rattle.lt_join.specs.Mended.{HaveTouched};
 ghost use Rattle.lt_join.specs.MendedPlan.{mending_cost};
 ghost use Rattle.lt_program.specs.declared.part.Part.{Part as PartType};
 ghost use Rattle.lt_program.specs.Effect.{view};
+ghost use Rattle.lt_program.specs.Run.{reads_rows};
 ghost use Rattle.lt_program.specs.Tally.{HasIndexesOf, IsLaid, IsLaidOn, IsLaidUpTo, IsPartOn, IsMendedPart, Grows, is_refused, is_sliced, next, those, with_print, statement_cost};
 
+use crate::copying::copied_reply;
 use crate::effect::Effect;
 use crate::evaluation::{Step, evaluated, mended};
 use crate::kept::effect_by;
 use crate::part::{Part, SharedPart};
+use crate::reading::reads_some;
 use lt_base::Database;
 use lt_delta::Marks;
 use lt_face::items::Items;
@@ -27,7 +30,7 @@ use lt_face::memory::NoMemory;
 use lt_face::moves::Moves;
 use lt_model::normal::Stmt;
 use lt_model::reply::{Printed, Reply};
-use lt_query::{Route, body_of};
+use lt_query::Route;
 use lt_sense::Sense;
 use std::alloc::Global;
 use std::mem;
@@ -128,6 +131,18 @@ fn print(reply: &mut Reply, printed: Printed) -> Result<(), NoMemory>
     }
 }
 
+/// Second owners of the parts.
+fn shared_parts(alloc: Global, parts: &[SharedPart]) -> Result<Items<SharedPart>, NoMemory>
+    ensures { IfOk result (λ shared. shared ≡ parts.now) }
+{
+    let mut shared = Items::new(alloc);
+    for part in parts {
+        let part = part.share()?;
+        shared.push(part)?;
+    }
+    Ok(shared)
+}
+
 impl Course {
     /// No statement yet.
     pub(crate) fn new(alloc: Global) -> Result<Course, NoMemory>
@@ -141,6 +156,22 @@ impl Course {
             parts: Items::new(alloc),
             reply: Reply::Done(Items::new(alloc)),
             marks: Marks::empty(alloc)?,
+        })
+    }
+
+    /// The same course again, without what is laid.
+    pub(crate) fn share(&self) -> Result<Course, NoMemory>
+        ensures { IfOk result (λ course. course ≡ record self.now { laid = None }) }
+    {
+        let alloc = self.parts.allocator();
+        let parts = shared_parts(alloc, self.parts.as_slice())?;
+        let reply = copied_reply(alloc, &self.reply)?;
+        let marks = self.marks.share()?;
+        Ok(Course {
+            laid: None,
+            parts,
+            reply,
+            marks,
         })
     }
 
@@ -264,7 +295,7 @@ impl Course {
     ) -> Result<(), NoMemory>
         requires route { route.now ≡ route_of (body_in stmt.now) }
         requires going { is_refused self.old.reply ≡ false }
-        requires reads { (body_in stmt.now).atoms ≡ [] }
+        requires reads { reads_rows stmt.now ≡ false }
         requires wide { AreWide (state_of base.now) }
         requires indexes { HasIndexesOf base.now (body_in stmt.now) }
         requires fits { FitsStatement (state_of base.now) stmt.now }
@@ -343,7 +374,7 @@ impl Course {
         requires keys { IsRising keys.now }
         ensures ok { OnOk result (Grows number stmt.now (state_of base.now) self.old self.new) }
         ensures mended { OnOk result ((new : PartType) × (self.new.parts ≡ self.old.parts ++ new ∷ []) × IsMendedPart keys.now old.now new) }
-        ensures cost { moves.new ≤ moves.old + mending_cost keys.now (stated_plan (body_in stmt.now)) (laid (state_of base.now) self.old.marks) }
+        ensures cost { moves.new ≤ moves.old + mending_cost keys.now (body_in stmt.now) (stated_plan (body_in stmt.now)) (laid (state_of base.now) self.old.marks) }
         ensures moves { moves.old ≤ moves.new }
         ensures laid { IsLaid base.now self.new.marks self.new.laid }
         ensures parts_kept { OnErr result (self.new.parts ≡ self.old.parts) }
@@ -409,10 +440,10 @@ impl Course {
         ensures reply_kept { OnErr result (self.new.reply ≡ self.old.reply) }
         ensures marks_kept { OnErr result (self.new.marks ≡ self.old.marks) }
     {
-        if body_of(stmt).atoms.len() == 0 {
-            self.evaluate_alone(base, number, stmt, route, moves)?;
-        } else {
+        if reads_some(stmt) {
             self.evaluate_laid(base, number, stmt, route, moves)?;
+        } else {
+            self.evaluate_alone(base, number, stmt, route, moves)?;
         }
         Ok(())
     }

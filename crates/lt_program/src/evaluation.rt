@@ -29,7 +29,7 @@ use lt_face::items::Items;
 use lt_face::key::Key;
 use lt_face::memory::NoMemory;
 use lt_face::moves::Moves;
-use lt_join::some;
+use lt_join::some_unsealed;
 use lt_model::normal::{Body, Stmt, TermList};
 use lt_query::laws::plans_of_bodies;
 use lt_query::planning::plan_by;
@@ -58,10 +58,10 @@ fn told<L>(
     ensures truth { IfOk result (λ told. told.0 ≡ some_answer body.now (state_of tables.now)) }
     ensures vouched { IfOk result (λ told. Vouches told.1 body.now (state_of tables.now)) }
     ensures tight { IfOk result (λ told. IsTight told.1 (state_of tables.now)) }
-    ensures cost { moves.new ≤ moves.old + bound (stated_plan body.now) (state_of tables.now) }
+    ensures cost { moves.new ≤ moves.old + bound body.now (stated_plan body.now) (state_of tables.now) }
     ensures moves { moves.old ≤ moves.new }
 {
-    let told = some(alloc, body, plan, tables, moves)?;
+    let told = some_unsealed(alloc, body, plan, tables, moves)?;
     Ok(told)
 }
 
@@ -95,7 +95,7 @@ fn answered<L>(
     ensures certified { IfOk result (λ part. Certifies (sense_of part) body.now (state_of tables.now)) }
     ensures tight { IfOk result (λ part. IsTight (sense_of part) (state_of tables.now)) }
     ensures slices { IfOk result (λ part. part.slices ≡ []) }
-    ensures cost { moves.new ≤ moves.old + bound (stated_plan body.now) (state_of tables.now) }
+    ensures cost { moves.new ≤ moves.old + bound body.now (stated_plan body.now) (state_of tables.now) }
     ensures moves { moves.old ≤ moves.new }
 {
     let found = found(alloc, tables, body, plan, terms, moves)?;
@@ -122,7 +122,7 @@ fn replaced<L>(
     ensures certified { IfOk result (λ part. Certifies (sense_of part) body.now (state_of tables.now)) }
     ensures tight { IfOk result (λ part. IsTight (sense_of part) (state_of tables.now)) }
     ensures slices { IfOk result (λ part. part.slices ≡ []) }
-    ensures cost { moves.new ≤ moves.old + (bound (stated_plan body.now) (state_of tables.now) + bound (stated_plan body.now) (state_of tables.now)) }
+    ensures cost { moves.new ≤ moves.old + (bound body.now (stated_plan body.now) (state_of tables.now) + bound body.now (stated_plan body.now) (state_of tables.now)) }
     ensures moves { moves.old ≤ moves.new }
 {
     let pair = found_both(alloc, tables, body, plan, gone, come, moves)?;
@@ -149,7 +149,7 @@ fn required<L>(
     ensures vouched { IfOk result (λ part. Vouches (sense_of part) body.now (state_of tables.now)) }
     ensures tight { IfOk result (λ part. IsTight (sense_of part) (state_of tables.now)) }
     ensures slices { IfOk result (λ part. part.slices ≡ []) }
-    ensures cost { moves.new ≤ moves.old + bound (stated_plan body.now) (state_of tables.now) }
+    ensures cost { moves.new ≤ moves.old + bound body.now (stated_plan body.now) (state_of tables.now) }
     ensures moves { moves.old ≤ moves.new }
 {
     let told = told(alloc, tables, body, plan, moves)?;
@@ -280,7 +280,7 @@ pub(crate) fn mended<L>(
     ensures part { IfOk result (λ e. IsPartOn stmt.now (state_of tables.now) e.part) }
     ensures mended { IfOk result (λ e. IsMendedPart keys.now old.now e.part) }
     ensures effect { IfOk result (λ e. view e.effect ≡ effect_of stmt.now (state_of tables.now)) }
-    ensures cost { moves.new ≤ moves.old + mending_cost keys.now (stated_plan (body_in stmt.now)) (state_of tables.now) }
+    ensures cost { moves.new ≤ moves.old + mending_cost keys.now (body_in stmt.now) (stated_plan (body_in stmt.now)) (state_of tables.now) }
     ensures moves { moves.old ≤ moves.new }
 {
     let plan = planned(route, body_of(stmt))?;

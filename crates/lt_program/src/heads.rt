@@ -16,7 +16,7 @@ use lt_face::items::RowList;
 use lt_face::memory::NoMemory;
 use lt_face::moves::Moves;
 use lt_face::row::Row;
-use lt_join::answers;
+use lt_join::answers_unsealed;
 use lt_join::ascending::ascending;
 use lt_model::normal::{Body, TermList};
 use lt_query::Plan;
@@ -47,10 +47,10 @@ pub(crate) fn found<L>(
     ensures rows { IfOk result (λ found. found.0 ≡ answers_of terms.now body.now (state_of tables.now)) }
     ensures certified { IfOk result (λ found. Certifies found.1 body.now (state_of tables.now)) }
     ensures tight { IfOk result (λ found. IsTight found.1 (state_of tables.now)) }
-    ensures cost { moves.new ≤ moves.old + bound (stated_plan body.now) (state_of tables.now) }
+    ensures cost { moves.new ≤ moves.old + bound body.now (stated_plan body.now) (state_of tables.now) }
     ensures moves { moves.old ≤ moves.new }
 {
-    let found = answers(alloc, body, plan, terms, tables, moves)?;
+    let found = answers_unsealed(alloc, body, plan, terms, tables, moves)?;
     Ok(found)
 }
 
@@ -128,7 +128,7 @@ pub(crate) fn found_both<L>(
     ensures second { IfOk result (λ pair. pair.second ≡ answers_of second.now body.now (state_of tables.now)) }
     ensures certified { IfOk result (λ pair. Certifies pair.sense body.now (state_of tables.now)) }
     ensures tight { IfOk result (λ pair. IsTight pair.sense (state_of tables.now)) }
-    ensures cost { moves.new ≤ moves.old + (bound (stated_plan body.now) (state_of tables.now) + bound (stated_plan body.now) (state_of tables.now)) }
+    ensures cost { moves.new ≤ moves.old + (bound body.now (stated_plan body.now) (state_of tables.now) + bound body.now (stated_plan body.now) (state_of tables.now)) }
     ensures moves { moves.old ≤ moves.new }
 {
     let one = found(alloc, tables, body, plan, first, moves)?;

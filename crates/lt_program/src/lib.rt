@@ -13,11 +13,11 @@ mod reading;
 mod slicing;
 mod tally;
 
-pub use copying::copied;
+pub use copying::{copied, copied_reply};
 pub use effect::{Effect, marked};
 pub use indexing::indexed;
 pub use lt_delta::{Mark, MarkList, Marks};
 pub use lt_model::reply::{Printed, Prints, Reply};
 pub use part::{Outcome, Part, SharedPart};
-pub use reading::reads;
+pub use reading::{reads, reads_marked};
 pub use tally::{Tally, run};

@@ -24,7 +24,7 @@ use lt_face::key::Key;
 use lt_face::limits::MOST_COLUMNS;
 use lt_face::memory::NoMemory;
 use lt_face::moves::Moves;
-use lt_join::{SharedSlices, mend, rows_of_slices, slices};
+use lt_join::{SharedSlices, mend, rows_of_slices, slices_unsealed};
 use lt_model::normal::{Body, Stmt, TermList};
 use lt_query::{Plan, body_of};
 use lt_sense::Sense;
@@ -168,11 +168,11 @@ pub(crate) fn join_slices<L>(
     requires fits { FitsStatement (state_of tables.now) stmt.now }
     requires sliced { is_sliced_in stmt.now ≡ true }
     ensures part { IfOk result (IsPartOn stmt.now (state_of tables.now)) }
-    ensures cost { moves.new ≤ moves.old + bound (stated_plan (body_in stmt.now)) (state_of tables.now) }
+    ensures cost { moves.new ≤ moves.old + bound (body_in stmt.now) (stated_plan (body_in stmt.now)) (state_of tables.now) }
     ensures moves { moves.old ≤ moves.new }
 {
     let terms = slice_terms(alloc, stmt)?;
-    let found = slices(alloc, body_of(stmt), plan, &terms, tables, moves)?;
+    let found = slices_unsealed(alloc, body_of(stmt), plan, &terms, tables, moves)?;
     let (root, slices) = found;
     let part = part_by(alloc, stmt, note_order(root), slices)?;
     Ok(part)
@@ -198,7 +198,7 @@ pub(crate) fn mend_slices<L>(
     requires keys { IsRising keys.now }
     ensures part { IfOk result (IsPartOn stmt.now (state_of tables.now)) }
     ensures mended { IfOk result (IsMendedPart keys.now old.now) }
-    ensures cost { moves.new ≤ moves.old + mending_cost keys.now (stated_plan (body_in stmt.now)) (state_of tables.now) }
+    ensures cost { moves.new ≤ moves.old + mending_cost keys.now (body_in stmt.now) (stated_plan (body_in stmt.now)) (state_of tables.now) }
     ensures moves { moves.old ≤ moves.new }
 {
     let terms = slice_terms(alloc, stmt)?;

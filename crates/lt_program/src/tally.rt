@@ -84,6 +84,16 @@ impl Tally {
         Ok(Tally { prog, base, course })
     }
 
+    /// A second owner of the same run, with a copy of its reply.
+    pub fn share(&self) -> Result<Tally, NoMemory>
+        ensures { IfOk result (λ same. same ≡ self.now) }
+    {
+        let prog = self.prog.clone()?;
+        let base = self.base.share()?;
+        let course = self.course.share()?;
+        Ok(Tally { prog, base, course })
+    }
+
     /// Evaluates the next statement, on the state with the marks of those before it laid on it. Want of memory leaves the
     /// tally as it was. `moves` rises by at most what the joins of the statement may take, also then, and never falls.
     pub fn evaluate<L>(&mut self, moves: &mut Moves<L>) -> Result<(), NoMemory>

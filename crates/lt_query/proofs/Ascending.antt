@@ -42,11 +42,11 @@ pub IsAscending-ascending : (rows : List Row) → IsAscending (ascending rows)
 IsAscending-ascending [] = tt
 IsAscending-ascending (row ∷ rows) = ascending-with_row (ascending rows) row (IsAscending-ascending rows)
 
-has_row-true : (rows : List Row) (q : Row) → has_row rows q ≡ true → IsIn q rows
+pub has_row-true : (rows : List Row) (q : Row) → has_row rows q ≡ true → IsIn q rows
 has_row-true [] q h = absurd (cc)
 has_row-true (r ∷ rows) q h = elim (or_cases (is_eq (row_cmp r q)) (has_row rows q) h) [ inl e ↦ inl (same_is r q e) | inr k ↦ inr (has_row-true rows q k) ]
 
-has_row_is : (rows : List Row) (q : Row) → IsIn q rows → has_row rows q ≡ true
+pub has_row_is : (rows : List Row) (q : Row) → IsIn q rows → has_row rows q ≡ true
 has_row_is [] q h = absurd h
 has_row_is (r ∷ rows) q h =
     elim h [

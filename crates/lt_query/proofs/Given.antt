@@ -4,7 +4,7 @@ use Rattle.std.specs.List.{AllByRecursion, list_all}
 use Rattle.std.proofs.Common.{refl, sym, ap, ◌∙◌, subst, inl, inr, cond}
 use Rattle.std.proofs.lemmas.Bool.{and_parts, and_from, or_cases, or_left, or_right, eqb-true, eqb-false, eq-eqb}
 use Rattle.lt_face.specs.Lists.{IsIn}
-use Rattle.lt_face.specs.State.{Row, State}
+use Rattle.lt_face.specs.State.{Row, State, Has}
 use Rattle.lt_model.specs.declared.normal.Term.{Term}
 use Rattle.lt_model.specs.declared.normal.Term.TheVariants.{Var, Cell}
 use Rattle.lt_model.specs.declared.normal.Atom.{Atom}
@@ -16,7 +16,7 @@ use Rattle.lt_model.specs.Cells.{is_cell, sum_of}
 use Rattle.lt_model.specs.Answers.{Assignment, Values, cell_of, cells_of, rows_under, passes, is_value, holds, or_else, value_at, term_value, terms_of, give_value, give, give_all, picks, assignment_of, answers, some_answer}
 use Rattle.lt_model.specs.Bound.{is_var, stands, is_known, know, know_all, is_bound, are_bound}
 use Rattle.lt_model.specs.Fits.{test_terms}
-use Rattle.lt_query.specs.Answering.{IsAnswer, IsSatisfied, AreTestsBound}
+use Rattle.lt_query.specs.Answering.{IsAnswer, IsSatisfied, Lacks, AreTestsBound}
 use Rattle.lt_query.proofs.Picks.{IsIn-picks, Stands-from_picks, IsIn-answers, IsIn-answers_from, some_answer-true, some_answer_is}
 
 -- a value that is there is the assignment's, and each known variable has one
@@ -206,9 +206,15 @@ rows_same body a b same = rows_same_at (is_bound body) a b same body.atoms (λ v
 pub holds_same : (body : Body) (a b : Assignment) → AreTestsBound body → ((v : ℕ) → is_bound body v ≡ true → b v ≡ a v) → holds b body ≡ holds a body
 holds_same body a b whole same =
     let rows = rows_same body a b same in
-    let tests = tests_same (is_bound body) a b same body.tests whole in
+    let tests = tests_same (is_bound body) a b same body.tests whole.0 in
     ap (λ rs. list_all (λ row. list_all is_cell row) rs && list_all (passes b) body.tests) rows
     ∙ ap (λ t. list_all (λ row. list_all is_cell row) (rows_under a body.atoms) && t) tests
+
+-- the absent rows at the bound variables
+pub lacks_same : (known : ℕ → Bool) (a b : Assignment) → ((v : ℕ) → known v ≡ true → b v ≡ a v) → (absents : List Atom) (state : State) → AllByRecursion (λ (atom : Atom). list_all (is_known known) atom.terms ≡ true) absents → Lacks a absents state → Lacks b absents state
+lacks_same known a b same [] state whole none = tt
+lacks_same known a b same (atom ∷ absents) state whole none =
+    (λ there. none.0 (subst (λ row. Has state atom.relation row) (cells_same known a b same atom.terms whole.0) there), lacks_same known a b same absents state whole.1 none.1)
 
 -- the answers are exactly the terms' cells under the assignments that hold and stand
 pub IsIn-answers_of : (terms : List Term) (body : Body) (state : State) (row : Row) → AreTestsBound body → are_bound body terms ≡ true → IsAnswer terms body state row → IsIn row (answers terms body state)
@@ -221,7 +227,7 @@ IsIn-answers_of terms body state row whole heads answer =
     let held : holds b body ≡ true = holds_same body a b whole same ∙ answer.1 in
     let cells : cells_of b terms ≡ row = cells_same (is_bound body) a b same terms heads ∙ answer.3 in
     subst (λ r. IsIn r (answers terms body state)) cells
-    (IsIn-answers terms body state pick (IsIn-picks a body.atoms state answer.2) (rows_same body a b same) held)
+    (IsIn-answers terms body state pick (IsIn-picks a body.atoms state answer.2) (rows_same body a b same) held (lacks_same (is_bound body) a b same body.absents state whole.1 answer.4))
 
 pub IsAnswer-from_answers : (terms : List Term) (body : Body) (state : State) (row : Row) → IsIn row (answers terms body state) → IsAnswer terms body state row
 IsAnswer-from_answers terms body state row h =
@@ -230,6 +236,7 @@ IsAnswer-from_answers terms body state row h =
       found.3,
       Stands-from_picks (assignment_of body found.0) body.atoms state (subst (λ p. IsIn p (picks body.atoms state)) (sym found.2) found.1),
       found.4,
+      found.5,
     )
 
 -- a body has an answer exactly where an assignment holds and stands
@@ -240,9 +247,9 @@ some_answer-satisfied body state whole is =
     let pick : List Row = rows_under a body.atoms in
     let b : Assignment = assignment_of body pick in
     let same : (v : ℕ) → is_bound body v ≡ true → b v ≡ a v = assignment_of_rows body a tests in
-    some_answer_is body state pick (IsIn-picks a body.atoms state is.2) (rows_same body a b same) (holds_same body a b whole same ∙ is.1)
+    some_answer_is body state pick (IsIn-picks a body.atoms state is.2) (rows_same body a b same) (holds_same body a b whole same ∙ is.1) (lacks_same (is_bound body) a b same body.absents state whole.1 is.3)
 
 pub IsSatisfied-from_some : (body : Body) (state : State) → some_answer body state ≡ true → IsSatisfied body state
 IsSatisfied-from_some body state h =
     let found = some_answer-true body state h in
-    (assignment_of body found.0, found.3, Stands-from_picks (assignment_of body found.0) body.atoms state (subst (λ p. IsIn p (picks body.atoms state)) (sym found.2) found.1))
+    (assignment_of body found.0, found.3, Stands-from_picks (assignment_of body found.0) body.atoms state (subst (λ p. IsIn p (picks body.atoms state)) (sym found.2) found.1), found.4)

@@ -26,7 +26,7 @@ use Rattle.lt_query.specs.declared.plans.Guide.{Guide}
 use Rattle.lt_query.specs.declared.plans.Plan.{Plan}
 use Rattle.lt_query.specs.LevelsOf.{constants_of, first_place, pins_of, ties_of, levels_from}
 use Rattle.lt_query.specs.Plan.{term_at, IsGuideOf, IsPinOf, IsLevelOf, AreLevelsFrom, IsPlanOf}
-use Rattle.lt_query.specs.Runnable.{IsWidth, HasWidths, AreWide, AreFew, IsRunnable}
+use Rattle.lt_query.specs.Runnable.{IsWidth, AreAtomsWide, HasWidths, AreWide, AreFew, IsRunnable}
 use Rattle.lt_query.specs.Order.{stated_terms}
 use Rattle.lt_query.specs.Stated.{stated_plan}
 use Rattle.lt_query.proofs.Elements.{All_at}
@@ -47,8 +47,10 @@ width_of state relation width wide e =
 
 -- the atoms of a body that fits are as wide as the relations
 pub widths_of : (state : State) (body : Body) → AreWide state → IsBodyOf state body → HasWidths body
-widths_of state body wide fits =
-    each_weaker (IsAtomOf state body.vars) (λ (atom : Atom). IsWidth (length atom.terms)) (λ atom h. width_of state atom.relation (length atom.terms) wide h.is_wide) body.atoms fits.atoms
+widths_of state body wide fits = (each body.atoms fits.atoms, each body.absents fits.absents)
+  where
+    each : (atoms : List Atom) → AllByRecursion (IsAtomOf state body.vars) atoms → AreAtomsWide atoms
+    each atoms h = each_weaker (IsAtomOf state body.vars) (λ (atom : Atom). IsWidth (length atom.terms)) (λ atom h. width_of state atom.relation (length atom.terms) wide h.is_wide) atoms h
 
 guide_widths : (levels : List Level) (atoms : List Atom) (guides : List Guide) → AllZip (IsGuideOf levels) atoms guides → AllByRecursion (λ (atom : Atom). IsWidth (length atom.terms)) atoms → AllByRecursion (λ (guide : Guide). IsWidth (length guide.places)) guides
 guide_widths levels [] [] z w = tt
@@ -133,7 +135,8 @@ IsRunnable-of state body plan widths fits is few =
     record {
       pins = each_weaker (IsFitting body.vars) (λ (level : Level). AllByRecursion IsCell level.pins) (λ level h. h.0) plan.levels each;
       variables = each_weaker (IsFitting body.vars) (λ (level : Level). IsTermOf body.vars level.term) (λ level h. h.1) plan.levels each;
-      widths = guide_widths plan.levels body.atoms plan.guides is.guides widths;
+      widths = guide_widths plan.levels body.atoms plan.guides is.guides widths.0;
+      absents = widths.1;
       held = λ v h. level_of plan.levels v body.atoms plan.guides is.guides h;
       few = few;
     }
@@ -175,5 +178,5 @@ IsRunnable-stated state body widths fits =
     let levels = (stated_plan body).levels in
     let few : AreFew (stated_plan body) =
     subst (λ n. AllByRecursion (λ (level : Level). n + (length level.pins + length level.ties) < 2 ^ 32) levels) (sym long)
-    (levels_few body.tests (length body.atoms) fits.has_few_literals [] (stated_terms body)) in
+    (levels_few body.tests (length body.atoms) (omega (arith, fits.has_few_literals)) [] (stated_terms body)) in
     IsRunnable-of state body (stated_plan body) widths fits is few

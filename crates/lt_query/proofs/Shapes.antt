@@ -270,8 +270,8 @@ same-blank_test a b h = same-test_of (pinned_by a) (pinned_by b) (sym (blank_tes
 shape_same : (a b : Body) → same_shape a b ≡ true → shape_of a ≡ shape_of b
 shape_same a b h =
     let both = and_parts (pointwise same_atom a.atoms b.atoms) (pointwise same_test a.tests b.tests) h in
-    ap (λ atoms. record { atoms = atoms; tests = map blank_test a.tests; vars = 0 }) (map_same same_atom blank_atom blank_atom-same a.atoms b.atoms both.0)
-    ∙ ap (λ tests. record { atoms = map blank_atom b.atoms; tests = tests; vars = 0 }) (map_same same_test blank_test blank_test-same a.tests b.tests both.1)
+    ap (λ atoms. record { atoms = atoms; absents = []; tests = map blank_test a.tests; vars = 0 }) (map_same same_atom blank_atom blank_atom-same a.atoms b.atoms both.0)
+    ∙ ap (λ tests. record { atoms = map blank_atom b.atoms; absents = []; tests = tests; vars = 0 }) (map_same same_test blank_test blank_test-same a.tests b.tests both.1)
 
 same_shape_is : (a b : Body) → shape_of a ≡ shape_of b → same_shape a b ≡ true
 same_shape_is a b h =

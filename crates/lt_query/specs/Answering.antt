@@ -14,14 +14,18 @@ use Rattle.lt_model.specs.Fits.{test_terms}
 abbrev pub Stands : Assignment → List Atom → State → Type 0
 Stands a atoms state = AllByRecursion (λ (atom : Atom). Has state atom.relation (cells_of a atom.terms)) atoms
 
--- the row is the terms' cells under an assignment that holds, whose rows the state has
+-- none of the negated atoms' rows is in the state
+abbrev pub Lacks : Assignment → List Atom → State → Type 0
+Lacks a absents state = AllByRecursion (λ (atom : Atom). Has state atom.relation (cells_of a atom.terms) → ⊥) absents
+
+-- the row is the terms' cells under an assignment that holds, whose rows the state has, and none of whose absent rows it has
 abbrev pub IsAnswer : List Term → Body → State → Row → Type 0
-IsAnswer terms body state row = (a : Assignment) × (holds a body ≡ true) × Stands a body.atoms state × (cells_of a terms ≡ row)
+IsAnswer terms body state row = (a : Assignment) × (holds a body ≡ true) × Stands a body.atoms state × (cells_of a terms ≡ row) × Lacks a body.absents state
 
--- an assignment holds, and the state has its rows
+-- an assignment holds, and the state has its rows and none of its absent rows
 abbrev pub IsSatisfied : Body → State → Type 0
-IsSatisfied body state = (a : Assignment) × (holds a body ≡ true) × Stands a body.atoms state
+IsSatisfied body state = (a : Assignment) × (holds a body ≡ true) × Stands a body.atoms state × Lacks a body.absents state
 
--- each variable of the literals is bound
+-- each variable of the comparisons and sums, and of the negated atoms, is bound
 abbrev pub AreTestsBound : Body → Type 0
-AreTestsBound body = AllByRecursion (λ (test : Test). are_bound body (test_terms test) ≡ true) body.tests
+AreTestsBound body = AllByRecursion (λ (test : Test). are_bound body (test_terms test) ≡ true) body.tests × AllByRecursion (λ (atom : Atom). are_bound body atom.terms ≡ true) body.absents

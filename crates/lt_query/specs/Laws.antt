@@ -35,7 +35,7 @@ OneStatedPlan = (body : Body) (plan other : Plan) → IsPlanOf body plan → IsS
 abbrev pub AnswersAscend : Type 0
 AnswersAscend = (terms : List Term) (body : Body) (state : State) → IsAscending (answers terms body state)
 
--- they are the terms' cells under the assignments that hold and whose rows the state has
+-- they are the terms' cells under the assignments that hold, whose rows the state has, and none of whose absent rows it has
 abbrev pub AnswersAreCells : Type 0
 AnswersAreCells = (terms : List Term) (body : Body) (state : State) → AreTestsBound body → are_bound body terms ≡ true → (row : Row) → IsIn row (answers terms body state) ↔ IsAnswer terms body state row
 

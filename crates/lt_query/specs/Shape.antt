@@ -30,9 +30,10 @@ abbrev pub blank_test : Test → Test
 blank_test (Cmp (Var v) Eq (Cell c)) = Cmp (Var v) Eq (Cell 0)
 blank_test test = Cmp (Cell 0) Eq (Cell 0)
 
--- the relations of a body, its variables' numbers, which of its terms are constants, and which variables its literals pin
+-- the relations of a body, its variables' numbers, which of its terms are constants, and which variables its literals pin;
+-- negated atoms decide nothing of the plan
 abbrev pub shape_of : Body → Body
-shape_of body = record { atoms = map blank_atom body.atoms; tests = map blank_test body.tests; vars = 0 }
+shape_of body = record { atoms = map blank_atom body.atoms; absents = []; tests = map blank_test body.tests; vars = 0 }
 
 -- ---- plans of shapes
 

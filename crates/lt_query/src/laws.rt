@@ -9,8 +9,8 @@ pub fn plans_of_bodies()
     ensures one { OneStatedPlan }
 {}
 
-/// The answers of a body ascend, and they are the terms' cells under the assignments that hold and whose rows the state
-/// has. There is one exactly where there is such an assignment. So answers with the same rows are equal.
+/// The answers of a body ascend, and they are the terms' cells under the assignments that hold, whose rows the state has,
+/// and none of whose absent rows it has. There is one exactly where there is such an assignment. So answers with the same rows are equal.
 pub fn answers_of_bodies()
     ensures ascend { AnswersAscend }
     ensures cells { AnswersAreCells }

@@ -13,7 +13,7 @@ pub mod planning;
 pub mod plans;
 pub mod shape;
 
-pub use indexes::body_of;
+pub use indexes::{body_of, own_columns};
 pub use lt_model::normal::{Atom, Body, Prog, Stmt, Term, TermList, Test};
 pub use planned::{Planned, plan_all};
 pub use planning::{plan, plan_by, route};

@@ -1,16 +1,16 @@
 //! Programs with what the shapes of their statements' bodies decide of the plans. In a list of programs each shape is planned
 //! once.
-ghost use Rattle.std.specs.Prelude.{◌≡◌, ◌↔◌, map, IfOk, IfSome};
+ghost use Rattle.std.specs.Prelude.{◌≡◌, ◌↔◌, map, IfOk, OnOk, IfSome};
 ghost use Rattle.std.specs.Arc.{arc_value};
 ghost use Rattle.std.specs.List.{AllByRecursion};
 ghost use Rattle.lt_face.specs.Lists.{IsIn};
 ghost use Rattle.lt_query.specs.declared.plans.IndexName.{IndexName as IndexNameType};
 ghost use Rattle.lt_query.specs.Lists.{IsDistinct};
-ghost use Rattle.lt_query.specs.Needs.{IsNeeded, HaveNames};
+ghost use Rattle.lt_query.specs.Needs.{body_of as body_in, IsNeeded, HaveNames, HaveFirsts, with_names, firsts_of};
 ghost use Rattle.lt_query.specs.Planned.{route_of, routes_of, HaveWidths};
 ghost use Rattle.lt_query.specs.Runnable.{HasWidths};
 
-use crate::indexes::{add_names, body_of};
+use crate::indexes::{add_firsts, add_names, body_of};
 use crate::planning::route;
 use crate::shape::same_shape;
 use crate::{Body, Perms, Prog, Route, Stmt};
@@ -34,13 +34,13 @@ impl Model for Planned {
     ghost use Rattle.std.specs.Prelude.{◌≡◌, List, map};
     ghost use Rattle.std.specs.Arc.{arc_value};
     ghost use Rattle.lt_model.specs.declared.normal.Stmt.{Stmt};
-    ghost use Rattle.lt_query.specs.Planned.{routes_of};
+    ghost use Rattle.lt_query.specs.Planned.{routes_of, HaveWidths};
 
     ghost Value = { List Stmt };
 
     ghost view = { λ p. arc_value p.prog };
 
-    ghost invariant = { λ p. map arc_value p.routes ≡ routes_of (arc_value p.prog) };
+    ghost invariant = { λ p. (map arc_value p.routes ≡ routes_of (arc_value p.prog)) × HaveWidths (arc_value p.prog) };
 }
 
 impl Planned {
@@ -73,17 +73,28 @@ impl Planned {
         self.prog.allocator()
     }
 
-    /// The indexes that the plans go through, each once: of each, the relation and the order of its columns.
+    /// The indexes that the plans go through, and the first ones of negated atoms, each once: of each, the relation and the
+    /// order of its columns.
     pub fn needs(&self) -> Result<Perms, NoMemory>
         ensures once { IfOk result (λ names. IsDistinct names) }
         ensures needed { IfOk result (λ names. (name : IndexNameType) → IsIn name names ↔ IsNeeded self.now name) }
         ensures each { IfOk result (λ names. HaveNames names self.now) }
+        ensures firsts { IfOk result (λ names. AllByRecursion (λ stmt. HaveFirsts names (body_in stmt)) self.now) }
     {
         let mut names = Items::new(self.allocator());
         for route in self.routes() {
             add_names(&mut names, route.guides.as_slice())?;
         }
+        self.add_firsts(&mut names)?;
         Ok(names)
+    }
+
+    /// Adds the first indexes of negated atoms.
+    fn add_firsts(&self, names: &mut Perms) -> Result<(), NoMemory>
+        ensures { OnOk result (names.new ≡ with_names names.old (firsts_of self.now)) }
+    {
+        add_firsts(self.prog.allocator(), names, self.prog.as_slice())?;
+        Ok(())
     }
 }
 

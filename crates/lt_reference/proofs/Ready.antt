@@ -15,7 +15,7 @@ use Rattle.lt_model.specs.Laws.{Rises}
 use Rattle.lt_reference.specs.Ready.{IsBody, AreTerms, IsReady}
 use Rattle.lt_reference.specs.Run.{lists, IsFitting}
 use Rattle.lt_join.specs.Values.{IsTest}
-use Rattle.lt_reference.specs.Walk.{IsAtom, AreCells, bare}
+use Rattle.lt_reference.specs.Walk.{IsAtom, IsAbsent, AreCells, bare}
 use Rattle.lt_reference.proofs.LaidRows.{bare_each}
 
 term_of : (vars : ℕ) (t : Term) → vars ≤ 16 → IsTermOf vars t → IsTermOf 16 t
@@ -24,12 +24,6 @@ term_of vars (Cell c) le h = h
 
 terms_of : (vars : ℕ) (ts : List Term) → vars ≤ 16 → AllByRecursion (IsTermOf vars) ts → AllByRecursion (IsTermOf 16) ts
 terms_of vars ts le h = each_weaker (IsTermOf vars) (IsTermOf 16) (λ t k. term_of vars t le k) ts h
-
-pub body_of : (state : State) (body : Body) → IsBodyOf state body → IsBody body
-body_of state body fits = record {
-  atoms = each_weaker (IsAtomOf state body.vars) IsAtom (λ atom h. terms_of body.vars atom.terms fits.has_few_variables h.has_terms) body.atoms fits.atoms;
-  tests = each_weaker (λ test. AllByRecursion (IsTermOf body.vars) (test_terms test)) IsTest (λ test h. terms_of body.vars (test_terms test) fits.has_few_variables h) body.tests fits.tests;
-}
 
 some_is : (x y : ℕ) → Some x ≡ Some y → x ≡ y
 some_is x y e = cc
@@ -43,6 +37,15 @@ narrow_at [] (suc r) w h wide = cc
 narrow_at (relation ∷ state) zero w h wide = subst (λ n. n ≤ 8) (some_is relation.width w wide) h.0
 narrow_at (relation ∷ state) (suc r) w h wide = narrow_at state r w h.1 wide
 
+pub body_of : (state : State) (body : Body) → IsNarrow state → IsBodyOf state body → IsBody body
+body_of state body narrow fits = record {
+  atoms = each_weaker (IsAtomOf state body.vars) IsAtom (λ atom h. terms_of body.vars atom.terms fits.has_few_variables h.has_terms) body.atoms fits.atoms;
+  absents =
+      each_weaker (IsAtomOf state body.vars) IsAbsent
+      (λ atom h. (terms_of body.vars atom.terms fits.has_few_variables h.has_terms, narrow_at state atom.relation (length atom.terms) narrow h.is_wide)) body.absents fits.absents;
+  tests = each_weaker (λ test. AllByRecursion (IsTermOf body.vars) (test_terms test)) IsTest (λ test h. terms_of body.vars (test_terms test) fits.has_few_variables h) body.tests fits.tests;
+}
+
 pub head_of : (state : State) (body : Body) (head : Atom) → IsNarrow state → IsBodyOf state body → IsHeadOf state body head → AreTerms body head.terms
 head_of state body head narrow fits h = record {
   narrow = narrow_at state head.relation (length head.terms) narrow h.fits.is_wide;
@@ -51,12 +54,12 @@ head_of state body head narrow fits h = record {
 }
 
 pub statement_of : (state : State) (stmt : Stmt) → IsNarrow state → FitsStatement state stmt → IsReady stmt
-statement_of state (Insert head body) narrow h = (body_of state body h.0, head_of state body head narrow h.0 h.1)
-statement_of state (Delete head body) narrow h = (body_of state body h.0, head_of state body head narrow h.0 h.1)
-statement_of state (Replace gone come body) narrow h = (body_of state body h.0, head_of state body gone narrow h.0 h.1, head_of state body come narrow h.0 h.2)
-statement_of state (Require some body) narrow h = body_of state body h
+statement_of state (Insert head body) narrow h = (body_of state body narrow h.0, head_of state body head narrow h.0 h.1)
+statement_of state (Delete head body) narrow h = (body_of state body narrow h.0, head_of state body head narrow h.0 h.1)
+statement_of state (Replace gone come body) narrow h = (body_of state body narrow h.0, head_of state body gone narrow h.0 h.1, head_of state body come narrow h.0 h.2)
+statement_of state (Require some body) narrow h = body_of state body narrow h
 statement_of state (Print terms kinds body) narrow h = (
-  body_of state body h.0,
+  body_of state body narrow h.0,
   record {
     narrow = (let wide = h.1.is_wide in let few = h.1.has_few in omega arith);
     cells = terms_of body.vars terms h.0.has_few_variables h.1.has_terms;

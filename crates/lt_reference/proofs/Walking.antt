@@ -6,7 +6,7 @@ use Rattle.std.specs.Ordering.{is_eq, nat_cmp}
 use Rattle.std.proofs.lemmas.Bool.{eq-eqb}
 use Rattle.std.proofs.lemmas.Bool.Decides.{eqb_tells}
 use Rattle.lt_face.specs.Rows.{row_cmp}
-use Rattle.lt_face.specs.State.{Row}
+use Rattle.lt_face.specs.State.{Row, State}
 use Rattle.lt_model.specs.declared.normal.Term.{Term}
 use Rattle.lt_model.specs.declared.normal.Term.TheVariants.{Var, Cell}
 use Rattle.lt_model.specs.declared.normal.Atom.{Atom}
@@ -17,7 +17,7 @@ use Rattle.lt_model.specs.Answers.{Assignment, Values, cell_of, cells_of, rows_u
 use Rattle.lt_model.specs.Cells.{sum_of}
 use Rattle.lt_join.specs.Values.{assigned, with_value}
 use Rattle.lt_reference.specs.Values.{with_cell, accept, matched}
-use Rattle.lt_reference.specs.Walk.{begun, assignment_from, fits_from, answer_from}
+use Rattle.lt_reference.specs.Walk.{bears, begun, assignment_from, fits_from, answer_from}
 use Rattle.lt_join.proofs.SortedRows.{eq_nat, eq_then}
 use Rattle.lt_program.proofs.BoundCells.{assigned_has}
 
@@ -107,31 +107,31 @@ module _ (atoms : List Atom) (pick : List Row) where
         | Some next ↦ λ e. row_tells next a ts xs (subst (λ b. Tells b a) (begun_step values next t x ts xs e) tells)
       ] refl)
 
-  module _ (terms : List Term) (tests : List Test) (values : Values) (atom : Atom) (row : Row) where
+  module _ (terms : List Term) (tests : List Test) (absents : List Atom) (state : State) (values : Values) (atom : Atom) (row : Row) where
     told_first : is_eq (row_cmp (cells_of (assignment_from values (atom ∷ atoms) tests (row ∷ pick)) atom.terms) row) ≡ is_some (matched values atom.terms row)
     told_first = row_tells values (assignment_from values (atom ∷ atoms) tests (row ∷ pick)) atom.terms row (assigned_tells (begun_at values atom.terms row) tests)
 
     rest_of : Bool → Bool
     rest_of b =
         let a : Assignment = assignment_from values (atom ∷ atoms) tests (row ∷ pick) in
-        (b && rows_eq (rows_under a atoms) pick) && list_all (passes a) tests
+        (b && rows_eq (rows_under a atoms) pick) && bears a tests absents state
 
     -- a row that can't match leads to no answer
-    pub fits_missed : matched values atom.terms row ≡ None → fits_from values (atom ∷ atoms) tests (row ∷ pick) ≡ false
+    pub fits_missed : matched values atom.terms row ≡ None → fits_from values (atom ∷ atoms) tests absents state (row ∷ pick) ≡ false
     unfolding rest_of
     fits_missed e = ap rest_of (told_first ∙ ap is_some e)
 
     -- one that matches leads to those of the values with its cells
-    pub fits_met : (next : Values) → matched values atom.terms row ≡ Some next → fits_from values (atom ∷ atoms) tests (row ∷ pick) ≡ fits_from next atoms tests pick
+    pub fits_met : (next : Values) → matched values atom.terms row ≡ Some next → fits_from values (atom ∷ atoms) tests absents state (row ∷ pick) ≡ fits_from next atoms tests absents state pick
     unfolding rest_of
     fits_met next e =
         ap rest_of (told_first ∙ ap is_some e)
-        ∙ ap (λ (w : Values). rows_eq (rows_under (assigned (give_all w tests)) atoms) pick && list_all (passes (assigned (give_all w tests))) tests) (begun_met values next atom.terms row e)
+        ∙ ap (λ (w : Values). rows_eq (rows_under (assigned (give_all w tests)) atoms) pick && bears (assigned (give_all w tests)) tests absents state) (begun_met values next atom.terms row e)
 
-    pub answer_missed : matched values atom.terms row ≡ None → answer_from terms values (atom ∷ atoms) tests (row ∷ pick) ≡ None
+    pub answer_missed : matched values atom.terms row ≡ None → answer_from terms values (atom ∷ atoms) tests absents state (row ∷ pick) ≡ None
     answer_missed e = ap (λ b. cond b (Some (cells_of (assignment_from values (atom ∷ atoms) tests (row ∷ pick)) terms)) None) (fits_missed e)
 
-    pub answer_met : (next : Values) → matched values atom.terms row ≡ Some next → answer_from terms values (atom ∷ atoms) tests (row ∷ pick) ≡ answer_from terms next atoms tests pick
+    pub answer_met : (next : Values) → matched values atom.terms row ≡ Some next → answer_from terms values (atom ∷ atoms) tests absents state (row ∷ pick) ≡ answer_from terms next atoms tests absents state pick
     answer_met next e =
         ap (λ b. cond b (Some (cells_of (assignment_from values (atom ∷ atoms) tests (row ∷ pick)) terms)) None) (fits_met next e)
-        ∙ ap (λ (w : Values). cond (fits_from next atoms tests pick) (Some (cells_of (assigned (give_all w tests)) terms)) None) (begun_met values next atom.terms row e)
+        ∙ ap (λ (w : Values). cond (fits_from next atoms tests absents state pick) (Some (cells_of (assigned (give_all w tests)) terms)) None) (begun_met values next atom.terms row e)

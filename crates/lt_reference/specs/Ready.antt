@@ -12,10 +12,11 @@ use Rattle.lt_program.specs.declared.effect.Effect.{Effect}
 use Rattle.lt_program.specs.declared.effect.Effect.TheVariants.{Writes, Requires, Prints}
 use Rattle.lt_program.specs.Effect.{HaveCells}
 use Rattle.lt_join.specs.Values.{IsTest}
-use Rattle.lt_reference.specs.Walk.{IsAtom}
+use Rattle.lt_reference.specs.Walk.{IsAtom, IsAbsent}
 
 pub record IsBody (body : Body) : Type 0 where
   pub atoms : AllByRecursion IsAtom body.atoms
+  pub absents : AllByRecursion IsAbsent body.absents
   pub tests : AllByRecursion IsTest body.tests
 
 -- terms whose cells make a row

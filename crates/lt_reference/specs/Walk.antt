@@ -1,7 +1,7 @@
 -- A body's answers, row by row of its atoms, while the variables met so far have values.
-use Rattle.std.specs.Prelude.{Bool, ◌&&◌, if◌then◌else◌, List, map, Option, Some, None, filter_map, flat_map}
+use Rattle.std.specs.Prelude.{◌≤◌, length, Bool, ◌&&◌, if◌then◌else◌, List, map, Option, Some, None, filter_map, flat_map}
 use Rattle.std.specs.List.{AllByRecursion, list_all, list_any}
-use Rattle.lt_face.specs.Limits.{most_variables}
+use Rattle.lt_face.specs.Limits.{most_columns, most_variables}
 use Rattle.lt_face.specs.Rows.{IsCell}
 use Rattle.lt_face.specs.State.{Row, State}
 use Rattle.lt_model.specs.declared.normal.Term.{Term}
@@ -9,7 +9,7 @@ use Rattle.lt_model.specs.declared.normal.Atom.{Atom}
 use Rattle.lt_model.specs.declared.normal.Test.{Test}
 use Rattle.lt_model.specs.Fits.{IsTermOf}
 use Rattle.lt_join.specs.Values.{assigned}
-use Rattle.lt_model.specs.Answers.{Assignment, Values, cells_of, rows_under, passes, or_else, value_at, terms_of, give_all, picks, rows_eq}
+use Rattle.lt_model.specs.Answers.{Assignment, Values, cells_of, rows_under, passes, or_else, value_at, terms_of, give_all, picks, rows_eq, lacks}
 
 -- ---- what is read
 
@@ -25,11 +25,19 @@ AreCells relations = AllByRecursion (AllByRecursion (AllByRecursion IsCell)) rel
 abbrev pub IsAtom : Atom → Type 0
 IsAtom atom = AllByRecursion (IsTermOf most_variables) atom.terms
 
+-- the same of a negated atom, which has at most 8 terms
+abbrev pub IsAbsent : Atom → Type 0
+IsAbsent atom = IsAtom atom × (length atom.terms ≤ most_columns)
+
+-- whether each test holds, and the state has none of the absent rows
+abbrev pub bears : Assignment → List Test → List Atom → State → Bool
+bears a tests absents state = list_all (passes a) tests && lacks a absents state
+
 -- the answer of the values, once all atoms are met
-abbrev pub leaf : List Term → Values → List Test → Option Row
-leaf terms values tests =
+abbrev pub leaf : List Term → Values → List Test → List Atom → State → Option Row
+leaf terms values tests absents state =
     let a : Assignment = assigned (give_all values tests) in
-    if list_all (passes a) tests then Some (cells_of a terms) else None
+    if bears a tests absents state then Some (cells_of a terms) else None
 
 -- ---- what is left
 
@@ -41,19 +49,19 @@ begun values atoms pick u = or_else (values u) (value_at (terms_of atoms) (flat_
 abbrev pub assignment_from : Values → List Atom → List Test → List Row → Assignment
 assignment_from values atoms tests pick = assigned (give_all (begun values atoms pick) tests)
 
--- whether the pick is the atoms' rows under it, and each test holds
-abbrev pub fits_from : Values → List Atom → List Test → List Row → Bool
-fits_from values atoms tests pick =
+-- whether the pick is the atoms' rows under it, each test holds, and the state has none of the absent rows
+abbrev pub fits_from : Values → List Atom → List Test → List Atom → State → List Row → Bool
+fits_from values atoms tests absents state pick =
     let a : Assignment = assignment_from values atoms tests pick in
-    rows_eq (rows_under a atoms) pick && list_all (passes a) tests
+    rows_eq (rows_under a atoms) pick && bears a tests absents state
 
-abbrev pub answer_from : List Term → Values → List Atom → List Test → List Row → Option Row
-answer_from terms values atoms tests pick = if fits_from values atoms tests pick then Some (cells_of (assignment_from values atoms tests pick) terms) else None
+abbrev pub answer_from : List Term → Values → List Atom → List Test → List Atom → State → List Row → Option Row
+answer_from terms values atoms tests absents state pick = if fits_from values atoms tests absents state pick then Some (cells_of (assignment_from values atoms tests pick) terms) else None
 
 -- the terms' cells over all picks of the atoms that go with the values, in the order of the picks
-abbrev pub found_from : List Term → Values → List Atom → List Test → State → List Row
-found_from terms values atoms tests state = filter_map (answer_from terms values atoms tests) (picks atoms state)
+abbrev pub found_from : List Term → Values → List Atom → List Test → List Atom → State → List Row
+found_from terms values atoms tests absents state = filter_map (answer_from terms values atoms tests absents state) (picks atoms state)
 
 -- whether there is such a pick
-abbrev pub some_from : Values → List Atom → List Test → State → Bool
-some_from values atoms tests state = list_any (fits_from values atoms tests) (picks atoms state)
+abbrev pub some_from : Values → List Atom → List Test → List Atom → State → Bool
+some_from values atoms tests absents state = list_any (fits_from values atoms tests absents state) (picks atoms state)

@@ -59,7 +59,9 @@ pub(crate) fn effect_on(
             let marks = Marks::and_then(&gone, &come)?;
             Ok(Effect::Writes(marks))
         }
-        Stmt::Require { some, body } => Ok(Effect::Requires(some_answer(relations, body) == *some)),
+        Stmt::Require { some, body } => Ok(Effect::Requires(
+            some_answer(alloc, relations, body) == *some,
+        )),
         Stmt::Print { terms, kinds, body } => {
             let rows = answers(alloc, relations, terms.as_slice(), body)?;
             Ok(Effect::Prints(KindList::from_kinds(alloc, kinds.as_slice()), rows))

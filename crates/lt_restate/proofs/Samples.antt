@@ -26,7 +26,7 @@ abbrev pair : ℕ → ℕ → Row
 pair x y = x ∷ y ∷ []
 
 abbrev body : Body
-body = record { atoms = record { relation = 0; terms = Var 0 ∷ Var 1 ∷ [] } ∷ []; tests = []; vars = 2 }
+body = record { atoms = record { relation = 0; terms = Var 0 ∷ Var 1 ∷ [] } ∷ []; absents = []; tests = []; vars = 2 }
 
 abbrev printed : Stmt
 printed = Print (Var 0 ∷ Var 1 ∷ []) (Int ∷ Int ∷ []) body
@@ -80,14 +80,14 @@ touched : touched_on part first second ≡ 5 ∷ []
 touched = refl
 
 -- two iterators at the first level, one at the second, and one key at each: 2 * (1 + 2) + 1 * (1 + 2)
-mended : mending_cost (5 ∷ []) plan second ≡ 9
+mended : mending_cost (5 ∷ []) body plan second ≡ 9
 mended = refl
 
 -- the moves of a statement kept by slices, by its touched keys and its plan
-by_keys : (was : Part) (stmt : Stmt) (s t : State) (keys : List ℕ) (p : Plan) (n : ℕ) → is_sliced stmt ≡ true → touched_on was s t ≡ keys → stated_plan (body_of stmt) ≡ p → mending_cost keys p t ≡ n → cost_after (Some was) (Some stmt) s t ≡ n
+by_keys : (was : Part) (stmt : Stmt) (s t : State) (keys : List ℕ) (p : Plan) (n : ℕ) → is_sliced stmt ≡ true → touched_on was s t ≡ keys → stated_plan (body_of stmt) ≡ p → mending_cost keys (body_of stmt) p t ≡ n → cost_after (Some was) (Some stmt) s t ≡ n
 by_keys was stmt s t keys p n sliced touches is cost =
     ap (λ b. if b then mending_on (touched_on was s t) (Some stmt) t else cost_on (Some stmt) t) sliced
-    ∙ (ap (λ (ks : List ℕ). mending_cost ks (stated_plan (body_of stmt)) t) touches ∙ (ap (λ (x : Plan). mending_cost keys x t) is ∙ cost))
+    ∙ (ap (λ (ks : List ℕ). mending_cost ks (body_of stmt) (stated_plan (body_of stmt)) t) touches ∙ (ap (λ (x : Plan). mending_cost keys (body_of stmt) x t) is ∙ cost))
 
 root_gaps : cut (touched_on part first second) part.sense ≡ record { gaps = gap [] 0 1 ∷ gap [] 2 3 ∷ gap [] 4 5 ∷ gap [] 6 9 ∷ []; hits = [] }
 root_gaps = refl

@@ -148,6 +148,25 @@ fn bodies_have_their_answers(rt: HostRuntime) -> Result<(), NoMemory> {
             "print (3) where e(x, 1);",
             [3].as_slice(),
         ),
+        // rows that are absent: one of two variables, one variable twice, one of a sum
+        (
+            "insert e(1, 2); insert e(2, 1); insert e(2, 3);",
+            "print (x) where e(x, y), not e(y, x);",
+            [2].as_slice(),
+        ),
+        (
+            "insert r(1); insert r(2); insert e(1, 1); insert e(2, 1);",
+            "print (x) where not e(x, x), r(x);",
+            [2].as_slice(),
+        ),
+        (
+            "insert r(1); insert r(2); insert r(4);",
+            "print (x) where r(x), not r(y), y = x + 1;",
+            [2, 4].as_slice(),
+        ),
+        // absent rows alone
+        ("insert r(1);", "print (3) where not r(2);", [3].as_slice()),
+        ("insert r(1);", "print (3) where not r(1);", [].as_slice()),
         // triangles
         (
             "insert e(1, 2); insert e(2, 3); insert e(1, 3); insert e(3, 1); insert e(3, 4); insert e(1, 4); insert e(4, 2);",
@@ -269,6 +288,38 @@ fn evaluations_leave_their_gaps_and_hits(rt: HostRuntime) -> Result<(), NoMemory
                 gaps: &[(0, ONE), (ONE + 3, END)],
                 hits: &[1, 2, 3],
                 covers: (true, true),
+            },
+        ),
+        // a requirement that is met by an absent row keeps its gap, and what it met before, each row once
+        (
+            "insert r(1); insert r(2); insert r(9);",
+            "require some r(x), not r(y), y = x + 1;",
+            true,
+            Sensitive {
+                gaps: &[(0, ONE), (ONE + 2, ONE + 3)],
+                hits: &[1, 2],
+                covers: (false, false),
+            },
+        ),
+        // an absent row alone, and a row that is there in its place
+        (
+            "insert r(1);",
+            "require some not r(4);",
+            true,
+            Sensitive {
+                gaps: &[(ONE + 3, ONE + 4)],
+                hits: &[],
+                covers: (true, false),
+            },
+        ),
+        (
+            "insert r(1);",
+            "require some not r(1);",
+            false,
+            Sensitive {
+                gaps: &[],
+                hits: &[1],
+                covers: (false, false),
             },
         ),
     ] {

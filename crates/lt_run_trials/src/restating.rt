@@ -121,6 +121,41 @@ fn a_refused_program_may_be_done_and_a_done_one_refused(rt: HostRuntime) -> Resu
     Ok(())
 }
 
+/// Whether the one touch of a requirement that asks for an absent row is by this row of r, and such a spot.
+fn is_touched_at<R: Threads + Sync>(
+    rt: &R,
+    alloc: Global,
+    stock: &str,
+    second: &str,
+    spot: &Spot,
+) -> Result<bool, NoMemory> {
+    let out = restated_by(rt, alloc, stock, "require some not r(5);", "", second)?;
+    let is_so = match out.touches.as_slice() {
+        [touch] => touch.row == int_row(alloc, 5) && touch.spot == *spot,
+        _ => false,
+    };
+    let is_same = is_same_reply(out.new.reply(), out.anew.reply())
+        && !is_same_reply(out.new.reply(), out.old.reply());
+    drop(out);
+    Ok(is_so && is_same)
+}
+
+/// An insert into the gap that an absent row left, and a delete of the row that stood in its place.
+#[test]
+fn an_absent_row_touches_where_it_comes_and_where_it_goes(rt: HostRuntime) -> Result<(), NoMemory> {
+    let alloc = rt.alloc();
+    let gap = Spot::Gap {
+        prefix: Row::from_cells(alloc, &[]),
+        lo: cell_of_int(5),
+        hi: cell_of_int(6),
+    };
+    let came = is_touched_at(&rt, alloc, "insert r(4);", "insert r(5);", &gap)?;
+    holds(&rt, came);
+    let went = is_touched_at(&rt, alloc, "insert r(5);", "delete r(5);", &Spot::Hit)?;
+    holds(&rt, went);
+    Ok(())
+}
+
 fn is_same_gap(a: &KeptGap, b: &KeptGap) -> bool {
     a.relation == b.relation
         && a.columns.as_slice() == b.columns.as_slice()

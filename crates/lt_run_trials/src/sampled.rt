@@ -76,11 +76,13 @@ fn head(random: &mut Random) -> &'static str {
     }
 }
 
-/// A body with a comparison or a sum.
+/// A body with a comparison, a sum or a negated atom.
 fn body(random: &mut Random) -> &'static str {
-    match random.below(8) {
+    match random.below(10) {
         0 => "e(x, y), e(y, z), e(?, ?), # = ? + ?; ",
         1 => "e(x, y), e(y, z), e(?, ?), # = ? - ?; ",
+        2 => "e(x, y), e(y, z), not e(?, ?); ",
+        3 => "e(x, y), not e(?, ?), e(y, z), not e(w, #), w = ? + ?; ",
         _ => "e(x, y), e(y, z), e(?, ?), ? ~ ?; ",
     }
 }

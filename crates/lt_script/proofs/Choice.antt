@@ -1,12 +1,13 @@
 -- What is read where a test on the next token holds, and where it doesn't.
-use Rattle.std.proofs.Common.{◌≡◌, Bool, true, false, List, [], ◌∷◌, Some, None, Ok, Err, refl, ◌∙◌, inl, inr}
-use Rattle.lt_reading.specs.Reading.{Outcome, halt, not_allowed, too_full, close, token, Reader, ◌>>=◌, next_is, given, led, both, maybe}
+use Rattle.std.proofs.Common.{◌≡◌, Bool, true, false, List, [], ◌∷◌, Some, None, Ok, Err, refl, ap, ◌∙◌, inl, inr}
+use Rattle.std.specs.Prelude.{cond}
+use Rattle.lt_reading.specs.Reading.{Outcome, halt, not_allowed, too_full, close, token, Reader, ◌>>=◌, next_is, given, led, both, choice, maybe}
 use Rattle.lt_model.specs.declared.syntax.Op.TheVariants.{Eq}
 use Rattle.lt_model.specs.Tokens.{Shape}
 use Rattle.lt_model.specs.Grammar.{left_paren, where_word, semicolon}
-use Rattle.lt_grammar.specs.Tokens.{same_shape, minus, equals, insert_word, delete_word, replace_word, require_word, at_word, relation_word, batch_word}
-use Rattle.lt_grammar.specs.Productions.{stands, is_word, is_number, name_at, number_at, quoted_at, constant_of, constant_at, term_of, term_at, terms_at, op_at, other_op_at, plus_at, is_plus, equation_at, rest_at, literal_of, literal_at, body_at, where_of, where_at, insert_at, delete_at, replace_at, require_at, print_at, form_of, form_at, is_at, item_of, item_at, relation_at, batch_at, show_at}
-use Rattle.lt_grammar.specs.Grammar.{insert, delete, replace, require, print, relation, batch, show}
+use Rattle.lt_grammar.specs.Tokens.{same_shape, minus, equals, not_word, insert_word, delete_word, replace_word, require_word, at_word, relation_word, batch_word}
+use Rattle.lt_grammar.specs.Productions.{stands, is_word, is_number, name_at, number_at, quoted_at, constant_of, constant_at, term_of, term_at, terms_at, op_at, other_op_at, plus_at, is_plus, equation_at, rest_at, head_at, literal_of, literal_at, body_at, where_of, where_at, insert_at, delete_at, replace_at, require_at, print_at, form_of, form_at, is_at, item_of, item_at, relation_at, batch_at, show_at}
+use Rattle.lt_grammar.specs.Grammar.{absent, insert, delete, replace, require, print, relation, batch, show}
 
 pub constant_minus : (ts : List Shape) → stands minus ts ≡ true → constant_at ts ≡ given constant_of (given (λ x. inl x) (led same_shape minus (number_at true))) ts
 unfolding constant_at
@@ -70,17 +71,36 @@ unfolding rest_at other_op_at
 rest_other [] h k = refl
 rest_other (t ∷ ts) h k = rw (h, k) refl
 
+-- ---- two steps in one
+
+abbrev made : {A : Type 0} → A → List Shape → Outcome Shape A
+made x ts = Ok (x, ts)
+
+again : {A B C : Type 0} (f : A → B) (g : B → C) (r : Reader Shape A) (ts : List Shape) → given g (given f r) ts ≡ given (λ x. g (f x)) r ts
+again f g r ts = go f g (r ts)
+  where
+    go : {A B C : Type 0} (f : A → B) (g : B → C) (o : Outcome Shape A) → ((o >>= λ x. made (f x.0) x.1) >>= λ y. made (g y.0) y.1) ≡ (o >>= λ x. made (g (f x.0)) x.1)
+    go f g (Ok x) = refl
+    go f g (Err e) = refl
+
 -- ---- literals
 
-pub literal_named : (ts : List Shape) → next_is is_word ts ≡ true → literal_at ts ≡ given literal_of (given (λ x. inl x) (both name_at rest_at)) ts
+pub literal_absent : (ts : List Shape) → stands not_word ts ≡ true → literal_at ts ≡ given absent (led same_shape not_word head_at) ts
 unfolding literal_at
-literal_named [] h = absurd cc
-literal_named (t ∷ ts) h = rw h refl
+literal_absent [] h = absurd cc
+literal_absent (t ∷ ts) h =
+    ap (λ b. cond b (given (λ x. inl x) (led same_shape not_word head_at) (t ∷ ts)) (given (λ x. inr x) (choice is_word (both name_at rest_at) (both constant_at (both op_at term_at))) (t ∷ ts)) >>= λ x. Ok (literal_of x.0, x.1)) h
+    ∙ again (λ x. inl x) literal_of (led same_shape not_word head_at) (t ∷ ts)
 
-pub literal_constant : (ts : List Shape) → next_is is_word ts ≡ false → literal_at ts ≡ given literal_of (given (λ x. inr x) (both constant_at (both op_at term_at))) ts
+pub literal_named : (ts : List Shape) → stands not_word ts ≡ false → next_is is_word ts ≡ true → literal_at ts ≡ given (λ x. literal_of (inr x)) (given (λ x. inl x) (both name_at rest_at)) ts
+unfolding literal_at
+literal_named [] k h = absurd cc
+literal_named (t ∷ ts) k h = rw (k, h) (again (λ x. inr x) literal_of (given (λ x. inl x) (both name_at rest_at)) (t ∷ ts))
+
+pub literal_constant : (ts : List Shape) → stands not_word ts ≡ false → next_is is_word ts ≡ false → literal_at ts ≡ given (λ x. literal_of (inr x)) (given (λ x. inr x) (both constant_at (both op_at term_at))) ts
 unfolding literal_at constant_at
-literal_constant [] h = refl
-literal_constant (t ∷ ts) h = rw h refl
+literal_constant [] k h = refl
+literal_constant (t ∷ ts) k h = rw (k, h) (again (λ x. inr x) literal_of (given (λ x. inr x) (both constant_at (both op_at term_at))) (t ∷ ts))
 
 -- ---- `where` parts
 
@@ -95,16 +115,6 @@ where_none [] h = refl
 where_none (t ∷ ts) h = rw h refl
 
 -- ---- statements up to their semicolon
-
-abbrev made : {A : Type 0} → A → List Shape → Outcome Shape A
-made x ts = Ok (x, ts)
-
-again : {A B C : Type 0} (f : A → B) (g : B → C) (r : Reader Shape A) (ts : List Shape) → given g (given f r) ts ≡ given (λ x. g (f x)) r ts
-again f g r ts = go f g (r ts)
-  where
-    go : {A B C : Type 0} (f : A → B) (g : B → C) (o : Outcome Shape A) → ((o >>= λ x. made (f x.0) x.1) >>= λ y. made (g y.0) y.1) ≡ (o >>= λ x. made (g (f x.0)) x.1)
-    go f g (Ok x) = refl
-    go f g (Err e) = refl
 
 pub form_insert : (ts : List Shape) → stands insert_word ts ≡ true → form_at ts ≡ given (λ x. insert x.0 x.1) insert_at ts
 unfolding form_at

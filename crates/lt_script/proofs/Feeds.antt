@@ -10,6 +10,7 @@ use Rattle.lt_model.specs.Script as script
 use Rattle.lt_script.specs.Pieces.{Leads}
 use Rattle.lt_script.specs.declared.feed.Feed.{Feed}
 use Rattle.lt_script.specs.declared.feed.Fault.{Fault}
+use Rattle.lt_script.specs.declared.feed.FeedStep.TheVariants as steps
 use Rattle.lt_script.specs.Feed.{kept_of, IsMore, IsClosed, EndsItem, IsOpenAt, StandsBy, HasFed, IsSame, Gives, Goes}
 use Rattle.lt_script.proofs.Pieces.{leads_none}
 
@@ -38,6 +39,22 @@ open_by (Some f) ended line kept bytes items none s = absurd (none f refl)
 pub closed_by : (o : Option Fault) (f : Fault) (ended : Bool) (line : ℕ) (kept bytes : List ℕ) (items : List Item) → o ≡ Some f → StandsBy o ended line kept bytes items → IsClosed ended bytes items (script.Fault f.line f.code)
 closed_by o f ended line kept bytes items is s =
     let here : StandsBy (Some f) ended line kept bytes items = subst (λ (x : Option Fault). StandsBy x ended line kept bytes items) is s in here.1
+
+-- behind a fault nothing is kept
+pub kept_none : (o : Option Fault) (f : Fault) (ended : Bool) (line : ℕ) (kept bytes : List ℕ) (items : List Item) → o ≡ Some f → StandsBy o ended line kept bytes items → kept ≡ []
+kept_none o f ended line kept bytes items is s =
+    let here : StandsBy (Some f) ended line kept bytes items = subst (λ (x : Option Fault). StandsBy x ended line kept bytes items) is s in here.0
+
+pub not_held : (o : Option Fault) (f : Fault) → is_some o ≡ false → o ≡ Some f → ⊥
+not_held o f none is = let e : is_some (Some f) ≡ false = subst (λ (x : Option Fault). is_some x ≡ false) is none in absurd cc
+
+-- a fault that is held is the one that is found
+pub same_fault : (o : Option Fault) (f g : Fault) → o ≡ Some f → o ≡ Some g → f ≡ g
+same_fault o f g is found = let e : Some f ≡ Some g = sym is ∙ found in cc
+
+pub answered : (f g : Fault) (line code : ℕ) → f ≡ g → f.line ≡ line → f.code ≡ code → steps.Fault g.line g.code ≡ steps.Fault line code
+answered f g line code same line_is code_is =
+    ap (λ (x : Fault). steps.Fault x.line x.code) (sym same) ∙ ap (λ (n : ℕ). steps.Fault n f.code) line_is ∙ ap (λ (n : ℕ). steps.Fault line n) code_is
 
 pub none_by : (o : Option Fault) → ((f : Fault) → o ≡ Some f → ⊥) → o ≡ None
 none_by None none = refl

@@ -17,7 +17,7 @@ use Rattle.lt_script.specs.declared.label.Label.{Label}
 use Rattle.lt_script.specs.declared.tree.Term.{Term}
 use Rattle.lt_script.specs.declared.tree.Term.TheVariants.{Name, Numeral, Quoted}
 use Rattle.lt_script.specs.declared.tree.Literal.{Literal}
-use Rattle.lt_script.specs.declared.tree.Literal.TheVariants.{Atom, Compare, Sum}
+use Rattle.lt_script.specs.declared.tree.Literal.TheVariants.{Atom, Absent, Compare, Sum}
 use Rattle.lt_script.specs.declared.tree.Statement.{Statement}
 use Rattle.lt_script.specs.declared.tree.Statement.TheVariants.{Insert, Delete, Replace, Require, Print}
 use Rattle.lt_script.specs.declared.tree.Program.{Program}
@@ -68,6 +68,7 @@ terms_within (t ∷ ts) h = record {
 
 literal_within : (l : Literal) → grammar.IsLiteral full (literal_of l) → IsLiteralWithin (literal_value (literal_of l))
 literal_within (Atom head) h = terms_within head.terms.items h.1
+literal_within (Absent head) h = terms_within head.terms.items h.1
 literal_within (Compare left op right) h = (has_cell left h.0, has_cell right h.1)
 literal_within (Sum name left minus right) h = (has_cell left h.1.0, has_cell right h.1.1)
 

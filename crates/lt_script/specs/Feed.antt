@@ -52,6 +52,18 @@ StandsBy (Some fault) ended line kept bytes items = (kept ≡ []) × IsClosed en
 abbrev pub HasFed : Feed → List ℕ → List Item → Type 0
 HasFed f bytes items = StandsBy f.fault f.ended f.line (kept_of f) bytes items
 
+-- a feed that has answered this fault holds it, and no bytes
+pub record HoldsFault (f : Feed) (line code : ℕ) : Type 0 where
+  pub fault : Fault
+  pub is : f.fault ≡ Some fault
+  pub line_is : fault.line ≡ line
+  pub code_is : fault.code ≡ code
+  pub nothing : kept_of f ≡ []
+
+-- a fault that is held stays so
+abbrev pub HoldsStill : Feed → Feed → Type 0
+HoldsStill old new = (line code : ℕ) → HoldsFault old line code → HoldsFault new line code
+
 -- two feeds that hold the same
 pub record IsSame (old new : Feed) : Type 0 where
   pub kept : kept_of new ≡ kept_of old
@@ -93,9 +105,13 @@ pub record Gives (old new : Feed) (bytes : List ℕ) (items : List Item) (item :
 abbrev pub IsStep : List ℕ → List Item → Feed → Feed → FeedStep → Type 0
 IsStep bytes items old new (steps.Item item) = Gives old new bytes items item
 IsStep bytes items old new steps.End = (old.ended ≡ true) × script.Script bytes items script.End × (new ≡ old)
-IsStep bytes items old new (steps.Fault line code) = IsClosed old.ended bytes items (script.Fault line code) × HasFed new bytes items
+IsStep bytes items old new (steps.Fault line code) = IsClosed old.ended bytes items (script.Fault line code) × HasFed new bytes items × HoldsFault new line code
 IsStep bytes items old new steps.More = (old.ended ≡ false) × IsInside bytes items × (new ≡ old)
 IsStep bytes items old new steps.NoMemory = new ≡ old
+
+-- a fault that is held is answered, and held further on
+abbrev pub IsRepeated : Feed → Feed → FeedStep → Type 0
+IsRepeated old new step = (line code : ℕ) → HoldsFault old line code → (step ≡ steps.Fault line code) × HoldsFault new line code
 
 -- a fault that is answered for the first time is decided
 abbrev pub IsFirstFault : List ℕ → List Item → Feed → FeedStep → Type 0

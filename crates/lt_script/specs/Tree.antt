@@ -9,7 +9,7 @@ use Rattle.lt_script.specs.declared.tree.Term.{Term}
 use Rattle.lt_script.specs.declared.tree.Term.TheVariants.{Name, Numeral, Quoted}
 use Rattle.lt_script.specs.declared.tree.Head.{Head}
 use Rattle.lt_script.specs.declared.tree.Literal.{Literal}
-use Rattle.lt_script.specs.declared.tree.Literal.TheVariants.{Atom, Compare, Sum}
+use Rattle.lt_script.specs.declared.tree.Literal.TheVariants.{Atom, Absent, Compare, Sum}
 use Rattle.lt_script.specs.declared.tree.Statement.{Statement}
 use Rattle.lt_script.specs.declared.tree.Statement.TheVariants.{Insert, Delete, Replace, Require, Print}
 use Rattle.lt_script.specs.declared.tree.Program.{Program}
@@ -42,6 +42,7 @@ head_of h = record { relation = h.relation.bytes.now; first = (terms_of h.terms.
 
 abbrev pub literal_of : Literal → grammar.Literal
 literal_of (Atom h) = grammar.atom (head_of h)
+literal_of (Absent h) = grammar.absent (head_of h)
 literal_of (Compare left op right) = grammar.compare (term_of left) op (term_of right)
 literal_of (Sum name left minus right) = grammar.sum name.bytes.now (term_of left) minus (term_of right)
 

@@ -69,6 +69,10 @@ fn literal(alloc: Global, literal: &tree::Literal) -> Result<Literal, NoMemory>
             let head = self::head(alloc, head)?;
             Ok(Literal::Atom(head))
         }
+        tree::Literal::Absent(head) => {
+            let head = self::head(alloc, head)?;
+            Ok(Literal::Absent(head))
+        }
         tree::Literal::Compare { left, op, right } => Ok(Literal::Cmp {
             left: term(alloc, left),
             op: *op,

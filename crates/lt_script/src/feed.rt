@@ -104,7 +104,7 @@ fn read_front(alloc: Global, start: Lexer, ended: bool) -> Found
 }
 
 impl Feed {
-    ghost use Rattle.lt_script.specs.Feed.{kept_of, HasFed, IsSame, IsStep, IsFirstFault};
+    ghost use Rattle.lt_script.specs.Feed.{kept_of, HasFed, HoldsStill, IsSame, IsStep, IsRepeated, IsFirstFault};
 
     /// A feed to which nothing was pushed yet. It takes no memory.
     pub fn new(alloc: Global) -> Feed
@@ -126,6 +126,7 @@ impl Feed {
         requires { self.old.ended ≡ false }
         ensures fed { OnOk result ((bytes : List ℕ) (items : List ScriptItem) → HasFed self.old bytes items → HasFed self.new (bytes ++ piece.now) items) }
         ensures refused { OnErr result (IsSame self.old self.new) }
+        ensures held { HoldsStill self.old self.new }
         ensures open { self.new.ended ≡ false }
     {
         let closed = self.fault.is_some();
@@ -155,6 +156,7 @@ impl Feed {
     /// Says that no more bytes come.
     pub fn end(&mut self)
         ensures fed { (bytes : List ℕ) (items : List ScriptItem) → HasFed self.old bytes items → HasFed self.new bytes items }
+        ensures held { HoldsStill self.old self.new }
         ensures ended { self.new.ended ≡ true }
     {
         self.ended = true;
@@ -195,6 +197,7 @@ impl Feed {
     /// no item looks at all bytes that are kept, so a caller asks again once as many have come as were kept.
     pub fn next_step(&mut self, alloc: Global) -> FeedStep
         ensures step { (bytes : List ℕ) (items : List ScriptItem) → HasFed self.old bytes items → IsStep bytes items self.old self.new result }
+        ensures again { IsRepeated self.old self.new result }
         ensures decided { (bytes : List ℕ) (items : List ScriptItem) → HasFed self.old bytes items → IsFirstFault bytes items self.old result }
         ensures ended { self.new.ended ≡ self.old.ended }
     {

@@ -1,17 +1,19 @@
 //! The parts of a body.
-ghost use mathlib.Core.Logic.{inl};
+ghost use mathlib.Core.Logic.{inl, inr};
 ghost use Rattle.std.specs.Prelude.{◌≡◌, ◌∷◌, ◌-◌, IfOk, drop, map};
 ghost use Rattle.lt_face.specs.Limits.{most_literals};
-ghost use Rattle.lt_reading.specs.Reading.{led, given};
+ghost use Rattle.lt_reading.specs.Reading.{led, given, next_is, past_comma};
 ghost use Rattle.lt_model.specs.Grammar.{comma};
-ghost use Rattle.lt_grammar.specs.Tokens.{same_shape};
-ghost use Rattle.lt_grammar.specs.Productions.{starts_term as begins_term, equation_of, equation_at, rest_at, literal_at, literal_of as literal_parts, body_at, where_at};
+ghost use Rattle.lt_grammar.specs.Tokens.{same_shape, not_word};
+ghost use Rattle.lt_grammar.specs.Grammar.{absent};
+ghost use Rattle.lt_grammar.specs.Productions.{starts_literal as begins_literal, head_at, equation_of, equation_at, rest_at, literal_at, literal_of as literal_parts, body_at, where_at};
 ghost use Rattle.lt_script.specs.Tree.{literal_of, literals_of, body_of};
-ghost use Rattle.lt_script.specs.Parsed.{Parses, further};
+ghost use Rattle.lt_script.specs.Ahead.{shapes};
+ghost use Rattle.lt_script.specs.Parsed.{Parses, Refuses, further};
 
 use crate::cursor::Cursor;
 use crate::label::Label;
-use crate::refusal::Refusal;
+use crate::refusal::{Cause, Refusal};
 use crate::tree::{Head, Literal, Term};
 use lt_face::limits::MOST_LITERALS;
 use lt_model::syntax::Op;
@@ -45,7 +47,7 @@ impl<'a> Cursor<'a> {
     // What follows a name.
     #[tactic(auto, using(crate::proofs::Choice::rest_atom, crate::proofs::Choice::rest_equation, crate::proofs::Choice::rest_other))]
     fn rest_of_literal(&mut self, alloc: Global, name: Label<'a>) -> Result<Literal<'a>, Refusal>
-        ensures { Parses literal_of result self.old self.new (given (λ x. literal_parts (inl (name.entry.bytes.now, x))) rest_at) }
+        ensures { Parses literal_of result self.old self.new (given (λ x. literal_parts (inr (inl (name.entry.bytes.now, x)))) rest_at) }
     {
         if self.sign_stands(b"(") {
             let terms = self.terms(alloc)?;
@@ -66,10 +68,22 @@ impl<'a> Cursor<'a> {
         })
     }
 
-    #[tactic(auto, using(crate::proofs::Choice::literal_named, crate::proofs::Choice::literal_constant))]
+    // A negated atom.
+    fn negated(&mut self, alloc: Global) -> Result<Literal<'a>, Refusal>
+        ensures { Parses literal_of result self.old self.new (given absent (led same_shape not_word head_at)) }
+    {
+        self.word(b"not")?;
+        let head = self.head(alloc)?;
+        Ok(Literal::Absent(head))
+    }
+
+    #[tactic(auto, using(crate::proofs::Choice::literal_absent, crate::proofs::Choice::literal_named, crate::proofs::Choice::literal_constant))]
     fn literal(&mut self, alloc: Global) -> Result<Literal<'a>, Refusal>
         ensures { Parses literal_of result self.old self.new literal_at }
     {
+        if self.word_stands(b"not") {
+            return self.negated(alloc);
+        }
         if self.any_word_stands() {
             let name = self.name()?;
             return self.rest_of_literal(alloc, name);
@@ -78,6 +92,29 @@ impl<'a> Cursor<'a> {
         let op = self.op()?;
         let right = self.term()?;
         Ok(Literal::Compare { left, op, right })
+    }
+
+    // Whether a literal may begin with the next token.
+    fn starts_literal(&self) -> bool
+        ensures { result ≡ next_is begins_literal (shapes self.now) }
+    {
+        if self.word_stands(b"not") {
+            return true;
+        }
+        self.starts_term()
+    }
+
+    // Why no literal past the last is read: the comma may stand there, but nothing that begins one behind it.
+    fn too_many_literals(&mut self) -> Refusal
+        ensures { Refuses result self.old self.new (past_comma begins_literal) }
+    {
+        if self.peek().is_some() {
+            self.advance();
+            if self.starts_literal() {
+                return Refusal::Fault(Cause::TooMany);
+            }
+        }
+        Refusal::Fault(Cause::NotAllowed)
     }
 
     fn next_literal(&mut self, alloc: Global) -> Result<Literal<'a>, Refusal>
@@ -94,14 +131,14 @@ impl<'a> Cursor<'a> {
         alloc: Global,
         first: Literal<'a>,
     ) -> Result<Vec<Literal<'a>>, Refusal>
-        ensures read { Parses (λ v. map literal_of (drop 1 v.items)) result self.old self.new (further begins_term literal_at (most_literals - 1)) }
+        ensures read { Parses (λ v. map literal_of (drop 1 v.items)) result self.old self.new (further begins_literal literal_at (most_literals - 1)) }
         ensures first { IfOk result (λ v. v.items ≡ first.entry ∷ drop 1 v.items) }
     {
         let mut literals = Vec::new(alloc);
         literals.push(first)?;
         'literals: while self.sign_stands(b",") {
             if literals.len() == MOST_LITERALS {
-                return Err(self.too_many_terms());
+                return Err(self.too_many_literals());
             }
             let literal = self.next_literal(alloc)?;
             literals.push(literal)?;

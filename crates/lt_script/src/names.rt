@@ -68,6 +68,7 @@ fn push_literal<'a>(names: &mut Vec<&'a [u8]>, literal: &Literal<'a>) -> Result<
 {
     match literal {
         Literal::Atom(head) => push_terms(names, head.terms.as_slice()),
+        Literal::Absent(head) => push_terms(names, head.terms.as_slice()),
         Literal::Compare { left, right, .. } => push_both(names, *left, *right),
         Literal::Sum {
             name,
@@ -135,6 +136,7 @@ fn room_behind_literal(room: usize, literal: &Literal) -> Option<usize>
 {
     match literal {
         Literal::Atom(head) => room_behind(room, head.terms.as_slice().len()),
+        Literal::Absent(head) => room_behind(room, head.terms.as_slice().len()),
         Literal::Compare { .. } => room_behind(room, 2),
         Literal::Sum { .. } => room_behind(room, 3),
     }

@@ -55,8 +55,8 @@ impl<'a> Cursor<'a> {
         self.constant()
     }
 
-    // Whether a term may begin with the next token.
-    fn starts_term(&self) -> bool
+    /// Whether a term may begin with the next token.
+    pub fn starts_term(&self) -> bool
         ensures { result ≡ next_is begins_term (shapes self.now) }
     {
         match self.peek() {
@@ -70,8 +70,8 @@ impl<'a> Cursor<'a> {
         }
     }
 
-    /// Why no term or literal past the last is read: the comma may stand there, but nothing that begins one behind it.
-    pub fn too_many_terms(&mut self) -> Refusal
+    // Why no term past the last is read: the comma may stand there, but nothing that begins one behind it.
+    fn too_many_terms(&mut self) -> Refusal
         ensures { Refuses result self.old self.new (past_comma begins_term) }
     {
         if self.peek().is_some() {

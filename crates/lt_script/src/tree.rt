@@ -35,6 +35,7 @@ pub struct Head<'a> {
 #[derive(Drop)]
 pub enum Literal<'a> {
     Atom(Head<'a>),
+    Absent(Head<'a>),
     Compare {
         left: Term<'a>,
         op: Op,

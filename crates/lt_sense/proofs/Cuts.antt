@@ -1,8 +1,8 @@
 -- Gaps cut cell by cell.
-use Rattle.std.specs.Prelude.{◌≡◌, ℕ, zero, suc, ◌+◌, ◌<◌, ◌≤◌, Bool, true, false, ◌&&◌, nat_lt, nat_le, List, [], ◌∷◌, ◌++◌, filter, length, drop, take, map, slice_get, Option, Some, None}
+use Rattle.std.specs.Prelude.{◌≡◌, ℕ, zero, suc, ◌+◌, ◌<◌, ◌≤◌, true, false, ◌&&◌, nat_lt, nat_le, List, [], ◌∷◌, ◌++◌, filter, length, drop, take, map, slice_get, Option, Some, None}
 use Rattle.std.specs.List.{AllByRecursion, flat_map}
-use Rattle.std.proofs.Common.{refl, sym, ap, ◌∙◌, subst, inl, inr, arith, cond, get_or}
-use Rattle.std.proofs.lemmas.Bool.{lt-ltb, le-ltb, cases_lt}
+use Rattle.std.proofs.Common.{refl, sym, ap, ◌∙◌, subst, arith, cond, get_or}
+use Rattle.std.proofs.lemmas.Bool.{lt-ltb, le-ltb}
 use Rattle.std.proofs.Math.Bool.{and-false}
 use Rattle.std.proofs.lemmas.List.{append-nil, append_assoc, drop_all, drop_more, take_all}
 use Rattle.std.proofs.lemmas.List.Elements.{filter-append}
@@ -13,9 +13,9 @@ use Rattle.lt_sense.specs.declared.store.Passed.{Passed}
 use Rattle.lt_sense.specs.declared.store.Family.{Family}
 use Rattle.lt_sense.specs.declared.store.Run.{Run}
 use Rattle.lt_sense.specs.declared.store.Store.{Store}
-use Rattle.lt_sense.specs.Cut.{without_key, without_keys, has_room, cut}
+use Rattle.lt_sense.specs.Cut.{without_key, without_keys, has_room}
 use Rattle.lt_sense.specs.Ordered.{AreInOrder, gaps_in}
-use Rattle.lt_sense.specs.Stored.{family_gap, run_gap, gap_of, stored_gap, sense_of}
+use Rattle.lt_sense.specs.Stored.{family_gap, run_gap, stored_gap}
 
 -- ---- cells
 

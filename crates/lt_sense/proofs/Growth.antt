@@ -136,6 +136,7 @@ hit_sound old new row relation sound narrow f r c g h = record {
   runs = rw (f, r, c) (still_runs old.families.items old.cells.items row old.runs.items sound.runs);
   gaps = rw (r, g) sound.gaps;
   hits = rw (c, h) (all_next (λ (met : Met). IsPiece (old.cells.items ++ row) met.row) old.hits.items _ (still_pieces old.cells.items row old.hits.items sound.hits) (next_piece old.cells.items row narrow));
+  narrow = rw f sound.narrow;
 }
 
 pub run_sound : (old new : Store) (row : Row) (family : ℕ) → IsSound old → length row ≤ 8 → family < length old.families.items → new.families.items ≡ old.families.items → new.cells.items ≡ old.cells.items ++ row
@@ -144,6 +145,7 @@ run_sound old new row family sound narrow there f c r g h = record {
   runs = rw (f, r, c) (all_next (IsRunAmong old.families.items (old.cells.items ++ row)) old.runs.items _ (still_runs old.families.items old.cells.items row old.runs.items sound.runs) (there, next_piece old.cells.items row narrow));
   gaps = rw (r, g) (each_weaker (λ (gap : Passed). gap.run < length old.runs.items) _ (λ gap lt. longer old.runs.items (record { family = family; prefix = record { start = length old.cells.items; width = length row } } ∷ []) gap.run lt) old.gaps.items sound.gaps);
   hits = rw (c, h) (still_pieces old.cells.items row old.hits.items sound.hits);
+  narrow = rw f sound.narrow;
 }
 
 pub run_made : (old new : Store) (row : Row) (family relation : ℕ) (columns : List ℕ) → slice_get old.families.items family ≡ Some (record { relation = relation; columns = columns }) → new.families.items ≡ old.families.items → new.cells.items ≡ old.cells.items ++ row

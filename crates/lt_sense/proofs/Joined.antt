@@ -14,7 +14,7 @@ use Rattle.std.proofs.lemmas.List.Folds.{list_any-append}
 use Rattle.std.proofs.lemmas.List.{map_push, map-append, take-append-drop}
 use Rattle.std.proofs.lemmas.Option.{slice_get-get_or}
 use Rattle.lt_face.specs.Rows.{row_cmp}
-use Rattle.lt_face.specs.State.{Row, permuted, row_eq}
+use Rattle.lt_face.specs.State.{Row, row_eq}
 use Rattle.lt_face.proofs.RowLemmas.{rows_exact}
 use Rattle.lt_sense.specs.declared.covering.KeptGap.{KeptGap}
 use Rattle.lt_sense.specs.declared.covering.Hit.{Hit}
@@ -24,74 +24,66 @@ use Rattle.lt_sense.specs.declared.store.Passed.{Passed}
 use Rattle.lt_sense.specs.declared.store.Met.{Met}
 use Rattle.lt_sense.specs.declared.store.Store.{Store}
 use Rattle.lt_sense.specs.Stored.{piece_of, family_gap, run_gap, stored_gap, hit_of}
-use Rattle.lt_sense.specs.Sense.{lies_in, gap_covers, hit_covers}
-use Rattle.lt_sense.specs.Ordered.{place_cmp, gap_cmp, hit_cmp, IsGapBefore, IsHitBefore, AreInOrder, AreUpTo, IsPut, IsSealedOf, joins, gaps_in, hits_in}
+use Rattle.lt_sense.specs.Sense.{hit_covers}
+use Rattle.lt_sense.specs.Ordered.{place_cmp, gap_cmp, hit_cmp, place_of, gap_holds, IsGapBefore, IsHitBefore, AreInOrder, AreUpTo, IsPut, IsSealedOf, joins, gaps_in, hits_in}
 use Rattle.lt_sense.proofs.Sorted.{hit_total, place_total, at_tie, both_tied, less_up, is_tie, number_up, same_family_parts, same_place_parts, all_push, all_init, in_order_push, in_order_init, in_order_next, each_then, in_order_at, gap_before_trans, image_at, some_is}
 use Rattle.lt_sense.proofs.Lies.{get_there, take_next}
 
--- ---- bounds
-
-abbrev inside : (l h x : ℕ) → Bool
-inside l h x = nat_le l x && nat_lt x h
-
-inside_parts : (l h x : ℕ) → inside l h x ≡ true → (l ≤ x) × (x < h)
-inside_parts l h x k = let q = and_parts (nat_le l x) (nat_lt x h) k in (leb-true l x q.0, ltb-true x h q.1)
-
-inside_from : (l h x : ℕ) → l ≤ x → x < h → inside l h x ≡ true
-inside_from l h x a b = and_from (nat_le l x) (nat_lt x h) (le-leb l x a) (lt-ltb x h b)
+-- ---- cells in joined gaps
 
 same_test : (a b : Bool) → (a ≡ true → b ≡ true) → (b ≡ true → a ≡ true) → a ≡ b
 same_test true b f g = sym (f refl)
 same_test false true f g = g refl
 same_test false false f g = refl
 
-both_inside : (l1 h1 l2 h2 h x : ℕ) → l1 ≤ l2 → (l2 ≤ h1) ⊎ (l2 ≡ l1) → (h1 ≤ h) → (h2 ≤ h) → (h ≡ h1) ⊎ (h ≡ h2) → inside l1 h x ≡ (inside l1 h1 x || inside l2 h2 x)
-both_inside l1 h1 l2 h2 h x a b c d e = same_test (inside l1 h x) (inside l1 h1 x || inside l2 h2 x) there back
+abbrev below_one : (l h x : ℕ) → Bool
+below_one l h x = nat_lt l x && nat_le x h
+
+both_below : (l1 h1 l2 h2 h x : ℕ) → l1 ≤ l2 → (l2 ≤ h1) ⊎ (l2 ≡ l1) → (h1 ≤ h) → (h2 ≤ h) → (h ≡ h1) ⊎ (h ≡ h2) → below_one l1 h x ≡ (below_one l1 h1 x || below_one l2 h2 x)
+both_below l1 h1 l2 h2 h x a b c d e = same_test (below_one l1 h x) (below_one l1 h1 x || below_one l2 h2 x) there back
   where
-    there : inside l1 h x ≡ true → (inside l1 h1 x || inside l2 h2 x) ≡ true
+    parts : (l top : ℕ) → below_one l top x ≡ true → (l < x) × (x ≤ top)
+    parts l top k = let q = and_parts (nat_lt l x) (nat_le x top) k in (ltb-true l x q.0, leb-true x top q.1)
+
+    from : (l top : ℕ) → l < x → x ≤ top → below_one l top x ≡ true
+    from l top p q = and_from (nat_lt l x) (nat_le x top) (lt-ltb l x p) (le-leb x top q)
+
+    there : below_one l1 h x ≡ true → (below_one l1 h1 x || below_one l2 h2 x) ≡ true
     there k =
-        let q = inside_parts l1 h x k in
-        elim (cases_lt x h1) [
-          | inl below ↦ or_left (inside l1 h1 x) (inside l2 h2 x) (inside_from l1 h1 x q.0 below)
-          | inr past ↦ or_right (inside l1 h1 x) (inside l2 h2 x) (inside_from l2 h2 x
-              (elim b [ inl le ↦ (let r : l2 ≤ x = omega arith in r) | inr same ↦ (let r : l2 ≤ x = omega (arith, q.0, same) in r) ])
-              (elim e [ inl one ↦ absurd (omega (arith, q.1, one, past)) | inr other ↦ (let r : x < h2 = omega (arith, q.1, other) in r) ]))
+        let q = parts l1 h k in
+        elim (cases_lt h1 x) [
+          | inr within ↦ or_left (below_one l1 h1 x) (below_one l2 h2 x) (from l1 h1 q.0 within)
+          | inl past ↦ or_right (below_one l1 h1 x) (below_one l2 h2 x) (from l2 h2
+              (elim b [ inl le ↦ (let r : l2 < x = omega (arith, le, past) in r) | inr same ↦ (let r : l2 < x = omega (arith, q.0, same) in r) ])
+              (elim e [ inl one ↦ absurd (omega (arith, q.1, one, past)) | inr other ↦ (let r : x ≤ h2 = omega (arith, q.1, other) in r) ]))
         ]
 
-    back : (inside l1 h1 x || inside l2 h2 x) ≡ true → inside l1 h x ≡ true
-    back k = elim (or_cases (inside l1 h1 x) (inside l2 h2 x) k) [
-      | inl one ↦ (let q = inside_parts l1 h1 x one in inside_from l1 h x q.0 (omega (arith, q.1, c)))
-      | inr other ↦ (let q = inside_parts l2 h2 x other in inside_from l1 h x (omega (arith, q.0, a)) (omega (arith, q.1, d)))
+    back : (below_one l1 h1 x || below_one l2 h2 x) ≡ true → below_one l1 h x ≡ true
+    back k = elim (or_cases (below_one l1 h1 x) (below_one l2 h2 x) k) [
+      | inl one ↦ (let q = parts l1 h1 one in from l1 h q.0 (omega (arith, q.1, c)))
+      | inr other ↦ (let q = parts l2 h2 other in from l1 h (omega (arith, q.0, a)) (omega (arith, q.1, d)))
     ]
 
--- ---- rows in joined gaps
-
-both_lie : (prefix : Row) (l1 h1 l2 h2 h : ℕ) (cells : Row) → l1 ≤ l2 → (l2 ≤ h1) ⊎ (l2 ≡ l1) → (h1 ≤ h) → (h2 ≤ h) → (h ≡ h1) ⊎ (h ≡ h2) → lies_in prefix l1 h cells ≡ (lies_in prefix l1 h1 cells || lies_in prefix l2 h2 cells)
-both_lie prefix l1 h1 l2 h2 h [] a b c d e = refl
-both_lie [] l1 h1 l2 h2 h (x ∷ xs) a b c d e = both_inside l1 h1 l2 h2 h x a b c d e
-both_lie (p ∷ ps) l1 h1 l2 h2 h (x ∷ xs) a b c d e = by (p == x) _ _ _ (both_lie ps l1 h1 l2 h2 h xs a b c d e)
-  where
-    by : (t u v w : Bool) → u ≡ (v || w) → (t && u) ≡ ((t && v) || (t && w))
-    by true u v w k = k
-    by false u v w k = refl
-
-joined_covers : (last gap : KeptGap) (h relation : ℕ) (row : Row) → joins last gap ≡ true → is_gt (gap_cmp last gap) ≡ false → (last.hi ≤ h) → (gap.hi ≤ h) → (h ≡ last.hi) ⊎ (h ≡ gap.hi)
-    → gap_covers (record { relation = last.relation; columns = last.columns; prefix = last.prefix; lo = last.lo; hi = h }) relation row ≡ (gap_covers last relation row || gap_covers gap relation row)
-joined_covers last gap h relation row j up c d e =
+joined_holds : (last gap : KeptGap) (h above : ℕ) (place : Row) → joins last gap ≡ true → is_gt (gap_cmp last gap) ≡ false → (last.hi ≤ h) → (gap.hi ≤ h) → (h ≡ last.hi) ⊎ (h ≡ gap.hi)
+    → gap_holds (record { relation = last.relation; columns = last.columns; prefix = last.prefix; lo = last.lo; hi = h }) above place ≡ (gap_holds last above place || gap_holds gap above place)
+joined_holds last gap h above place j up c d e =
     let parts = and_parts (is_eq (place_cmp last gap)) (nat_le gap.lo last.hi || gap.lo == last.lo) j in
-    let place = is_tie (place_cmp last gap) parts.0 in
-    let lower = number_up last.lo gap.lo (ap is_gt (sym (at_tie (place_cmp last gap) (nat_cmp last.lo gap.lo) place)) ∙ up) in
-    let same = same_place_parts last gap place in
+    let tie = is_tie (place_cmp last gap) parts.0 in
+    let lower = number_up last.lo gap.lo (ap is_gt (sym (at_tie (place_cmp last gap) (nat_cmp last.lo gap.lo) tie)) ∙ up) in
+    let same = same_place_parts last gap tie in
     let family = same_family_parts last gap same.0 in
     let near : (gap.lo ≤ last.hi) ⊎ (gap.lo ≡ last.lo) = elim (or_cases (nat_le gap.lo last.hi) (gap.lo == last.lo) parts.1) [ inl q ↦ inl (leb-true gap.lo last.hi q) | inr q ↦ inr (eqb-true gap.lo last.lo q) ] in
-    by (last.relation == relation) _ _ _ (both_lie last.prefix last.lo last.hi gap.lo gap.hi h (permuted last.columns row) lower near c d e)
-    ∙ ap (λ r. (last.relation == relation && lies_in last.prefix last.lo last.hi (permuted last.columns row)) || (r == relation && lies_in last.prefix gap.lo gap.hi (permuted last.columns row))) family.0
-    ∙ ap (λ p. (last.relation == relation && lies_in last.prefix last.lo last.hi (permuted last.columns row)) || (gap.relation == relation && lies_in p gap.lo gap.hi (permuted last.columns row))) same.1
-    ∙ ap (λ cs. (last.relation == relation && lies_in last.prefix last.lo last.hi (permuted last.columns row)) || (gap.relation == relation && lies_in gap.prefix gap.lo gap.hi (permuted cs row))) family.1
+    let one : place_of last ≡ place_of gap = place_is last.relation gap.relation last.columns gap.columns last.prefix gap.prefix family.0 family.1 same.1 in
+    by (row_eq (place_of last) place) (above == 0) _ _ _ (both_below last.lo last.hi gap.lo gap.hi h above lower near c d e)
+    ∙ ap (λ (p : Row). (row_eq (place_of last) place && (above == 0 || below_one last.lo last.hi above)) || (row_eq p place && (above == 0 || below_one gap.lo gap.hi above))) one
   where
-    by : (t u v w : Bool) → u ≡ (v || w) → (t && u) ≡ ((t && v) || (t && w))
-    by true u v w k = k
-    by false u v w k = refl
+    place_is : (r s : ℕ) (cs ds ps qs : Row) → r ≡ s → cs ≡ ds → ps ≡ qs → (r ∷ length cs ∷ (cs ++ ps)) ≡ (s ∷ length ds ∷ (ds ++ qs))
+    place_is r s cs ds ps qs e f g = ap (λ (n : ℕ). n ∷ length cs ∷ (cs ++ ps)) e ∙ ap (λ (xs : Row). s ∷ length xs ∷ (xs ++ ps)) f ∙ ap (λ (xs : Row). s ∷ length ds ∷ (ds ++ xs)) g
+
+    by : (t z u v w : Bool) → u ≡ (v || w) → (t && (z || u)) ≡ ((t && (z || v)) || (t && (z || w)))
+    by true true u v w k = refl
+    by true false u v w k = k
+    by false z u v w k = refl
 
 -- ---- one more
 
@@ -150,16 +142,16 @@ gap_next last gap j up = by (place_cmp last gap) refl j up
 
 -- the last stands for it
 pub put_joined : (xs : List KeptGap) (last gap : KeptGap) (h : ℕ) → AreInOrder IsGapBefore (xs ++ last ∷ []) → AreUpTo gap_cmp (xs ++ last ∷ []) gap → joins last gap ≡ true → (last.hi ≤ h) → (gap.hi ≤ h) → (h ≡ last.hi) ⊎ (h ≡ gap.hi)
-    → IsPut gap_cmp IsGapBefore gap_covers (xs ++ last ∷ []) (xs ++ record { relation = last.relation; columns = last.columns; prefix = last.prefix; lo = last.lo; hi = h } ∷ []) gap
+    → IsPut gap_cmp IsGapBefore gap_holds (xs ++ last ∷ []) (xs ++ record { relation = last.relation; columns = last.columns; prefix = last.prefix; lo = last.lo; hi = h } ∷ []) gap
 put_joined xs last gap h ordered up j c d e = record {
   ordered = (let k = in_order_init IsGapBefore xs last ordered in
       in_order_push IsGapBefore xs _ k.0 (each_then (λ y. IsGapBefore y last) (λ y. IsGapBefore y (record { relation = last.relation; columns = last.columns; prefix = last.prefix; lo = last.lo; hi = h })) (λ y b. record { order = b.order; apart = b.apart }) xs k.1));
   up_to = λ y u k. (let parts = all_init (λ o. is_gt (gap_cmp o y) ≡ false) xs last u in all_push (λ o. is_gt (gap_cmp o y) ≡ false) xs _ parts.0 parts.1);
-  covered = λ relation row.
-      any_push (λ y. gap_covers y relation row) xs _
-      ∙ ap (λ b. list_any (λ y. gap_covers y relation row) xs || b) (joined_covers last gap h relation row j (all_init (λ o. is_gt (gap_cmp o gap) ≡ false) xs last up).1 c d e)
-      ∙ regroup (list_any (λ y. gap_covers y relation row) xs) (gap_covers last relation row) (gap_covers gap relation row)
-      ∙ ap (λ b. b || gap_covers gap relation row) (sym (any_push (λ y. gap_covers y relation row) xs last));
+  covered = λ above place.
+      any_push (λ y. gap_holds y above place) xs _
+      ∙ ap (λ b. list_any (λ y. gap_holds y above place) xs || b) (joined_holds last gap h above place j (all_init (λ o. is_gt (gap_cmp o gap) ≡ false) xs last up).1 c d e)
+      ∙ regroup (list_any (λ y. gap_holds y above place) xs) (gap_holds last above place) (gap_holds gap above place)
+      ∙ ap (λ b. b || gap_holds gap above place) (sym (any_push (λ y. gap_holds y above place) xs last));
   few = (let a = length-append xs (last ∷ []) in let b = length-append xs (record { relation = last.relation; columns = last.columns; prefix = last.prefix; lo = last.lo; hi = h } ∷ []) in omega arith);
 }
   where
@@ -316,18 +308,18 @@ sealed_itself before covers xs h = record { ordered = h; alike = λ relation row
 
 -- ---- the same of what is kept
 
-pub gap_put_first : (s : Store) (old rest new : List Passed) (gap : Passed) → old ≡ rest ++ [] → new ≡ rest ++ gap ∷ [] → length rest ≡ 0 → IsPut gap_cmp IsGapBefore gap_covers (gaps_in s old) (gaps_in s new) (stored_gap s gap)
-gap_put_first s old [] new gap e n z = rw (e, n) (put_first gap_cmp IsGapBefore gap_covers (stored_gap s gap))
+pub gap_put_first : (s : Store) (old rest new : List Passed) (gap : Passed) → old ≡ rest ++ [] → new ≡ rest ++ gap ∷ [] → length rest ≡ 0 → IsPut gap_cmp IsGapBefore gap_holds (gaps_in s old) (gaps_in s new) (stored_gap s gap)
+gap_put_first s old [] new gap e n z = rw (e, n) (put_first gap_cmp IsGapBefore gap_holds (stored_gap s gap))
 gap_put_first s old (x ∷ rest) new gap e n z = absurd (omega (arith, z))
 
 pub gap_put_joined : (s : Store) (old rest new : List Passed) (last gap : Passed) (h : ℕ) → old ≡ rest ++ last ∷ [] → new ≡ rest ++ record { run = last.run; lo = last.lo; hi = h } ∷ []
     → AreInOrder IsGapBefore (gaps_in s old) → AreUpTo gap_cmp (gaps_in s old) (stored_gap s gap) → joins (stored_gap s last) (stored_gap s gap) ≡ true
-    → (last.hi ≤ h) × (gap.hi ≤ h) → (last.hi ≤ gap.hi → h ≡ gap.hi) × (gap.hi ≤ last.hi → h ≡ last.hi) → IsPut gap_cmp IsGapBefore gap_covers (gaps_in s old) (gaps_in s new) (stored_gap s gap)
+    → (last.hi ≤ h) × (gap.hi ≤ h) → (last.hi ≤ gap.hi → h ≡ gap.hi) × (gap.hi ≤ last.hi → h ≡ last.hi) → IsPut gap_cmp IsGapBefore gap_holds (gaps_in s old) (gaps_in s new) (stored_gap s gap)
 gap_put_joined s old rest new last gap h e n ordered up j above one =
     let v : gaps_in s old ≡ gaps_in s rest ++ stored_gap s last ∷ [] = ap (gaps_in s) e ∙ map_push (stored_gap s) rest last in
     let w : gaps_in s new ≡ gaps_in s rest ++ stored_gap s (record { run = last.run; lo = last.lo; hi = h }) ∷ [] = ap (gaps_in s) n ∙ map_push (stored_gap s) rest (record { run = last.run; lo = last.lo; hi = h }) in
-    subst (λ o. IsPut gap_cmp IsGapBefore gap_covers o (gaps_in s new) (stored_gap s gap)) (sym v)
-    (subst (λ o. IsPut gap_cmp IsGapBefore gap_covers (gaps_in s rest ++ stored_gap s last ∷ []) o (stored_gap s gap)) (sym w)
+    subst (λ o. IsPut gap_cmp IsGapBefore gap_holds o (gaps_in s new) (stored_gap s gap)) (sym v)
+    (subst (λ o. IsPut gap_cmp IsGapBefore gap_holds (gaps_in s rest ++ stored_gap s last ∷ []) o (stored_gap s gap)) (sym w)
     (same_put s rest last gap h (subst (AreInOrder IsGapBefore) v ordered) (subst (λ o. AreUpTo gap_cmp o (stored_gap s gap)) v up) j above
     (elim (cases_lt last.hi gap.hi) [ inl lt ↦ inr (one.0 (omega arith)) | inr ge ↦ inl (one.1 ge) ])))
   where
@@ -348,23 +340,23 @@ gap_put_joined s old rest new last gap h e n ordered up j above one =
         inner (Some family) = refl
 
     same_put : (s : Store) (rest : List Passed) (last gap : Passed) (h : ℕ) → AreInOrder IsGapBefore (gaps_in s rest ++ stored_gap s last ∷ []) → AreUpTo gap_cmp (gaps_in s rest ++ stored_gap s last ∷ []) (stored_gap s gap) → joins (stored_gap s last) (stored_gap s gap) ≡ true
-        → (last.hi ≤ h) × (gap.hi ≤ h) → (h ≡ last.hi) ⊎ (h ≡ gap.hi) → IsPut gap_cmp IsGapBefore gap_covers (gaps_in s rest ++ stored_gap s last ∷ []) (gaps_in s rest ++ stored_gap s (record { run = last.run; lo = last.lo; hi = h }) ∷ []) (stored_gap s gap)
+        → (last.hi ≤ h) × (gap.hi ≤ h) → (h ≡ last.hi) ⊎ (h ≡ gap.hi) → IsPut gap_cmp IsGapBefore gap_holds (gaps_in s rest ++ stored_gap s last ∷ []) (gaps_in s rest ++ stored_gap s (record { run = last.run; lo = last.lo; hi = h }) ∷ []) (stored_gap s gap)
     same_put s rest last gap h ordered up j above one =
         let l = highs s.families.items s.cells.items last.lo last.hi (slice_get s.runs.items last.run) in
         let g = highs s.families.items s.cells.items gap.lo gap.hi (slice_get s.runs.items gap.run) in
-        subst (λ x. IsPut gap_cmp IsGapBefore gap_covers (gaps_in s rest ++ stored_gap s last ∷ []) (gaps_in s rest ++ x ∷ []) (stored_gap s gap)) (sym (shape s.families.items s.cells.items last gap h (slice_get s.runs.items last.run)))
+        subst (λ x. IsPut gap_cmp IsGapBefore gap_holds (gaps_in s rest ++ stored_gap s last ∷ []) (gaps_in s rest ++ x ∷ []) (stored_gap s gap)) (sym (shape s.families.items s.cells.items last gap h (slice_get s.runs.items last.run)))
         (put_joined (gaps_in s rest) (stored_gap s last) (stored_gap s gap) h ordered up j (omega (arith, above.0, l)) (omega (arith, above.1, g))
         (elim one [ inl q ↦ inl (q ∙ sym l) | inr q ↦ inr (q ∙ sym g) ]))
 
 pub gap_put_next : (s : Store) (old rest mid new : List Passed) (last gap : Passed) → old ≡ rest ++ last ∷ [] → mid ≡ rest ++ last ∷ [] → new ≡ mid ++ gap ∷ []
-    → AreInOrder IsGapBefore (gaps_in s old) → AreUpTo gap_cmp (gaps_in s old) (stored_gap s gap) → joins (stored_gap s last) (stored_gap s gap) ≡ false → IsPut gap_cmp IsGapBefore gap_covers (gaps_in s old) (gaps_in s new) (stored_gap s gap)
+    → AreInOrder IsGapBefore (gaps_in s old) → AreUpTo gap_cmp (gaps_in s old) (stored_gap s gap) → joins (stored_gap s last) (stored_gap s gap) ≡ false → IsPut gap_cmp IsGapBefore gap_holds (gaps_in s old) (gaps_in s new) (stored_gap s gap)
 gap_put_next s old rest mid new last gap e m n ordered up j =
     let v : gaps_in s old ≡ gaps_in s rest ++ stored_gap s last ∷ [] = ap (gaps_in s) e ∙ map_push (stored_gap s) rest last in
     let w : gaps_in s new ≡ (gaps_in s rest ++ stored_gap s last ∷ []) ++ stored_gap s gap ∷ [] = ap (gaps_in s) n ∙ map_push (stored_gap s) mid gap ∙ ap (λ o. gaps_in s o ++ stored_gap s gap ∷ []) m ∙ ap (λ o. o ++ stored_gap s gap ∷ []) (map_push (stored_gap s) rest last) in
     let last_up = (all_init (λ o. is_gt (gap_cmp o (stored_gap s gap)) ≡ false) (gaps_in s rest) (stored_gap s last) (subst (λ o. AreUpTo gap_cmp o (stored_gap s gap)) v up)).1 in
-    subst (λ o. IsPut gap_cmp IsGapBefore gap_covers o (gaps_in s new) (stored_gap s gap)) (sym v)
-    (subst (λ o. IsPut gap_cmp IsGapBefore gap_covers (gaps_in s rest ++ stored_gap s last ∷ []) o (stored_gap s gap)) (sym w)
-    (put_next gap_cmp IsGapBefore gap_covers gap_before_trans (gaps_in s rest) (stored_gap s last) (stored_gap s gap) (subst (AreInOrder IsGapBefore) v ordered) (gap_next (stored_gap s last) (stored_gap s gap) j last_up)))
+    subst (λ o. IsPut gap_cmp IsGapBefore gap_holds o (gaps_in s new) (stored_gap s gap)) (sym v)
+    (subst (λ o. IsPut gap_cmp IsGapBefore gap_holds (gaps_in s rest ++ stored_gap s last ∷ []) o (stored_gap s gap)) (sym w)
+    (put_next gap_cmp IsGapBefore gap_holds gap_before_trans (gaps_in s rest) (stored_gap s last) (stored_gap s gap) (subst (AreInOrder IsGapBefore) v ordered) (gap_next (stored_gap s last) (stored_gap s gap) j last_up)))
 
 pub same_run_tied : (s : Store) (one other : Passed) → one.run ≡ other.run → Equal ≡ place_cmp (stored_gap s one) (stored_gap s other)
 same_run_tied s one other e = outer s.families.items s.cells.items one.lo one.hi other.lo other.hi (slice_get s.runs.items one.run) ∙ ap (λ r. place_cmp (stored_gap s one) (run_gap s.families.items s.cells.items other.lo other.hi (slice_get s.runs.items r))) e

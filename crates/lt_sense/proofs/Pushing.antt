@@ -1,12 +1,13 @@
 -- Gaps that an iterator noted are added to those of a run.
 use Rattle.std.specs.Prelude.{filter}
 use Rattle.std.specs.List.{AllByRecursion}
-use Rattle.std.proofs.Common.{◌≡◌, ℕ, zero, suc, ◌+◌, ◌<◌, ◌≤◌, Bool, true, false, cond, List, [], ◌∷◌, ◌++◌, map, take, length, get_or, refl, sym, ap, ◌∙◌, subst, arith}
+use Rattle.std.proofs.Common.{◌≡◌, ℕ, zero, suc, ◌+◌, ◌<◌, ◌≤◌, Bool, true, false, cond, List, [], ◌∷◌, ◌++◌, map, take, length, get_or, refl, sym, ap, ◌∙◌, arith}
+use Rattle.std.proofs.lemmas.List.{take_at}
 use Rattle.lt_face.specs.State.{Row}
 use Rattle.lt_face.specs.declared.key.Gap.{Gap}
 use Rattle.lt_sense.specs.declared.store.Passed.{Passed}
 use Rattle.lt_sense.specs.declared.store.Store.{Store}
-use Rattle.lt_sense.specs.Gathered.{is_its, gap_under, gathered, passed_of}
+use Rattle.lt_sense.specs.Gathered.{gap_under, passed_of}
 use Rattle.lt_sense.specs.Stored.{stored_gap, sense_of, IsSound, GrowsBelow, IsRunFor}
 use Rattle.lt_sense.proofs.Growth.{gaps_grown}
 
@@ -74,7 +75,12 @@ gaps_sound mid new run items sound lt f r c h g = record {
   runs = rw (f, r, c) (sound.runs);
   gaps = rw (r, g) (all_both (λ (gap : Passed). gap.run < length mid.runs.items) mid.gaps.items (map (passed_of run) items) sound.gaps (all_passed run (length mid.runs.items) items lt));
   hits = rw (c, h) (sound.hits);
+  narrow = rw f sound.narrow;
 }
+
+-- gaps that came at the end are taken off again
+pub taken_off : (old mid new more : List Passed) (n : ℕ) → mid ≡ old ++ more → n ≡ length old → new ≡ take n mid → new ≡ old
+taken_off old mid new more n are count cut = cut ∙ ap (take n) are ∙ ap (λ m. take m (old ++ more)) count ∙ take_at old more (length old) refl
 
 under_all : (mid : Store) (run relation : ℕ) (columns : List ℕ) (prefix : Row) (items : List (ℕ × Gap)) → IsRunFor mid relation columns prefix run → map (stored_gap mid) (map (passed_of run) items) ≡ map (gap_under relation columns prefix) items
 under_all mid run relation columns prefix [] is = refl

@@ -1,7 +1,7 @@
 -- A row looked up among gaps in order.
-use Rattle.std.proofs.Common.{◌≡◌, ◌≢◌, ℕ, zero, suc, ◌+◌, ◌-◌, ◌*◌, ◌^◌, ◌<◌, ◌≤◌, Bool, true, false, ◌&&◌, ◌||◌, not, List, [], ◌∷◌, ◌++◌, length, take, drop, Some, None, refl, sym, ap, ◌∙◌, subst, arith, inl, inr}
+use Rattle.std.proofs.Common.{◌≡◌, ◌≢◌, ℕ, zero, suc, ◌+◌, ◌-◌, ◌*◌, ◌^◌, ◌<◌, ◌≤◌, Bool, true, false, ◌&&◌, ◌||◌, not, List, [], ◌∷◌, ◌++◌, length, take, drop, Some, refl, sym, ap, ◌∙◌, subst, arith, inl, inr}
 use mathlib.Core.Bool.{true≢false}
-use Rattle.std.specs.Prelude.{slice_get, slice_index, nat_le, nat_lt, Option, is_some, IfNone, ◌==◌, ◌⊎◌, if◌then◌else◌}
+use Rattle.std.specs.Prelude.{slice_get, slice_index, nat_le, nat_lt, ◌==◌, ◌⊎◌, if◌then◌else◌}
 use Rattle.std.specs.List.{AllByRecursion, list_any}
 use Rattle.std.specs.Ordering.{nat_cmp, is_eq, is_gt, ordering_reverse}
 use Rattle.std.specs.declared.cmp.Ordering.TheVariants.{Less, Equal, Greater}
@@ -22,7 +22,9 @@ use Rattle.lt_sense.specs.declared.store.Store.{Store}
 use Rattle.lt_sense.specs.Kept.{Sense}
 use Rattle.lt_sense.specs.Stored.{stored_gap, hit_of, sense_of}
 use Rattle.lt_sense.specs.Sense.{lies_in, gap_covers, hit_covers, covers, IsTight}
-use Rattle.lt_sense.specs.Ordered.{family_cmp, place_cmp, gap_cmp, hit_cmp, IsGapBefore, IsHitBefore, AreInOrder, AreNarrow, CoverAlike, IsSealedOf, IsCoverIn, gaps_in, is_of_family, orders_of, sought, IsPlacePast, IsFamilyEnd, IsFamilyUncovered, IsWidthUncovered}
+use Rattle.lt_sense.specs.Cells.{HaveSameCells}
+use Rattle.lt_sense.specs.Ordered.{family_cmp, place_cmp, gap_cmp, hit_cmp, gap_holds, IsGapBefore, IsHitBefore, AreInOrder, CoverAlike, IsSealedOf, IsCoverIn, gaps_in, is_of_family, orders_of, sought, IsPlacePast, IsFamilyEnd, IsFamilyUncovered, IsWidthUncovered}
+use Rattle.lt_sense.proofs.Holding.{row_tied, row_itself, any_of, any_from, cells_alike, covers_of_cells}
 use Rattle.lt_sense.proofs.Lies.{too_short, length_map}
 use Rattle.lt_sense.proofs.Sorted.{gap_total, hit_total, place_total, family_total, first_up, at_tie, both_tied, less_up, is_tie, number_up, up_number, between, same_family_parts, before_up, got_in, placed, same_at, there_is, in_order_at, all_in}
 
@@ -145,6 +147,18 @@ not_last gaps head cells row width relation place last up within past is at off 
     by true e =
         let q = last_up gaps head cells row width relation place up within past is g here family wide e in
         absurd (true≢false (sym e ∙ ap (λ x. gap_covers x relation row) (same_at gaps (place - 1) (place - 1) g last q.1 at refl) ∙ off))
+
+-- where halving ended, the last gap that isn't above the row doesn't cover it
+pub none_at_width : (gaps : List KeptGap) (head : KeptGap) (cells row : Row) (width relation low high : ℕ) → AreInOrder IsGapBefore gaps → high ≤ length gaps → low ≤ high → high ≤ low
+    → ((p : ℕ) (g : KeptGap) → slice_get gaps p ≡ Some g → p < low → is_gt (gap_cmp g (sought head cells width)) ≡ false)
+    → ((p : ℕ) (g : KeptGap) → slice_get gaps p ≡ Some g → high ≤ p → is_gt (gap_cmp g (sought head cells width)) ≡ true)
+    → ((g : KeptGap) → 0 < low → slice_get gaps (low - 1) ≡ Some g → gap_covers g relation row ≡ false) → cells ≡ permuted head.columns row → IsWidthUncovered gaps head width relation row
+none_at_width gaps head cells row width relation low high up within order met before after last is =
+    let past : IsPlacePast gaps (sought head cells width) low = (before, λ p g at le. after p g at (omega (arith, le, met))) in
+    elim (cases_lt 0 low) [
+      | inl some ↦ (let x = there_is gaps (low - 1) (omega (arith, some, order, within)) in not_last gaps head cells row width relation low x.0 up (omega (arith, order, within)) past is x.1 (last x.0 some x.1))
+      | inr none ↦ no_place gaps head cells row width relation low up (omega (arith, order, within)) past is (omega (arith, none))
+    ]
 
 -- ---- the widths of prefixes
 
@@ -293,10 +307,10 @@ orders_next gaps at end relation h f there =
 
 -- what the steps made so far and those that the orders left may take come to
 abbrev pub ArePaid : List KeptGap → ℕ → ℕ → ℕ → ℕ → Type 0
-ArePaid gaps relation first now at = AreNarrow gaps → (d : ℕ) → length gaps < 2 ^ d → now + 8 * d * orders_of relation (drop at gaps) ≤ first + 8 * d * orders_of relation gaps
+ArePaid gaps relation first now at = (d : ℕ) → length gaps < 2 ^ d → now + 8 * d * orders_of relation (drop at gaps) ≤ first + 8 * d * orders_of relation gaps
 
 pub paid_begun : (gaps : List KeptGap) (relation first : ℕ) → ArePaid gaps relation first first 0
-paid_begun gaps relation first narrow d lt = omega arith
+paid_begun gaps relation first d lt = omega arith
 
 times_sum : (k a b c : ℕ) → a + b ≤ c → k * a + k * b ≤ k * c
 times_sum k a b c le =
@@ -310,10 +324,10 @@ close : (first now next p q o x k : ℕ) → now + p ≤ first + o → next ≤ 
 close first now next p q o x k a b c e = omega arith
 
 pub paid_next : (gaps : List KeptGap) (relation first now next at end : ℕ) (h : KeptGap) → ArePaid gaps relation first now at → IsFamilyEnd gaps at end → slice_get gaps at ≡ Some h
-    → (length h.columns ≤ 8 → (d : ℕ) → length gaps < 2 ^ d → next ≤ now + (if h.relation == relation then 8 * d else 0)) → ArePaid gaps relation first next end
-paid_next gaps relation first now next at end h paid f there cost narrow d lt =
-    let a = paid narrow d lt in
-    let b = cost (all_in (λ (g : KeptGap). length g.columns ≤ 8) gaps h narrow (got_in gaps at h there)) d lt in
+    → ((d : ℕ) → length gaps < 2 ^ d → next ≤ now + (if h.relation == relation then 8 * d else 0)) → ArePaid gaps relation first next end
+paid_next gaps relation first now next at end h paid f there cost d lt =
+    let a = paid d lt in
+    let b = cost d lt in
     let c = times_sum (8 * d) (if h.relation == relation then 1 else 0) (orders_of relation (drop end gaps)) (orders_of relation (drop at gaps)) (orders_next gaps at end relation h f there) in
     let e : 8 * d * (if h.relation == relation then 1 else 0) ≡ (if h.relation == relation then 8 * d else 0) = by (h.relation == relation) in
     close first now next (8 * d * orders_of relation (drop at gaps)) (8 * d * orders_of relation (drop end gaps)) (8 * d * orders_of relation gaps) (if h.relation == relation then 8 * d else 0) (8 * d * (if h.relation == relation then 1 else 0)) a b c e
@@ -345,10 +359,10 @@ orders_some relation (g ∷ gaps) h here r = elim here [
 ]
 
 pub paid_stop : (gaps : List KeptGap) (relation first now next at : ℕ) (h : KeptGap) → ArePaid gaps relation first now at → slice_get gaps at ≡ Some h
-    → (length h.columns ≤ 8 → (d : ℕ) → length gaps < 2 ^ d → next ≤ now + (if h.relation == relation then 8 * d else 0)) → AreNarrow gaps → (d : ℕ) → length gaps < 2 ^ d → next ≤ first + 8 * d * orders_of relation gaps
-paid_stop gaps relation first now next at h paid there cost narrow d lt =
-    let a = paid narrow d lt in
-    let b = cost (all_in (λ (g : KeptGap). length g.columns ≤ 8) gaps h narrow (got_in gaps at h there)) d lt in
+    → ((d : ℕ) → length gaps < 2 ^ d → next ≤ now + (if h.relation == relation then 8 * d else 0)) → (d : ℕ) → length gaps < 2 ^ d → next ≤ first + 8 * d * orders_of relation gaps
+paid_stop gaps relation first now next at h paid there cost d lt =
+    let a = paid d lt in
+    let b = cost d lt in
     let c = times_sum (8 * d) (if h.relation == relation then 1 else 0) 0 (orders_of relation (drop at gaps)) (some (h.relation == relation) refl) in
     let e : 8 * d * (if h.relation == relation then 1 else 0) ≡ (if h.relation == relation then 8 * d else 0) = by (h.relation == relation) in
     stop first now next (8 * d * orders_of relation (drop at gaps)) (8 * d * orders_of relation gaps) (if h.relation == relation then 8 * d else 0) (8 * d * (if h.relation == relation then 1 else 0)) (8 * d * 0) a b c e
@@ -369,8 +383,8 @@ paid_stop gaps relation first now next at h paid there cost narrow d lt =
     stop : (first now next p o x k z : ℕ) → now + p ≤ first + o → next ≤ now + x → k + z ≤ p → k ≡ x → next ≤ first + o
     stop first now next p o x k z a b c e = omega arith
 
-pub paid_ended : (gaps : List KeptGap) (relation first now at : ℕ) → ArePaid gaps relation first now at → AreNarrow gaps → (d : ℕ) → length gaps < 2 ^ d → now ≤ first + 8 * d * orders_of relation gaps
-paid_ended gaps relation first now at paid narrow d lt = (let a = paid narrow d lt in omega (arith, a))
+pub paid_ended : (gaps : List KeptGap) (relation first now at : ℕ) → ArePaid gaps relation first now at → (d : ℕ) → length gaps < 2 ^ d → now ≤ first + 8 * d * orders_of relation gaps
+paid_ended gaps relation first now at paid d lt = (let a = paid d lt in omega (arith, a))
 
 -- ---- the gaps before a place don't cover the row
 
@@ -404,16 +418,6 @@ upper_hits hits t middle m up at h p g there le =
       | inl above ↦ hit_total.trans t m g back (in_order_at IsHitBefore hits middle p m g up at there above)
       | inr ge ↦ (let e = same_at hits p middle g m there at (omega arith) in subst (λ x. hit_cmp t x ≡ Less) (sym e) back)
     ]
-
-row_tied : (a b : Row) → row_eq a b ≡ true → a ≡ b
-row_tied [] [] h = refl
-row_tied [] (y ∷ ys) h = absurd (true≢false (sym h))
-row_tied (x ∷ xs) [] h = absurd (true≢false (sym h))
-row_tied (x ∷ xs) (y ∷ ys) h = let k = and_parts (x == y) (row_eq xs ys) h in ap (λ z. z ∷ xs) (eqb-true x y k.0) ∙ ap (λ zs. y ∷ zs) (row_tied xs ys k.1)
-
-row_itself : (a : Row) → row_eq a a ≡ true
-row_itself [] = refl
-row_itself (x ∷ xs) = and_from (x == x) (row_eq xs xs) (eq-eqb x x refl) (row_itself xs)
 
 pub hit_there : (s : List Hit) (relation : ℕ) (row : Row) (p : ℕ) (m : Hit) → slice_get s p ≡ Some m → hit_cmp m (record { relation = relation; row = row }) ≡ Equal → list_any (λ hit. hit_covers hit relation row) s ≡ true
 hit_there [] relation row p m at e = absurd cc
@@ -449,20 +453,8 @@ no_hit s relation row low high le before after = none s (λ p g at. off g (elim 
               | inr l ↦ (let q : Less ≡ Equal = sym l ∙ ap (hit_cmp t) same ∙ tied in cc)
             ])
 
-any_of : {X : Type 0} (p : X → Bool) (x : X) (xs : List X) → IsIn x xs → p x ≡ true → list_any p xs ≡ true
-any_of p x [] h e = absurd h
-any_of p x (y ∷ xs) h e = elim h [ inl q ↦ or_left (p y) (list_any p xs) (ap p q ∙ e) | inr k ↦ or_right (p y) (list_any p xs) (any_of p x xs k e) ]
-
-any_from : {X : Type 0} (p : X → Bool) (xs : List X) → list_any p xs ≡ true → (x : X) × IsIn x xs × (p x ≡ true)
-any_from p [] h = absurd (true≢false (sym h))
-any_from p (x ∷ xs) h = elim (or_cases (p x) (list_any p xs) h) [ inl e ↦ (x, inl refl, e) | inr k ↦ (let q = any_from p xs k in (q.0, inr q.1, q.2)) ]
-
 pub gap_found : (sense : Sense) (gap : KeptGap) (relation : ℕ) (row : Row) → IsIn gap sense.gaps → gap_covers gap relation row ≡ true → true ≡ covers sense relation row
 gap_found sense gap relation row here e = sym (or_left (list_any (λ g. gap_covers g relation row) sense.gaps) (list_any (λ hit. hit_covers hit relation row) sense.hits) (any_of (λ g. gap_covers g relation row) gap sense.gaps here e))
-
-pub uncovered_if_none : (s : Store) (head : KeptGap) (relation : ℕ) (row : Row) (found : Option Passed) → is_some found ≡ list_any (λ gap. gap_covers gap relation row) (gaps_in s s.gaps.items) → IfNone found (IsFamilyUncovered (gaps_in s s.gaps.items) head relation row)
-uncovered_if_none s head relation row None e = none_covers (gaps_in s s.gaps.items) head row relation (sym e)
-uncovered_if_none s head relation row (Some gap) e = tt
 
 -- the steps for all orders and for the hits
 pub all_steps : (p d first now next : ℕ) → now ≤ first + 8 * d * p → next ≤ now + d → next ≤ first + (8 * p + 1) * d
@@ -499,18 +491,21 @@ covers_alike old new gaps hits relation row =
 pub spot_found : (s : Store) (now : Sense) (gap : Passed) (relation : ℕ) (row : Row) → sense_of s ≡ now → IsCoverIn s relation row gap → true ≡ covers now relation row
 spot_found s now gap relation row e found = subst (λ v. true ≡ covers v relation row) e (gap_found (sense_of s) (stored_gap s gap) relation row found.is_in found.covers)
 
-pub spot_steps : (s : Store) (now : Sense) (relation first mid next : ℕ) → sense_of s ≡ now → (AreNarrow (gaps_in s s.gaps.items) → (d : ℕ) → length s.gaps.items < 2 ^ d → mid ≤ first + 8 * d * orders_of relation (gaps_in s s.gaps.items))
-    → ((d : ℕ) → length s.hits.items < 2 ^ d → next ≤ mid + d) → AreNarrow now.gaps → (d : ℕ) → length now.gaps + length now.hits < 2 ^ d → next ≤ first + (8 * orders_of relation now.gaps + 1) * d
-spot_steps s now relation first mid next e gaps hits = subst (λ v. AreNarrow v.gaps → (d : ℕ) → length v.gaps + length v.hits < 2 ^ d → next ≤ first + (8 * orders_of relation v.gaps + 1) * d) e
-    (λ narrow d lt.
+pub spot_steps : (s : Store) (now : Sense) (relation first mid next : ℕ) → sense_of s ≡ now → ((d : ℕ) → length s.gaps.items < 2 ^ d → mid ≤ first + 8 * d * orders_of relation (gaps_in s s.gaps.items))
+    → ((d : ℕ) → length s.hits.items < 2 ^ d → next ≤ mid + d) → (d : ℕ) → length now.gaps + length now.hits < 2 ^ d → next ≤ first + (8 * orders_of relation now.gaps + 1) * d
+spot_steps s now relation first mid next e gaps hits = subst (λ v. (d : ℕ) → length v.gaps + length v.hits < 2 ^ d → next ≤ first + (8 * orders_of relation v.gaps + 1) * d) e
+    (λ d lt.
     let m = length_map (stored_gap s) s.gaps.items in
     let n = length_map (hit_of s.cells.items) s.hits.items in
-    all_steps (orders_of relation (gaps_in s s.gaps.items)) d first mid next (gaps narrow d (omega (arith, m, lt))) (hits d (omega (arith, n, lt))))
+    all_steps (orders_of relation (gaps_in s s.gaps.items)) d first mid next (gaps d (omega (arith, m, lt))) (hits d (omega (arith, n, lt))))
 
 -- ---- a sealed sense
 
-pub sealed_covers : (s t : Store) (old : Sense) → sense_of s ≡ old → IsSealedOf IsGapBefore gap_covers (sense_of s).gaps (sense_of t).gaps → IsSealedOf IsHitBefore hit_covers (sense_of s).hits (sense_of t).hits → (relation : ℕ) (row : Row) → covers (sense_of t) relation row ≡ covers old relation row
-sealed_covers s t old e gaps hits = subst (λ o. (relation : ℕ) (row : Row) → covers (sense_of t) relation row ≡ covers o relation row) e (covers_alike (sense_of s) (sense_of t) gaps.alike hits.alike)
+pub sealed_covers : (s t : Store) (old : Sense) → sense_of s ≡ old → IsSealedOf IsGapBefore gap_holds (sense_of s).gaps (sense_of t).gaps → IsSealedOf IsHitBefore hit_covers (sense_of s).hits (sense_of t).hits → (relation : ℕ) (row : Row) → covers (sense_of t) relation row ≡ covers old relation row
+sealed_covers s t old e gaps hits = subst (λ o. (relation : ℕ) (row : Row) → covers (sense_of t) relation row ≡ covers o relation row) e (covers_alike (sense_of s) (sense_of t) (covers_of_cells (sense_of s).gaps (sense_of t).gaps (cells_alike (sense_of s).gaps (sense_of t).gaps gaps.alike)) hits.alike)
 
-pub sealed_tight : (s t : Store) (old : Sense) → sense_of s ≡ old → IsSealedOf IsGapBefore gap_covers (sense_of s).gaps (sense_of t).gaps → IsSealedOf IsHitBefore hit_covers (sense_of s).hits (sense_of t).hits → (state : State) → IsTight old state → IsTight (sense_of t) state
-sealed_tight s t old e gaps hits = subst (λ o. (state : State) → IsTight o state → IsTight (sense_of t) state) e (λ state tight. tight_alike (sense_of s) (sense_of t) state gaps.alike hits.alike tight)
+pub sealed_tight : (s t : Store) (old : Sense) → sense_of s ≡ old → IsSealedOf IsGapBefore gap_holds (sense_of s).gaps (sense_of t).gaps → IsSealedOf IsHitBefore hit_covers (sense_of s).hits (sense_of t).hits → (state : State) → IsTight old state → IsTight (sense_of t) state
+sealed_tight s t old e gaps hits = subst (λ o. (state : State) → IsTight o state → IsTight (sense_of t) state) e (λ state tight. tight_alike (sense_of s) (sense_of t) state (covers_of_cells (sense_of s).gaps (sense_of t).gaps (cells_alike (sense_of s).gaps (sense_of t).gaps gaps.alike)) hits.alike tight)
+
+pub sealed_cells : (s t : Store) (old : Sense) → sense_of s ≡ old → IsSealedOf IsGapBefore gap_holds (sense_of s).gaps (sense_of t).gaps → HaveSameCells old.gaps (sense_of t).gaps
+sealed_cells s t old e gaps = subst (λ (o : Sense). HaveSameCells o.gaps (sense_of t).gaps) e (cells_alike (sense_of s).gaps (sense_of t).gaps gaps.alike)

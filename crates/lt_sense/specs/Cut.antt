@@ -1,5 +1,5 @@
 -- Gaps cut at cells.
-use Rattle.std.specs.Prelude.{◌<◌, ◌+◌, ℕ, Bool, ◌&&◌, nat_lt, nat_le, if◌then◌else◌, List, [], ◌∷◌, filter}
+use Rattle.std.specs.Prelude.{◌+◌, ℕ, Bool, ◌&&◌, nat_lt, nat_le, if◌then◌else◌, List, [], ◌∷◌, filter}
 use Rattle.std.specs.List.{flat_map}
 use Rattle.lt_sense.specs.declared.covering.KeptGap.{KeptGap}
 use Rattle.lt_sense.specs.Kept.{Sense}

@@ -1,12 +1,11 @@
 -- The order of gaps and of hits, and senses that stand in it.
-use Rattle.std.specs.Prelude.{◌≡◌, ◌<◌, ◌≤◌, ◌+◌, ℕ, Bool, true, false, not, ◌&&◌, ◌||◌, ◌==◌, nat_le, if◌then◌else◌, List, [], ◌∷◌, length, map, take, slice_index, slice_get, Some, ⊤}
+use Rattle.std.specs.Prelude.{◌≡◌, ◌<◌, ◌≤◌, ◌+◌, ℕ, Bool, true, false, not, ◌&&◌, ◌||◌, ◌==◌, nat_le, nat_lt, if◌then◌else◌, List, [], ◌∷◌, ◌++◌, length, map, take, slice_index, slice_get, Some, ⊤}
 use Rattle.std.specs.List.{AllByRecursion, list_any}
 use Rattle.std.specs.Ordering.{nat_cmp, is_eq, is_gt, then_cmp}
 use Rattle.std.specs.declared.cmp.Ordering.{Ordering}
 use Rattle.std.specs.declared.cmp.Ordering.TheVariants.{Less, Equal}
-use Rattle.lt_face.specs.Limits.{most_columns}
 use Rattle.lt_face.specs.Rows.{row_cmp}
-use Rattle.lt_face.specs.State.{Row}
+use Rattle.lt_face.specs.State.{Row, row_eq}
 use Rattle.lt_sense.specs.declared.covering.KeptGap.{KeptGap}
 use Rattle.lt_sense.specs.declared.covering.Hit.{Hit}
 use Rattle.lt_sense.specs.declared.store.Passed.{Passed}
@@ -63,9 +62,13 @@ abbrev pub orders_of : ℕ → List KeptGap → ℕ
 orders_of relation [] = 0
 orders_of relation (gap ∷ gaps) = (if gap.relation == relation && not (list_any (is_of_family gap) gaps) then 1 else 0) + orders_of relation gaps
 
--- no order has more columns than a row has cells
-abbrev pub AreNarrow : List KeptGap → Type 0
-AreNarrow gaps = AllByRecursion (λ (gap : KeptGap). length gap.columns ≤ most_columns) gaps
+-- what tells where a gap lies: its relation, its columns and its prefix, as one list of numbers
+abbrev pub place_of : KeptGap → Row
+place_of gap = gap.relation ∷ length gap.columns ∷ (gap.columns ++ gap.prefix)
+
+-- the gap lies at the place, and where the number isn't 0, the cell below it is in the gap
+abbrev pub gap_holds : KeptGap → ℕ → Row → Bool
+gap_holds gap above place = row_eq (place_of gap) place && (above == 0 || (nat_lt gap.lo above && nat_le above gap.hi))
 
 -- they cover the same rows
 abbrev pub CoverAlike : {X : Type 0} → (X → ℕ → Row → Bool) → List X → List X → Type 0

@@ -15,6 +15,11 @@ IsSpotOf sense relation row (Gap prefix lo hi) =
     (gap : KeptGap) × IsIn gap sense.gaps × (gap_covers gap relation row ≡ true) × (gap.prefix ≡ prefix) × (gap.lo ≡ lo) × (gap.hi ≡ hi)
 IsSpotOf sense relation row Hit = list_any (λ hit. hit_covers hit relation row) sense.hits ≡ true
 
+-- it is a gap, or no gap of the sense has the row
+abbrev pub IsFirstSpot : Sense → ℕ → Row → Spot → Type 0
+IsFirstSpot sense relation row (Gap prefix lo hi) = Unit {0}
+IsFirstSpot sense relation row Hit = list_any (λ gap. gap_covers gap relation row) sense.gaps ≡ false
+
 -- none of the rows is covered
 abbrev pub AreUncovered : Sense → List (ℕ × Row) → Type 0
 AreUncovered sense changes = AllByRecursion (λ (change : ℕ × Row). covers sense change.0 change.1 ≡ false) changes

@@ -48,11 +48,16 @@ IsPiece cells piece = (piece.start + piece.width ≤ length cells) × (piece.wid
 abbrev pub IsRunAmong : List Family → List ℕ → Run → Type 0
 IsRunAmong families cells run = (run.family < length families) × IsPiece cells run.prefix
 
--- each place that is named is there
+-- the family's order has no more columns than a row has cells
+abbrev pub IsNarrow : Family → Type 0
+IsNarrow family = length family.columns ≤ most_columns
+
+-- each place that is named is there, and no family has more columns than a row has cells
 pub record IsSound (s : Store) : Type 0 where
   pub runs : AllByRecursion (IsRunAmong s.families.items s.cells.items) s.runs.items
   pub gaps : AllByRecursion (λ (gap : Passed). gap.run < length s.runs.items) s.gaps.items
   pub hits : AllByRecursion (λ (met : Met). IsPiece s.cells.items met.row) s.hits.items
+  pub narrow : AllByRecursion IsNarrow s.families.items
 
 -- families, runs and cells may have come at the ends
 pub record GrowsBelow (old : Store) (new : Store) : Type 0 where

@@ -5,43 +5,16 @@ ghost use Rattle.lt_face.specs.Limits.{most_columns};
 ghost use Rattle.lt_face.specs.State.{permuted};
 ghost use Rattle.lt_sense.specs.Sense.{gap_covers, hit_covers};
 ghost use Rattle.lt_sense.specs.Stored.{stored_gap, IsSound};
-ghost use Rattle.lt_sense.specs.Ordered.{IsGapBefore, IsHitBefore, AreInOrder, AreNarrow, gaps_in, hits_in, orders_of, sought, IsPlacePast, IsFamilyEnd, IsCoverIn, IsFamilyUncovered, IsWidthUncovered};
+ghost use Rattle.lt_sense.specs.Ordered.{IsGapBefore, IsHitBefore, AreInOrder, gaps_in, hits_in, orders_of, sought, IsPlacePast, IsFamilyEnd, IsCoverIn, IsFamilyUncovered, IsWidthUncovered};
 
 use crate::covering::cells_in;
 use crate::store::{Passed, Store};
-use lt_face::limits::MOST_COLUMNS;
 use lt_face::moves::Moves;
 use lt_face::row::Row;
 use std::alloc::Global;
 use std::cmp::Ordering;
 
 impl Store {
-    /// The first place of a gap above where the row would lie among the gaps of a family under its own first cells.
-    fn place_past<L>(&self, head: Passed, cells: &Row, width: usize, steps: &mut Moves<L>) -> usize
-        requires sound { IsSound self.now }
-        requires head { head.run < length self.now.runs.items }
-        requires within { width < length cells.now }
-        requires ordered { AreInOrder IsGapBefore (gaps_in self.now self.now.gaps.items) }
-        ensures within { result ≤ length self.now.gaps.items }
-        ensures place { IsPlacePast (gaps_in self.now self.now.gaps.items) (sought (stored_gap self.now head) cells.now width) result }
-        ensures steps { (d : ℕ) → length self.now.gaps.items < 2 ^ d → steps.new ≤ steps.old + d }
-    {
-        let mut low = 0;
-        let mut high = self.gaps.len();
-        'halves: while low < high {
-            let half = (high - low) / 2;
-            let middle = low + half;
-            steps.tick();
-            let gap = self.gaps[middle];
-            if self.compare_to(gap, head, cells, width).is_gt() {
-                high = middle;
-            } else {
-                low = middle + 1;
-            }
-        }
-        low
-    }
-
     /// The gap of a family that covers the row, under a prefix of this width. Only the last that isn't above the row can.
     fn gap_at_width<L>(
         &self,
@@ -61,13 +34,20 @@ impl Store {
         ensures some { IfSome result (IsCoverIn self.now relation row.now) }
         ensures steps { (d : ℕ) → length self.now.gaps.items < 2 ^ d → steps.new ≤ steps.old + d }
     {
-        let place = self.place_past(head, cells, width, steps);
-        if place == 0 {
-            return None;
-        }
-        let gap = self.gaps[place - 1];
-        if self.gap_covers_row(gap, relation, row) {
-            return Some(gap);
+        let mut low = 0;
+        let mut high = self.gaps.len();
+        'halves: while low < high {
+            let half = (high - low) / 2;
+            let middle = low + half;
+            steps.tick();
+            let gap = self.gaps[middle];
+            if self.compare_to(gap, head, cells, width).is_gt() {
+                high = middle;
+            } else if self.gap_covers_row(gap, relation, row) {
+                return Some(gap);
+            } else {
+                low = middle + 1;
+            }
         }
         None
     }
@@ -85,12 +65,9 @@ impl Store {
         requires ordered { AreInOrder IsGapBefore (gaps_in self.now self.now.gaps.items) }
         ensures none { IfNone result (IsFamilyUncovered (gaps_in self.now self.now.gaps.items) (stored_gap self.now head) relation row.now) }
         ensures some { IfSome result (IsCoverIn self.now relation row.now) }
-        ensures steps { length (stored_gap self.now head).columns ≤ most_columns → (d : ℕ) → length self.now.gaps.items < 2 ^ d → steps.new ≤ steps.old + most_columns * d }
+        ensures steps { (d : ℕ) → length self.now.gaps.items < 2 ^ d → steps.new ≤ steps.old + most_columns * d }
     {
         let columns = self.columns_of(head);
-        if columns.len() > MOST_COLUMNS {
-            return self.gap_with(relation, row);
-        }
         let cells = cells_in(*self.cells.allocator(), columns, row);
         for width in 0..columns.len() {
             match self.gap_at_width(head, &cells, width, relation, row, steps) {
@@ -116,7 +93,7 @@ impl Store {
         requires ordered { AreInOrder IsGapBefore (gaps_in self.now self.now.gaps.items) }
         ensures none { IfNone result (IsFamilyUncovered (gaps_in self.now self.now.gaps.items) (stored_gap self.now head) relation row.now) }
         ensures some { IfSome result (IsCoverIn self.now relation row.now) }
-        ensures steps { length (stored_gap self.now head).columns ≤ most_columns → (d : ℕ) → length self.now.gaps.items < 2 ^ d → steps.new ≤ steps.old + (if (stored_gap self.now head).relation == relation then most_columns * d else 0) }
+        ensures steps { (d : ℕ) → length self.now.gaps.items < 2 ^ d → steps.new ≤ steps.old + (if (stored_gap self.now head).relation == relation then most_columns * d else 0) }
     {
         if self.relation_of(head) != relation {
             return None;
@@ -157,8 +134,11 @@ impl Store {
         requires ordered { AreInOrder IsGapBefore (gaps_in self.now self.now.gaps.items) }
         ensures none { IfNone result (list_any (λ gap. gap_covers gap relation row.now) (gaps_in self.now self.now.gaps.items) ≡ false) }
         ensures some { IfSome result (IsCoverIn self.now relation row.now) }
-        ensures steps { AreNarrow (gaps_in self.now self.now.gaps.items) → (d : ℕ) → length self.now.gaps.items < 2 ^ d → steps.new ≤ steps.old + most_columns * d * orders_of relation (gaps_in self.now self.now.gaps.items) }
+        ensures steps { (d : ℕ) → length self.now.gaps.items < 2 ^ d → steps.new ≤ steps.old + most_columns * d * orders_of relation (gaps_in self.now self.now.gaps.items) }
     {
+        if !self.has_family(relation) {
+            return None;
+        }
         let mut at = 0;
         'families: while at < self.gaps.len() {
             let head = self.gaps[at];

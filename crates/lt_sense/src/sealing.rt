@@ -3,9 +3,9 @@ ghost use Rattle.std.specs.Prelude.{◌≡◌, ◌<◌, ◌≤◌, ◌++◌, tru
 ghost use Rattle.std.specs.List.{AllByRecursion};
 ghost use Rattle.std.specs.Ordering.{is_gt};
 ghost use Rattle.lt_sense.specs.declared.covering.KeptGap.{KeptGap as KeptGapView};
-ghost use Rattle.lt_sense.specs.Sense.{gap_covers, hit_covers};
+ghost use Rattle.lt_sense.specs.Sense.{hit_covers};
 ghost use Rattle.lt_sense.specs.Stored.{stored_gap, sense_of, IsSound};
-ghost use Rattle.lt_sense.specs.Ordered.{gap_cmp, IsGapBefore, IsHitBefore, AreInOrder, IsSealed, IsSealedOf, gaps_in, IsKeptGap, AreUpTo, joins as is_to_join, IsPut};
+ghost use Rattle.lt_sense.specs.Ordered.{gap_cmp, gap_holds, IsGapBefore, IsHitBefore, AreInOrder, IsSealed, IsSealedOf, gaps_in, IsKeptGap, AreUpTo, joins as is_to_join, IsPut};
 
 use crate::store::{Passed, Store};
 use lt_face::key::Key;
@@ -43,7 +43,7 @@ impl Store {
         requires ordered { AreInOrder IsGapBefore (gaps_in self.now out.old.items) }
         requires up_to { AreUpTo gap_cmp (gaps_in self.now out.old.items) (stored_gap self.now gap) }
         ensures kept { OnOk result (AllByRecursion (IsKeptGap self.now) out.new.items) }
-        ensures put { OnOk result (IsPut gap_cmp IsGapBefore gap_covers (gaps_in self.now out.old.items) (gaps_in self.now out.new.items) (stored_gap self.now gap)) }
+        ensures put { OnOk result (IsPut gap_cmp IsGapBefore gap_holds (gaps_in self.now out.old.items) (gaps_in self.now out.new.items) (stored_gap self.now gap)) }
     {
         match out.pop() {
             None => {
@@ -97,7 +97,7 @@ impl Store {
         requires one_ordered { AreInOrder IsGapBefore (gaps_in self.now one.now) }
         requires other_ordered { AreInOrder IsGapBefore (gaps_in self.now other.now) }
         ensures kept { IfOk result (λ out. AllByRecursion (IsKeptGap self.now) out.items) }
-        ensures merged { IfOk result (λ out. IsSealedOf IsGapBefore gap_covers (gaps_in self.now one.now ++ gaps_in self.now other.now) (gaps_in self.now out.items)) }
+        ensures merged { IfOk result (λ out. IsSealedOf IsGapBefore gap_holds (gaps_in self.now one.now ++ gaps_in self.now other.now) (gaps_in self.now out.items)) }
     {
         let mut out = Vec::new(*self.gaps.allocator());
         let mut i = 0;
@@ -159,7 +159,7 @@ impl Store {
         requires sound { IsSound self.now }
         requires kept { AllByRecursion (IsKeptGap self.now) gaps.now }
         ensures kept { IfOk result (λ out. AllByRecursion (IsKeptGap self.now) out.items) }
-        ensures same { IfOk result (λ out. IsSealedOf IsGapBefore gap_covers (gaps_in self.now gaps.now) (gaps_in self.now out.items)) }
+        ensures same { IfOk result (λ out. IsSealedOf IsGapBefore gap_holds (gaps_in self.now gaps.now) (gaps_in self.now out.items)) }
     {
         if self.are_gaps_ordered(gaps) {
             let mut out = Vec::new(*self.gaps.allocator());
@@ -185,7 +185,7 @@ impl Store {
     pub(crate) fn seal(&mut self) -> Result<(), NoMemory>
         requires { IsSound self.old }
         ensures sound { IsSound self.new }
-        ensures gaps { OnOk result (IsSealedOf IsGapBefore gap_covers (sense_of self.old).gaps (sense_of self.new).gaps) }
+        ensures gaps { OnOk result (IsSealedOf IsGapBefore gap_holds (sense_of self.old).gaps (sense_of self.new).gaps) }
         ensures hits { OnOk result (IsSealedOf IsHitBefore hit_covers (sense_of self.old).hits (sense_of self.new).hits) }
         ensures err { OnErr result (self.new ≡ self.old) }
     {

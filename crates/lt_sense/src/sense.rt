@@ -37,10 +37,11 @@ impl Sense {
     ghost use Rattle.lt_face.specs.Lists.{IsIn};
     ghost use Rattle.lt_face.specs.State.{Row as RowView, State};
     ghost use Rattle.lt_sense.specs.Sense.{covers, gap_covers, hit_covers, IsTight};
+    ghost use Rattle.lt_sense.specs.Cells.{HaveSameCells};
     ghost use Rattle.lt_sense.specs.Cut.{cut};
     ghost use Rattle.lt_sense.specs.Gathered.{gathered};
-    ghost use Rattle.lt_sense.specs.Ordered.{AreInOrder, IsSealed, AreNarrow, orders_of};
-    ghost use Rattle.lt_sense.specs.Spots.{IsSpotOf, AreUncovered, IsFirstCovered};
+    ghost use Rattle.lt_sense.specs.Ordered.{AreInOrder, IsSealed, orders_of};
+    ghost use Rattle.lt_sense.specs.Spots.{IsSpotOf, IsFirstSpot, AreUncovered, IsFirstCovered};
 
     /// Sensitive to nothing.
     pub fn new(alloc: Global) -> Sense
@@ -61,6 +62,7 @@ impl Sense {
         lo: Key,
         hi: Key,
     ) -> Result<(), NoMemory>
+        requires { length perm.now ≤ most_columns }
         ensures kept { OnOk result (lo < hi → self.new.gaps ≡ self.old.gaps ++ record { relation = relation; columns = perm.now; prefix = prefix.now; lo = lo; hi = hi } ∷ []) }
         ensures empty { OnOk result (hi ≤ lo → self.new.gaps ≡ self.old.gaps) }
         ensures hits { self.new.hits ≡ self.old.hits }
@@ -74,7 +76,7 @@ impl Sense {
         Ok(())
     }
 
-    /// Adds the gaps under one prefix that an iterator noted, but those that are empty. After want of memory some may be added.
+    /// Adds the gaps under one prefix that an iterator noted, but those that are empty. Want of memory leaves the sense as it was.
     pub fn add_gaps(
         &mut self,
         relation: u32,
@@ -83,8 +85,10 @@ impl Sense {
         iter: usize,
         noted: &[(u32, Gap)],
     ) -> Result<(), NoMemory>
+        requires { length perm.now ≤ most_columns }
         ensures kept { OnOk result (self.new.gaps ≡ self.old.gaps ++ gathered relation perm.now prefix.now iter noted.now) }
         ensures hits { self.new.hits ≡ self.old.hits }
+        ensures err { OnErr result (self.new ≡ self.old) }
     {
         self.sealed = false;
         self.store.add_gaps(relation, perm, prefix, iter, noted)?;
@@ -102,9 +106,9 @@ impl Sense {
         Ok(())
     }
 
-    /// Puts gaps and hits in order, and joins gaps under one prefix that overlap or adjoin. What is covered stays, there are no
-    /// more gaps nor hits than before, and no row of a state lies in a joined gap where none did in its parts. Want of memory
-    /// leaves the sense as it was.
+    /// Puts gaps and hits in order, and joins gaps under one prefix that overlap or adjoin. What is covered stays, gaps under one
+    /// prefix have the cells that they had, there are no more gaps nor hits than before, and no row of a state lies in a joined
+    /// gap where none did in its parts. Want of memory leaves the sense as it was.
     pub fn seal(&mut self) -> Result<(), NoMemory>
         ensures sealed { OnOk result (IsSealed self.new) }
         ensures covers { OnOk result ((relation : ℕ) (row : RowView) → covers self.new relation row ≡ covers self.old relation row) }
@@ -112,6 +116,7 @@ impl Sense {
         ensures hits { OnOk result (length self.new.hits ≤ length self.old.hits) }
         ensures tight { OnOk result ((state : State) → IsTight self.old state → IsTight self.new state) }
         ensures err { OnErr result (self.new ≡ self.old) }
+        ensures cells { OnOk result (HaveSameCells self.old.gaps self.new.gaps) }
     {
         if self.sealed {
             return Ok(());
@@ -195,6 +200,7 @@ impl Sense {
     pub fn spot(&self, relation: u32, row: &Row) -> Option<Spot>
         ensures covered { is_some result ≡ covers self.now relation row.now }
         ensures spot { IfSome result (IsSpotOf self.now relation row.now) }
+        ensures gap_first { IfSome result (IsFirstSpot self.now relation row.now) }
     {
         if self.is_sealed() {
             let mut steps: Moves<()> = Moves::new();
@@ -207,6 +213,7 @@ impl Sense {
     fn first_spot(&self, relation: u32, row: &Row) -> Option<Spot>
         ensures covered { is_some result ≡ covers self.now relation row.now }
         ensures spot { IfSome result (IsSpotOf self.now relation row.now) }
+        ensures gap_first { IfSome result (IsFirstSpot self.now relation row.now) }
     {
         if let Some(gap) = self.store.gap_with(relation, row) {
             let prefix = self.store.prefix_of(gap);
@@ -228,7 +235,8 @@ impl Sense {
         requires { IsSealed self.now }
         ensures covered { is_some result ≡ covers self.now relation row.now }
         ensures spot { IfSome result (IsSpotOf self.now relation row.now) }
-        ensures steps { AreNarrow self.now.gaps → (d : ℕ) → length self.now.gaps + length self.now.hits < 2 ^ d → steps.new ≤ steps.old + (most_columns * orders_of relation self.now.gaps + 1) * d }
+        ensures gap_first { IfSome result (IsFirstSpot self.now relation row.now) }
+        ensures steps { (d : ℕ) → length self.now.gaps + length self.now.hits < 2 ^ d → steps.new ≤ steps.old + (most_columns * orders_of relation self.now.gaps + 1) * d }
     {
         match self.store.sealed_gap_with(relation, row, steps) {
             Some(gap) => {
@@ -252,7 +260,7 @@ impl Sense {
     pub fn covers_counted<L>(&self, relation: u32, row: &Row, steps: &mut Moves<L>) -> bool
         requires { IsSealed self.now }
         ensures value { result ≡ covers self.now relation row.now }
-        ensures steps { AreNarrow self.now.gaps → (d : ℕ) → length self.now.gaps + length self.now.hits < 2 ^ d → steps.new ≤ steps.old + (most_columns * orders_of relation self.now.gaps + 1) * d }
+        ensures steps { (d : ℕ) → length self.now.gaps + length self.now.hits < 2 ^ d → steps.new ≤ steps.old + (most_columns * orders_of relation self.now.gaps + 1) * d }
     {
         self.spot_counted(relation, row, steps).is_some()
     }

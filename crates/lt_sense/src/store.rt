@@ -1,6 +1,7 @@
 //! How a sense is kept: the cells of prefixes and rows stand in one list, and gaps under one prefix share it.
-ghost use Rattle.std.specs.Prelude.{◌≡◌, ◌<◌, ◌≤◌, ◌+◌, ◌∷◌, ◌++◌, [], length, filter, OnOk, OnErr, IfOk, IfSome, is_some, true, slice_get, IsTrue, Some};
+ghost use Rattle.std.specs.Prelude.{◌≡◌, ◌≢◌, ◌<◌, ◌≤◌, ◌+◌, ◌∷◌, ◌++◌, [], length, filter, OnOk, OnErr, IfOk, IfSome, is_some, true, false, slice_get, IsTrue, Some};
 ghost use Rattle.std.specs.List.{list_any, slice_range, AllByRecursion};
+ghost use Rattle.lt_face.specs.Limits.{most_columns};
 ghost use Rattle.lt_face.specs.Lists.{IsIn};
 ghost use Rattle.lt_face.specs.State.{permuted};
 ghost use Rattle.lt_sense.specs.Sense.{lies_in as lies_within, gap_covers, hit_covers};
@@ -133,7 +134,8 @@ impl Store {
 
     /// The family of this relation and these columns: a new one, where there was none.
     fn family_for(&mut self, relation: u32, perm: &Perm) -> Result<usize, NoMemory>
-        requires { IsSound self.old }
+        requires sound { IsSound self.old }
+        requires narrow { length perm.now ≤ most_columns }
         ensures sound { IsSound self.new }
         ensures grows { GrowsBelow self.old self.new }
         ensures family { IfOk result (λ at. slice_get self.new.families.items at ≡ Some (record { relation = relation; columns = perm.now })) }
@@ -149,7 +151,8 @@ impl Store {
 
     /// A new run of this relation, these columns and this prefix.
     fn new_run(&mut self, relation: u32, perm: &Perm, prefix: &Row) -> Result<usize, NoMemory>
-        requires { IsSound self.old }
+        requires sound { IsSound self.old }
+        requires narrow { length perm.now ≤ most_columns }
         ensures sound { IsSound self.new }
         ensures grows { GrowsBelow self.old self.new }
         ensures run { IfOk result (IsRunFor self.new relation perm.now prefix.now) }
@@ -168,7 +171,8 @@ impl Store {
 
     /// A run of this relation, these columns and this prefix: one of the latest, if one is such.
     fn run_for(&mut self, relation: u32, perm: &Perm, prefix: &Row) -> Result<usize, NoMemory>
-        requires { IsSound self.old }
+        requires sound { IsSound self.old }
+        requires narrow { length perm.now ≤ most_columns }
         ensures sound { IsSound self.new }
         ensures grows { GrowsBelow self.old self.new }
         ensures run { IfOk result (IsRunFor self.new relation perm.now prefix.now) }
@@ -189,7 +193,8 @@ impl Store {
         lo: Key,
         hi: Key,
     ) -> Result<(), NoMemory>
-        requires { IsSound self.old }
+        requires sound { IsSound self.old }
+        requires narrow { length perm.now ≤ most_columns }
         ensures sound { IsSound self.new }
         ensures kept { OnOk result ((sense_of self.new).gaps ≡ (sense_of self.old).gaps ++ record { relation = relation; columns = perm.now; prefix = prefix.now; lo = lo; hi = hi } ∷ []) }
         ensures hits { (sense_of self.new).hits ≡ (sense_of self.old).hits }
@@ -209,14 +214,22 @@ impl Store {
         iter: usize,
         noted: &[(u32, Gap)],
     ) -> Result<(), NoMemory>
-        requires { IsSound self.old }
+        requires sound { IsSound self.old }
+        requires narrow { length perm.now ≤ most_columns }
         ensures sound { IsSound self.new }
         ensures kept { OnOk result ((sense_of self.new).gaps ≡ (sense_of self.old).gaps ++ gathered relation perm.now prefix.now iter noted.now) }
         ensures hits { (sense_of self.new).hits ≡ (sense_of self.old).hits }
+        ensures err { OnErr result (sense_of self.new ≡ sense_of self.old) }
     {
         let run = self.new_run(relation, perm, prefix)?;
-        push_gaps(&mut self.gaps, run, iter, noted)?;
-        Ok(())
+        let count = self.gaps.len();
+        match push_gaps(&mut self.gaps, run, iter, noted) {
+            Ok(()) => Ok(()),
+            Err(refused) => {
+                self.gaps.truncate(count);
+                Err(refused)
+            }
+        }
     }
 
     /// Adds a row that was met.
@@ -263,6 +276,18 @@ impl Store {
         met.relation == relation && cells_of(&self.cells, met.row) == row.cells()
     }
 
+    /// Whether a family is of this relation.
+    pub(crate) fn has_family(&self, relation: u32) -> bool
+        ensures { result ≡ false → AllByRecursion (λ family. family.relation ≢ relation) self.now.families.items }
+    {
+        for family in &self.families {
+            if family.relation == relation {
+                return true;
+            }
+        }
+        false
+    }
+
     /// The first gap that covers the row.
     pub(crate) fn gap_with(&self, relation: u32, row: &Row) -> Option<Passed>
         requires { IsSound self.now }
@@ -271,6 +296,9 @@ impl Store {
         ensures covers { IfSome result (λ gap. gap_covers (stored_gap self.now gap) relation row.now ≡ true) }
         ensures in_range { IfSome result (λ gap. gap.run < length self.now.runs.items) }
     {
+        if !self.has_family(relation) {
+            return None;
+        }
         for at in 0..self.gaps.len() {
             let gap = self.gaps[at];
             if self.gap_covers_row(gap, relation, row) {

@@ -1,8 +1,7 @@
 //! Hostile scripts: input that is cut off anywhere, reads and writes that fail in turn, tokens without end.
 use crate::agree::{same, same_at};
-use crate::words::words_of;
-use lt_edges::{MemSink, MemSource, OpenGate};
-use lt_session::repair_main;
+use crate::running::outcome;
+use lt_edges::{MemSink, MemSource};
 use std::alloc::Global;
 use std::sync::Wait;
 use std::test::Fail;
@@ -14,21 +13,6 @@ const SCRIPT: &str =
 
 const REPORT: &str = "batch 1\np done\nversion 1\nshow r 2\n1\n2\n";
 
-// The status of `run` by so many workers on a script, whose reads of so many bytes and whose writes fail as they are numbered,
-// and what was written.
-fn outcome<R: Threads + Wait + Sync>(
-    rt: &R,
-    alloc: Global,
-    workers: &str,
-    source: &mut MemSource,
-    failing: &[u64],
-) -> Result<(u8, MemSink), Fail> {
-    let words = words_of(alloc, &["lt_shell", "run", "--workers", workers])?;
-    let mut sink = MemSink::new(alloc, 4000, failing)?;
-    let status = repair_main(rt, alloc, &words, source, &mut sink, &OpenGate);
-    Ok((status, sink))
-}
-
 // The status where this read or this write of the script fails, if what was written is a front of the report.
 fn status_where<R: Threads + Wait + Sync>(
     rt: &R,
@@ -37,7 +21,7 @@ fn status_where<R: Threads + Wait + Sync>(
     write: u64,
 ) -> Result<Option<u8>, Fail> {
     let mut source = MemSource::new(alloc, SCRIPT.as_bytes(), 7, &[read])?;
-    let (status, sink) = outcome(rt, alloc, "2", &mut source, &[write])?;
+    let (status, sink) = outcome(rt, alloc, &["--workers", "2"], &mut source, &[write])?;
     if !REPORT.as_bytes().starts_with(sink.bytes()) {
         return Ok(None);
     }
@@ -107,7 +91,7 @@ fn ended<R: Threads + Wait + Sync>(rt: &R, alloc: Global, size: usize) -> Result
     let bytes = SCRIPT.as_bytes();
     let (front, _) = bytes.split_at(size.min(bytes.len()));
     let mut source = MemSource::new(alloc, front, 11, &[])?;
-    let (status, sink) = outcome(rt, alloc, "1", &mut source, &[])?;
+    let (status, sink) = outcome(rt, alloc, &["--workers", "1"], &mut source, &[])?;
     Ok(front_of(status, sink.bytes()))
 }
 
@@ -161,7 +145,7 @@ fn reported<R: Threads + Wait + Sync>(
     script: &str,
 ) -> Result<(u8, MemSink), Fail> {
     let mut source = MemSource::new(alloc, script.as_bytes(), 65_536, &[])?;
-    outcome(rt, alloc, "16", &mut source, &[])
+    outcome(rt, alloc, &["--workers", "16"], &mut source, &[])
 }
 
 #[test]

@@ -44,6 +44,10 @@ fn write_head(text: &mut String, head: &Head) -> Result<(), Fail> {
 fn write_literal(text: &mut String, literal: &Literal) -> Result<(), Fail> {
     match literal {
         Literal::Atom(head) => write_head(text, head)?,
+        Literal::Absent(head) => {
+            text.push_str("not ")?;
+            write_head(text, head)?;
+        }
         Literal::Cmp { left, op, right } => {
             write_term(text, left)?;
             write!(text, " {op:?} ")?;
@@ -169,6 +173,7 @@ fn reads_each_form_of_a_batch(rt: HostRuntime) -> Result<(), Fail> {
             program first
                 require some 1 < x, x <= 'a_0', x > x, - 0 >= 'b';
                 require none r(x), x = y;
+                require some not r(1, 'a'), r(x), not s(x, -2, x);
                 print (x, 'abcdefghijklmno') where 1 = 2;
             end;
         commit;
@@ -181,6 +186,7 @@ replace r(x;)s(y;int 9223372036854775808;) if [r(x;)] [y is x and int 9223372036
 first:
 need true if [int 9223372036854775810 Lt x] [x Le sym 505583427142025873345937622916136960] [x Gt x] [int 9223372036854775809 Ge sym 508845092136413107595988640263569408]
 need false if [r(x;)] [x Eq y]
+need true if [not r(int 9223372036854775810;sym 503652795277878279967458143934349312;)] [r(x;)] [not s(x;int 9223372036854775807;x;)]
 print (x;sym 505648346078211134673565112542785135;) if [int 9223372036854775810 Eq int 9223372036854775811]
 ";
     reads(&rt, rt.alloc(), script, want)

@@ -19,6 +19,10 @@ mod items;
 #[cfg(test)]
 mod marks;
 #[cfg(test)]
+mod negated;
+#[cfg(test)]
+mod running;
+#[cfg(test)]
 mod scripts;
 #[cfg(test)]
 mod words;

@@ -1,42 +1,10 @@
 //! Scripts, bytes in and bytes out.
 use crate::agree::{same, same_at};
-use crate::words::words_of;
-use lt_edges::{MemSink, MemSource, OpenGate, Source};
-use lt_session::repair_main;
+use crate::running::{Case, outcome, reports_in_pieces};
+use lt_edges::{MemSource, Source};
 use std::alloc::Global;
-use std::process::Abort;
-use std::sync::Wait;
+use std::fmt::Write;
 use std::test::Fail;
-use std::thread::Threads;
-
-// The status of `run` on a script, and what was written.
-fn outcome<R: Threads + Wait + Sync>(
-    rt: &R,
-    alloc: Global,
-    source: &mut MemSource,
-    failing: &[u64],
-) -> Result<(u8, MemSink), Fail> {
-    let words = words_of(alloc, &["lt_shell", "run"])?;
-    let mut sink = MemSink::new(alloc, 1000, failing)?;
-    let status = repair_main(rt, alloc, &words, source, &mut sink, &OpenGate);
-    Ok((status, sink))
-}
-
-// Ends the test unless the script is reported so, and ends with this status.
-fn reports<R: Threads + Wait + Abort + Sync>(
-    rt: &R,
-    alloc: Global,
-    name: &str,
-    script: &str,
-    report: &str,
-    status: u8,
-) -> Result<(), Fail> {
-    let mut source = MemSource::new(alloc, script.as_bytes(), 7, &[])?;
-    let (ended, sink) = outcome(rt, alloc, &mut source, &[])?;
-    same_at(rt, ended, status, name);
-    same_at(rt, sink.bytes(), report.as_bytes(), name);
-    Ok(())
-}
 
 #[test]
 fn reports_scripts(rt: HostRuntime) -> Result<(), Fail> {
@@ -221,8 +189,47 @@ fn reports_scripts(rt: HostRuntime) -> Result<(), Fail> {
         ),
     ];
     for (name, script, report, status) in rows {
-        reports(&rt, alloc, name, script, report, status)?;
+        let case = Case {
+            name,
+            script,
+            report,
+            status,
+        };
+        reports_in_pieces(&rt, alloc, &case)?;
     }
+    Ok(())
+}
+
+// So many relations with names of their own.
+fn relations(alloc: Global, count: u32) -> Result<String, Fail> {
+    let mut script = String::new(alloc);
+    for number in 0..count {
+        write!(script, "relation r{number}(int);")?;
+    }
+    Ok(script)
+}
+
+#[test]
+fn takes_sixty_four_relations(rt: HostRuntime) -> Result<(), Fail> {
+    let alloc = rt.alloc();
+    for (count, report) in [(64, ""), (65, "bad 25\n")] {
+        let script = relations(alloc, count)?;
+        let mut source = MemSource::new(alloc, script.as_bytes(), 4096, &[])?;
+        let (status, sink) = outcome(&rt, alloc, &[], &mut source, &[])?;
+        same_at(&rt, status, 0, report);
+        same_at(&rt, sink.bytes(), report.as_bytes(), report);
+    }
+    Ok(())
+}
+
+#[test]
+fn reads_spaces_alone(rt: HostRuntime) -> Result<(), Fail> {
+    let alloc = rt.alloc();
+    let bytes = vec![in alloc; b' '; 50_000]?;
+    let mut source = MemSource::new(alloc, &bytes, 65_536, &[])?;
+    let (status, sink) = outcome(&rt, alloc, &[], &mut source, &[])?;
+    same(&rt, status, 0);
+    same(&rt, sink.bytes(), b"".as_slice());
     Ok(())
 }
 
@@ -231,12 +238,12 @@ fn ends_where_a_read_or_a_write_fails(rt: HostRuntime) -> Result<(), Fail> {
     let alloc = rt.alloc();
     let script = b"batch program p end; commit; batch program q end; commit;";
     let mut source = MemSource::new(alloc, script, 7, &[2])?;
-    let (status, sink) = outcome(&rt, alloc, &mut source, &[])?;
+    let (status, sink) = outcome(&rt, alloc, &[], &mut source, &[])?;
     same(&rt, status, 3);
     same(&rt, sink.bytes(), b"".as_slice());
     // The first item is there with the fourth read, and is run before the fifth.
     let mut source = MemSource::new(alloc, script, 7, &[5])?;
-    let (status, sink) = outcome(&rt, alloc, &mut source, &[])?;
+    let (status, sink) = outcome(&rt, alloc, &[], &mut source, &[])?;
     same(&rt, status, 3);
     same(
         &rt,
@@ -244,7 +251,7 @@ fn ends_where_a_read_or_a_write_fails(rt: HostRuntime) -> Result<(), Fail> {
         b"batch 1\np done\nversion 1\n".as_slice(),
     );
     let mut source = MemSource::new(alloc, script, 7, &[])?;
-    let (status, sink) = outcome(&rt, alloc, &mut source, &[3])?;
+    let (status, sink) = outcome(&rt, alloc, &[], &mut source, &[3])?;
     same(&rt, status, 4);
     same(&rt, sink.bytes(), b"batch ".as_slice());
     Ok(())
@@ -256,7 +263,7 @@ fn passes_lines_on_before_it_reads_on(rt: HostRuntime) -> Result<(), Fail> {
     let script = b"batch program p end; commit; batch program q end; commit;";
     // The first batch takes four reads and has twelve writes.
     let mut source = MemSource::new(alloc, script, 7, &[])?;
-    let (status, sink) = outcome(&rt, alloc, &mut source, &[13])?;
+    let (status, sink) = outcome(&rt, alloc, &[], &mut source, &[13])?;
     same(&rt, status, 4);
     same(
         &rt,
@@ -280,7 +287,7 @@ fn runs_a_long_batch_once_it_is_there(rt: HostRuntime) -> Result<(), Fail> {
     let from = script.len() - last.len();
     script[from..].copy_from_slice(last);
     let mut source = MemSource::new(alloc, &script, 65_536, &[6])?;
-    let (status, sink) = outcome(&rt, alloc, &mut source, &[])?;
+    let (status, sink) = outcome(&rt, alloc, &[], &mut source, &[])?;
     same(&rt, status, 3);
     same(
         &rt,
@@ -302,7 +309,7 @@ fn takes_no_more_than_the_limit(rt: HostRuntime) -> Result<(), Fail> {
         let mut bytes = vec![in alloc; b' '; count]?;
         bytes[0] = b'@';
         let mut source = MemSource::new(alloc, &bytes, 65_536, &[])?;
-        let (ended, sink) = outcome(&rt, alloc, &mut source, &[])?;
+        let (ended, sink) = outcome(&rt, alloc, &[], &mut source, &[])?;
         same_at(&rt, ended, status, name);
         same_at(&rt, sink.bytes(), report.as_bytes(), name);
     }
@@ -317,7 +324,7 @@ fn leaves_what_was_run_before_the_limit(rt: HostRuntime) -> Result<(), Fail> {
     let spaces = vec![in alloc; b' '; 16_777_188]?;
     script.extend_from_slice(&spaces)?;
     let mut source = MemSource::new(alloc, &script, 65_536, &[])?;
-    let (status, sink) = outcome(&rt, alloc, &mut source, &[])?;
+    let (status, sink) = outcome(&rt, alloc, &[], &mut source, &[])?;
     same(&rt, status, 6);
     same(
         &rt,

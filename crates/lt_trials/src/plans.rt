@@ -45,6 +45,7 @@ pub(crate) fn body(alloc: Global, atoms: Items<Atom>, tests: &[Test]) -> Result<
     let tests = Items::from_vec(Vec::from_slice(alloc, tests)?);
     Ok(Body {
         atoms,
+        absents: Items::new(alloc),
         tests,
         vars: 3,
     })
@@ -214,6 +215,73 @@ fn same_names(rt: &impl Abort, names: &[IndexName], expected: &[(u32, &[u32])]) 
             (*relation, *columns),
         );
     }
+}
+
+/// `e(x, y), not f(y, 5, x)`
+fn lacking(alloc: Global) -> Result<Body, NoMemory>
+    ensures { IfOk result (λ body. HasWidths body) }
+{
+    let e = atom(alloc, 0, &[X, Y])?;
+    let f = atom(alloc, 1, &[Y, Term::Cell(5), X])?;
+    let atoms = Items::from_vec(vec![in alloc; e]?);
+    let absents = Items::from_vec(vec![in alloc; f]?);
+    Ok(Body {
+        atoms,
+        absents,
+        tests: Items::new(alloc),
+        vars: 2,
+    })
+}
+
+/// `e(x, y), not e(y, x)`
+fn one_way(alloc: Global) -> Result<Body, NoMemory>
+    ensures { IfOk result (λ body. HasWidths body) }
+{
+    let there = atom(alloc, 0, &[X, Y])?;
+    let back = atom(alloc, 0, &[Y, X])?;
+    let atoms = Items::from_vec(vec![in alloc; there]?);
+    let absents = Items::from_vec(vec![in alloc; back]?);
+    Ok(Body {
+        atoms,
+        absents,
+        tests: Items::new(alloc),
+        vars: 2,
+    })
+}
+
+/// The negated atom binds nothing, so its constant has no level.
+#[test]
+fn a_negated_atom_has_no_part_in_the_plan(rt: HostRuntime) -> Result<(), NoMemory> {
+    let plan = planned(lacking(rt.alloc())?)?;
+    let levels: [(Term, &[Key], &[usize]); 2] = [(X, &[], &[]), (Y, &[], &[])];
+    same_levels(&rt, plan.levels.as_slice(), &levels);
+    let guides: [(u32, &[usize], &[u32]); 1] = [(0, &[0, 1], &[0, 1])];
+    same_guides(&rt, plan.guides.as_slice(), &guides);
+    Ok(())
+}
+
+/// Two requirements, with a negated atom each.
+fn asking(alloc: Global) -> Result<Prog, NoMemory>
+    ensures { IfOk result (λ prog. AllByRecursion (λ (stmt : StmtType). HasWidths (body_in stmt)) prog) }
+{
+    let mut prog = Items::new(alloc);
+    let body = lacking(alloc)?;
+    prog.push(Stmt::Require { some: true, body })?;
+    let body = one_way(alloc)?;
+    prog.push(Stmt::Require { some: false, body })?;
+    Ok(prog)
+}
+
+/// It is looked up in the relation's own order of columns, which a guide may need too.
+#[test]
+fn a_negated_atom_needs_the_first_index(rt: HostRuntime) -> Result<(), NoMemory> {
+    let prog = asking(rt.alloc())?;
+    let prog = Arc::new(rt.alloc(), prog)?;
+    let planned = Planned::new(rt.alloc(), &prog)?;
+    let names = planned.needs()?;
+    let expected: [(u32, &[u32]); 2] = [(0, &[0, 1]), (1, &[0, 1, 2])];
+    same_names(&rt, names.as_slice(), &expected);
+    Ok(())
 }
 
 #[test]

@@ -1,5 +1,5 @@
 //! Rows, lists, moves and notes, as the layers above use them.
-ghost use Rattle.std.specs.Prelude.{◌≤◌, length};
+ghost use Rattle.std.specs.Prelude.{◌≤◌, length, IfOk};
 
 use crate::agree::{holds, same};
 use lt_face::{CELL_LIMIT, END, Gap, Items, Key, Moves, NoMemory, NoNotes, Notes, Perm, Row};
@@ -13,7 +13,10 @@ pub fn row(alloc: Global, cells: &[Key]) -> Row
 }
 
 /// The list of these columns.
-pub fn columns(alloc: Global, columns: &[u32]) -> Result<Perm, NoMemory> {
+pub fn columns(alloc: Global, columns: &[u32]) -> Result<Perm, NoMemory>
+    requires { length columns.now ≤ 8 }
+    ensures { IfOk result (λ perm. length perm ≤ 8) }
+{
     let columns = Vec::from_slice(alloc, columns)?;
     Ok(Items::from_vec(columns))
 }

@@ -1,4 +1,6 @@
 //! Which rows a sense covers, and the first of changed rows that it covers.
+ghost use Rattle.std.specs.Prelude.{◌≤◌, length};
+
 use crate::agree::{holds, same};
 use crate::rows::{columns, row};
 use lt_face::{END, Gap, Items, Key, NoMemory, Row};
@@ -48,7 +50,9 @@ fn with_gap(
     prefix: &Row,
     lo: Key,
     hi: Key,
-) -> Result<Sense, NoMemory> {
+) -> Result<Sense, NoMemory>
+    requires { length order.now ≤ 8 }
+{
     let order = columns(alloc, order)?;
     let mut sense = Sense::new(alloc);
     sense.add_gap(relation, &order, prefix, lo, hi)?;

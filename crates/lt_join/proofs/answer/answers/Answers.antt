@@ -1,8 +1,8 @@
-use Rattle.lt_join.proofs.Prepared.{IsPrepared-from}
+use Rattle.lt_join.proofs.Alike.{Certifies-alike}
 use Rattle.lt_join.proofs.answer.answers.Goals as goal
 
-pub answers_prepared-requires-clause-prepared : goal.answers_prepared-requires-clause-prepared
-answers_prepared-requires-clause-prepared g c = IsPrepared-from (g.I.Indexes.state c.args.indexes.now) c.args.body.now c.args.plan.now c.args.terms.now c.requires.fits c.requires.runnable c.requires.narrow
+pub returns-clause-certified : goal.returns-clause-certified
+returns-clause-certified g c = Certifies-alike _ c.seal.new.self (g.I.Indexes.state c.args.indexes.now) c.in_ok-seal.ensures.covers c.args.body.now c.in_ok-rows.ensures.certified
 
-pub answers_prepared-requires-clause-tests : goal.answers_prepared-requires-clause-tests
-answers_prepared-requires-clause-tests g c = c.requires.fits.is_bound
+pub returns-clause-tight : goal.returns-clause-tight
+returns-clause-tight g c = c.in_ok-seal.ensures.tight (g.I.Indexes.state c.args.indexes.now) c.in_ok-rows.ensures.tight

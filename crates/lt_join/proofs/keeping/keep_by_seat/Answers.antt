@@ -1,5 +1,5 @@
 use Rattle.std.proofs.Common.{◌≡◌, length, ap, ◌∙◌, arith}
-use Rattle.lt_join.proofs.Noting.{walk_within}
+use Rattle.lt_join.proofs.Noting.{walk_within, walk_narrow}
 use Rattle.lt_join.proofs.Gathers.{kept_below_none, kept_seat, kept_lone, kept_all}
 use Rattle.lt_join.proofs.keeping.keep_by_seat.Goals as goal
 use Rattle.lt_join.proofs.keeping.keep_by_seat.Goals.{in-Walks+in_ok-add_gaps-in-Walks, in-Single}
@@ -19,6 +19,9 @@ bounds-guides-walk g c =
     let within = walk_within c.args.plan.now _ _ _ _ c.args.leap.now.iters _ c.iter.result.now c.in-Walks.walk c.requires.seats c.iter.ensures.item c.in-Walks.is in
     let e = ap length c.as_slice-guides.ensures in
     omega arith
+
+pub add_gaps-requires : goal.add_gaps-requires
+add_gaps-requires g c = walk_narrow c.args.plan.now _ _ _ _ c.args.leap.now.iters _ c.iter.result.now c.in-Walks.walk c.index-guides-walk.result c.requires.seats c.iter.ensures.item c.in-Walks.is (rw c.as_slice-guides.ensures at c.index-guides-walk.is)
 
 pub loop-seat-preserved : goal.loop-seat-preserved
 loop-seat-preserved g c =

@@ -3,7 +3,7 @@ use Rattle.lt_face.specs.declared.key.Gap.{Gap}
 use Rattle.lt_leap.specs.Search.{IsGapOf}
 use Rattle.lt_join.specs.Seat.{seat_keys}
 use Rattle.lt_join.proofs.Opening.{take_more, all_get}
-use Rattle.lt_join.proofs.Noting.{walk_within, get_default, kept_walk, kept_alone}
+use Rattle.lt_join.proofs.Noting.{walk_within, walk_narrow, get_default, kept_walk, kept_alone}
 use Rattle.lt_join.proofs.keeping.keep_each.Goals as goal
 use Rattle.lt_join.proofs.keeping.keep_each.Goals.{in-Walks+in_ok-add_gap-in-Walks, in-Single}
 
@@ -19,6 +19,9 @@ bounds-guides-walk g c =
     let within = walk_within c.args.plan.now _ _ _ _ c.args.leap.now.iters _ c.iter.result.now c.in-Walks.walk c.requires.seats c.iter.ensures.item c.in-Walks.is in
     let e = ap length c.as_slice-guides.ensures in
     omega arith
+
+pub add_gap-requires : goal.add_gap-requires
+add_gap-requires g c = walk_narrow c.args.plan.now _ _ _ _ c.args.leap.now.iters _ c.iter.result.now c.in-Walks.walk c.index-guides-walk.result c.requires.seats c.iter.ensures.item c.in-Walks.is (rw c.as_slice-guides.ensures at c.index-guides-walk.is)
 
 pub loop-item-preserved : goal.loop-item-preserved
 loop-item-preserved g c =

@@ -3,6 +3,7 @@ use Rattle.lt_query.specs.Plan.{levels_of}
 use Rattle.lt_leap.specs.Common.{has_key}
 use Rattle.lt_join.specs.Holders.{IsWalkable, AreOpened}
 use Rattle.lt_join.proofs.Opening.{zip_at, zip_long, take_more, take_all, get_is, all_get, holds_same, above_last, goes_down, opened_skip, opened_more}
+use Rattle.lt_join.proofs.Noting.{over_narrow}
 use Rattle.lt_join.proofs.Within.{opened_within, opened_more_within}
 use Rattle.lt_join.proofs.level.open_walks.Goals as goal
 use Rattle.lt_join.proofs.level.open_walks.Goals.{then-holds+in_ok-add_gap+in_ok-push, else-holds}
@@ -28,6 +29,13 @@ open_level-gap-requires-clause-at_key g c =
     let guide_is = rw c.as_slice-guides.ensures at c.index-guides-i.is in
     let is = zip_at _ _ _ c.loop-i.i c.index-guides-i.result c.index-iters-i.result c.requires.iters (omega arith) guide_is c.index-iters-i.is in
     rw c.copy-trie.ensures (is.at_key)
+
+pub add_gap-requires : goal.add_gap-requires
+add_gap-requires g c =
+    let n = zip_long _ _ _ c.requires.iters in
+    let guide_is = rw c.as_slice-guides.ensures at c.index-guides-i.is in
+    let is = zip_at _ _ _ c.loop-i.i c.index-guides-i.result c.index-iters-i.result c.requires.iters (omega arith) guide_is c.index-iters-i.is in
+    over_narrow _ c.index-guides-i.result c.index-iters-i.result is.over
 
 pub loop-i-preserved : goal.loop-i-preserved
 loop-i-preserved g c =

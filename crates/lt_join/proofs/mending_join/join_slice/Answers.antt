@@ -1,4 +1,8 @@
-use Rattle.std.proofs.Common.{◌≡◌, ◌+◌, ◌≤◌, ℕ, slice_get, Some, sym, ap, ◌∙◌, subst}
+use Rattle.std.proofs.Common.{◌≡◌, ◌+◌, ◌≤◌, ℕ, true, length, slice_get, Some, sym, ap, ◌∙◌, subst}
+use Rattle.std.specs.List.{AllByRecursion}
+use Rattle.lt_model.specs.declared.normal.Atom.{Atom}
+use Rattle.lt_query.specs.Lists.{below}
+use Rattle.lt_join.specs.MendedPlan.{pinned_plan}
 use Rattle.std.specs.Prelude.{IsTrue}
 use Rattle.lt_model.specs.declared.normal.Body.{Body}
 use Rattle.lt_model.specs.Bound.{are_bound}
@@ -8,7 +12,7 @@ use Rattle.lt_query.specs.declared.plans.Plan.{Plan}
 use Rattle.lt_join.specs.Cost.{bound}
 use Rattle.lt_join.specs.Holders.{IsPrepared}
 use Rattle.lt_join.specs.Sliced.{pinned}
-use Rattle.lt_join.proofs.MendJoin.{term_first, may_pin, empty_slice, joined_slice, IsPrepared-pinned}
+use Rattle.lt_join.proofs.MendJoin.{cost_admitted, term_first, may_pin, empty_slice, joined_slice, IsPrepared-pinned}
 use Rattle.lt_join.proofs.Pinned.{tests_pinned, are_bound_pinned, term_in}
 use Rattle.lt_join.proofs.PinnedPlan.{IsPlanOf-pinned}
 use Rattle.lt_join.proofs.Steps.{slice_get_is}
@@ -46,7 +50,7 @@ answers_prepared-requires-clause-tests g c =
     let level = c.index-as_slice-0.result in
     let here : slice_get plan.levels 0 ≡ Some level = slice_get_is plan.levels 0 level c.requires.has_levels (rw c.as_slice.ensures at c.index-as_slice-0.is) in
     let is : c.in_ok-at_key.at_key ≡ pinned (term_at plan.levels 0) c.args.key c.args.body.now = c.in_ok-at_key.ensures ∙ ap (λ t. pinned t c.args.key c.args.body.now) (term_first plan.levels level here) in
-    subst AreTestsBound (sym is) (tests_pinned (term_at plan.levels 0) c.args.key c.args.body.now (term_in c.args.body.now plan c.requires.of_body 0 c.requires.has_levels) c.requires.fits.is_bound)
+    subst AreTestsBound (sym is) (tests_pinned (term_at plan.levels 0) c.args.key c.args.body.now (term_in c.args.body.now plan c.requires.of_body 0 c.requires.has_levels) (c.requires.fits.is_bound, c.requires.fits.are_absents_bound))
 
 pub answers_prepared-requires-clause-are_bound : goal.answers_prepared-requires-clause-are_bound
 answers_prepared-requires-clause-are_bound g c =
@@ -55,3 +59,29 @@ answers_prepared-requires-clause-are_bound g c =
     let here : slice_get plan.levels 0 ≡ Some level = slice_get_is plan.levels 0 level c.requires.has_levels (rw c.as_slice.ensures at c.index-as_slice-0.is) in
     let is : c.in_ok-at_key.at_key ≡ pinned (term_at plan.levels 0) c.args.key c.args.body.now = c.in_ok-at_key.ensures ∙ ap (λ t. pinned t c.args.key c.args.body.now) (term_first plan.levels level here) in
     subst (λ (b : Body). IsTrue (are_bound b c.args.terms.now)) (sym is) (subst IsTrue (sym (are_bound_pinned (term_at plan.levels 0) c.args.key c.args.body.now (term_in c.args.body.now plan c.requires.of_body 0 c.requires.has_levels) c.args.terms.now)) c.requires.are_bound)
+
+pub answers_prepared-requires-clause-has_firsts : goal.answers_prepared-requires-clause-has_firsts
+answers_prepared-requires-clause-has_firsts g c =
+    subst (λ (b : Body). AllByRecursion (λ (atom : Atom). g.I.Indexes.has_index c.args.indexes.now atom.relation (below (length atom.terms)) ≡ true) b.absents) (sym c.in_ok-at_key.ensures) c.requires.has_firsts
+
+pub returns-clause-cost : goal.returns-clause-cost
+returns-clause-cost g c =
+    let plan = c.args.plan.now in
+    let state = g.I.Indexes.state c.args.indexes.now in
+    let level = c.index-as_slice-0.result in
+    let here : slice_get plan.levels 0 ≡ Some level = slice_get_is plan.levels 0 level c.requires.has_levels (rw c.as_slice.ensures at c.index-as_slice-0.is) in
+    let within : c.answers_prepared.new.moves ≤ c.args.moves.now + bound c.args.body.now (pinned_plan c.args.key plan) state =
+    subst (λ (b : Body). c.answers_prepared.new.moves ≤ c.args.moves.now + bound b (pinned_plan c.args.key plan) state) c.in_ok-at_key.ensures
+    (subst (λ (p : Plan). c.answers_prepared.new.moves ≤ c.args.moves.now + bound c.in_ok-at_key.at_key p state) c.in_ok-way.ensures c.answers_prepared.ensures.cost) in
+    subst (λ n. c.answers_prepared.new.moves ≤ c.args.moves.now + n) (cost_admitted c.args.key c.args.body.now plan state level here (c.may_be.ensures.cell c.if-not-may_be.false) (c.may_be.ensures.pins c.if-not-may_be.false)) within
+
+pub returns-in_err-rows-clause-cost : goal.returns-in_err-rows-clause-cost
+returns-in_err-rows-clause-cost g c =
+    let plan = c.args.plan.now in
+    let state = g.I.Indexes.state c.args.indexes.now in
+    let level = c.index-as_slice-0.result in
+    let here : slice_get plan.levels 0 ≡ Some level = slice_get_is plan.levels 0 level c.requires.has_levels (rw c.as_slice.ensures at c.index-as_slice-0.is) in
+    let within : c.answers_prepared.new.moves ≤ c.args.moves.now + bound c.args.body.now (pinned_plan c.args.key plan) state =
+    subst (λ (b : Body). c.answers_prepared.new.moves ≤ c.args.moves.now + bound b (pinned_plan c.args.key plan) state) c.in_ok-at_key.ensures
+    (subst (λ (p : Plan). c.answers_prepared.new.moves ≤ c.args.moves.now + bound c.in_ok-at_key.at_key p state) c.in_ok-way.ensures c.answers_prepared.ensures.cost) in
+    subst (λ n. c.answers_prepared.new.moves ≤ c.args.moves.now + n) (cost_admitted c.args.key c.args.body.now plan state level here (c.may_be.ensures.cell c.if-not-may_be.false) (c.may_be.ensures.pins c.if-not-may_be.false)) within

@@ -14,18 +14,18 @@ loop-key-preserved g c =
     record {
       keys = keys_more c.args.keys.now c.loop-key.key-index (get_or c.args.keys.now c.loop-key.key-index 0) c.loop-key.slices c.push.new.self c.in_ok-slice.slice c.loop-key-test.true (key_is c.args.keys.now c.loop-key.key-index c.loop-key-test.true) found.key pushed inv.keys;
       each = each_more (IsSliceOf c.args.terms.now c.args.body.now (term_at c.args.plan.now.levels 0) state) c.loop-key.slices c.push.new.self c.in_ok-slice.slice found.slice pushed inv.each;
-      cost = cost_more c.args.keys.now c.loop-key.key-index (get_or c.args.keys.now c.loop-key.key-index 0) c.args.plan.now state c.args.moves.now c.loop-key.moves c.join_slice.new.moves c.loop-key-test.true (key_is c.args.keys.now c.loop-key.key-index c.loop-key-test.true) c.join_slice.ensures.cost inv.cost;
+      cost = cost_more c.args.keys.now c.loop-key.key-index (get_or c.args.keys.now c.loop-key.key-index 0) c.args.body.now c.args.plan.now state c.args.moves.now c.loop-key.moves c.join_slice.new.moves c.loop-key-test.true (key_is c.args.keys.now c.loop-key.key-index c.loop-key-test.true) c.join_slice.ensures.cost inv.cost;
       rises = omega (arith, inv.rises, c.join_slice.ensures.moves);
     }
 
 pub returns-clause-cost : goal.returns-clause-cost
-returns-clause-cost g c = cost_within c.args.keys.now c.loop-key.key-index c.args.plan.now (g.I.Indexes.state c.args.indexes.now) c.args.moves.now c.loop-key.moves c.loop-key.invariant.cost
+returns-clause-cost g c = cost_within c.args.keys.now c.loop-key.key-index c.args.body.now c.args.plan.now (g.I.Indexes.state c.args.indexes.now) c.args.moves.now c.loop-key.moves c.loop-key.invariant.cost
 
 pub returns-in_err-slice-clause-cost : goal.returns-in_err-slice-clause-cost
-returns-in_err-slice-clause-cost g c = cost_stopped c.args.keys.now c.loop-key.key-index (get_or c.args.keys.now c.loop-key.key-index 0) c.args.plan.now (g.I.Indexes.state c.args.indexes.now) c.args.moves.now c.loop-key.moves c.join_slice.new.moves c.loop-key-test.true (key_is c.args.keys.now c.loop-key.key-index c.loop-key-test.true) c.join_slice.ensures.cost c.loop-key.invariant.cost
+returns-in_err-slice-clause-cost g c = cost_stopped c.args.keys.now c.loop-key.key-index (get_or c.args.keys.now c.loop-key.key-index 0) c.args.body.now c.args.plan.now (g.I.Indexes.state c.args.indexes.now) c.args.moves.now c.loop-key.moves c.join_slice.new.moves c.loop-key-test.true (key_is c.args.keys.now c.loop-key.key-index c.loop-key-test.true) c.join_slice.ensures.cost c.loop-key.invariant.cost
 
 pub returns-in_err-shared-clause-cost : goal.returns-in_err-shared-clause-cost
-returns-in_err-shared-clause-cost g c = cost_stopped c.args.keys.now c.loop-key.key-index (get_or c.args.keys.now c.loop-key.key-index 0) c.args.plan.now (g.I.Indexes.state c.args.indexes.now) c.args.moves.now c.loop-key.moves c.join_slice.new.moves c.loop-key-test.true (key_is c.args.keys.now c.loop-key.key-index c.loop-key-test.true) c.join_slice.ensures.cost c.loop-key.invariant.cost
+returns-in_err-shared-clause-cost g c = cost_stopped c.args.keys.now c.loop-key.key-index (get_or c.args.keys.now c.loop-key.key-index 0) c.args.body.now c.args.plan.now (g.I.Indexes.state c.args.indexes.now) c.args.moves.now c.loop-key.moves c.join_slice.new.moves c.loop-key-test.true (key_is c.args.keys.now c.loop-key.key-index c.loop-key-test.true) c.join_slice.ensures.cost c.loop-key.invariant.cost
 
 pub returns-in_err-push-clause-cost : goal.returns-in_err-push-clause-cost
-returns-in_err-push-clause-cost g c = cost_stopped c.args.keys.now c.loop-key.key-index (get_or c.args.keys.now c.loop-key.key-index 0) c.args.plan.now (g.I.Indexes.state c.args.indexes.now) c.args.moves.now c.loop-key.moves c.join_slice.new.moves c.loop-key-test.true (key_is c.args.keys.now c.loop-key.key-index c.loop-key-test.true) c.join_slice.ensures.cost c.loop-key.invariant.cost
+returns-in_err-push-clause-cost g c = cost_stopped c.args.keys.now c.loop-key.key-index (get_or c.args.keys.now c.loop-key.key-index 0) c.args.body.now c.args.plan.now (g.I.Indexes.state c.args.indexes.now) c.args.moves.now c.loop-key.moves c.join_slice.new.moves c.loop-key-test.true (key_is c.args.keys.now c.loop-key.key-index c.loop-key-test.true) c.join_slice.ensures.cost c.loop-key.invariant.cost

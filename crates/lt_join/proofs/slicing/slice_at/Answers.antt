@@ -6,6 +6,8 @@ use Rattle.lt_join.specs.declared.Found.{Found}
 use Rattle.lt_join.specs.Explored.{Fits}
 use Rattle.lt_join.specs.Walked.{at, HitsAbove, IsReached, IsExploredBelow, AreFoundUnder}
 use Rattle.lt_join.specs.Holders.{IsTrieOf, atoms_at}
+use Rattle.lt_query.specs.Plan.{term_at}
+use Rattle.lt_join.proofs.Alike.{slice_alike}
 use Rattle.lt_join.proofs.Entering.{left_iters}
 use Rattle.lt_join.proofs.Opening.{Grows-none}
 use Rattle.lt_join.proofs.Prepared.{has_columns}
@@ -53,17 +55,22 @@ leave-requires-clause-iters g c =
 pub returns-clause-cost : goal.returns-clause-cost
 returns-clause-cost g c =
     let alone : c.push.new.self ≡ c.args.joined.now.key ∷ [] = c.in_ok-push.ensures.ok ∙ ap (λ ks. ks ++ c.args.joined.now.key ∷ []) c.requires.at_root in
-    cost_under (g.I.Indexes.state c.args.tables.now) c.args.plan.now.guides c.args.plan.now.levels c.push.new.self c.args.joined.now.key c.args.moves.now c.descend.new.moves alone c.descend.ensures.cost
+    cost_under (length c.args.body.now.absents) (g.I.Indexes.state c.args.tables.now) c.args.plan.now.guides c.args.plan.now.levels c.push.new.self c.args.joined.now.key c.args.moves.now c.descend.new.moves alone c.descend.ensures.cost
 
 pub returns-in_err-descend-clause-cost : goal.returns-in_err-descend-clause-cost
 returns-in_err-descend-clause-cost g c =
     let alone : c.push.new.self ≡ c.args.joined.now.key ∷ [] = c.in_ok-push.ensures.ok ∙ ap (λ ks. ks ++ c.args.joined.now.key ∷ []) c.requires.at_root in
-    cost_under (g.I.Indexes.state c.args.tables.now) c.args.plan.now.guides c.args.plan.now.levels c.push.new.self c.args.joined.now.key c.args.moves.now c.descend.new.moves alone c.descend.ensures.cost
+    cost_under (length c.args.body.now.absents) (g.I.Indexes.state c.args.tables.now) c.args.plan.now.guides c.args.plan.now.levels c.push.new.self c.args.joined.now.key c.args.moves.now c.descend.new.moves alone c.descend.ensures.cost
 
 pub returns-in_err-rows-clause-cost : goal.returns-in_err-rows-clause-cost
 returns-in_err-rows-clause-cost g c =
     let alone : c.push.new.self ≡ c.args.joined.now.key ∷ [] = c.in_ok-push.ensures.ok ∙ ap (λ ks. ks ++ c.args.joined.now.key ∷ []) c.requires.at_root in
-    cost_under (g.I.Indexes.state c.args.tables.now) c.args.plan.now.guides c.args.plan.now.levels c.push.new.self c.args.joined.now.key c.args.moves.now c.descend.new.moves alone c.descend.ensures.cost
+    cost_under (length c.args.body.now.absents) (g.I.Indexes.state c.args.tables.now) c.args.plan.now.guides c.args.plan.now.levels c.push.new.self c.args.joined.now.key c.args.moves.now c.descend.new.moves alone c.descend.ensures.cost
+
+pub returns-in_err-seal_if-clause-cost : goal.returns-in_err-seal_if-clause-cost
+returns-in_err-seal_if-clause-cost g c =
+    let alone : c.push.new.self ≡ c.args.joined.now.key ∷ [] = c.in_ok-push.ensures.ok ∙ ap (λ ks. ks ++ c.args.joined.now.key ∷ []) c.requires.at_root in
+    cost_under (length c.args.body.now.absents) (g.I.Indexes.state c.args.tables.now) c.args.plan.now.guides c.args.plan.now.levels c.push.new.self c.args.joined.now.key c.args.moves.now c.descend.new.moves alone c.descend.ensures.cost
 
 pub returns-clause-back : goal.returns-clause-back
 returns-clause-back g c = popped c.args.keys.now c.args.joined.now.key c.descend.new.keys c.pop.new.self (c.in_ok-descend.ensures.back ∙ c.in_ok-push.ensures.ok) c.pop.ensures
@@ -79,14 +86,17 @@ returns-clause-slice g c =
     let begun : Found = record { sense = c.add_hits.new.sense; rows = c.new-empty.result } in
     let under = subst (λ (ks : List ℕ). AreFoundUnder c.args.terms.now c.args.body.now c.args.plan.now (g.I.Indexes.state c.args.tables.now) ks begun c.descend.new.found) alone c.in_ok-descend.ensures.under in
     let explored : IsExploredBelow c.args.body.now c.args.plan.now c.args.terms.now c.descend.new.found (c.args.joined.now.key ∷ []) = subst (IsExploredBelow c.args.body.now c.args.plan.now c.args.terms.now c.descend.new.found) alone (c.in_ok-descend.ensures.explored (stays_false _ c.in_ok-descend.ensures.asked)) in
-    is_slice c.args.body.now c.args.plan.now c.args.terms.now (g.I.Indexes.state c.args.tables.now) begun c.descend.new.found c.args.joined.now.key c.in_ok-rows.rows c.requires.of_body
-    (slice_get_below c.args.plan.now.levels 0 c.args.level.now c.requires.first) c.requires.tests c.requires.heads c.in_ok-descend.ensures.right.tight c.new-empty.ensures under explored (c.in_ok-rows.ensures ∙ ap ascending c.into_vec.ensures)
+    let state = g.I.Indexes.state c.args.tables.now in
+    slice_alike c.args.terms.now c.args.body.now (term_at c.args.plan.now.levels 0) state c.args.joined.now.key c.in_ok-rows.rows c.descend.new.found.sense c.seal_if.new.sense c.in_ok-seal_if.ensures.covers (c.in_ok-seal_if.ensures.tight state c.in_ok-descend.ensures.right.tight)
+    (is_slice c.args.body.now c.args.plan.now c.args.terms.now (g.I.Indexes.state c.args.tables.now) begun c.descend.new.found c.args.joined.now.key c.in_ok-rows.rows c.requires.of_body
+    (slice_get_below c.args.plan.now.levels 0 c.args.level.now c.requires.first) c.requires.tests c.requires.heads c.in_ok-descend.ensures.right.tight c.new-empty.ensures under explored (c.in_ok-rows.ensures ∙ ap ascending c.into_vec.ensures))
 
 pub returns-clause-gaps : goal.returns-clause-gaps
 returns-clause-gaps g c =
     let none : length c.new.result.gaps ≡ 0 = ap (λ (s : Sense). length s.gaps) c.new.ensures in
     let same = ap length c.in_ok-add_hits.ensures.gaps in
     let gains = c.in_ok-descend.ensures.gains.gaps in
+    let fewer = c.in_ok-seal_if.ensures.gaps in
     omega arith
 
 pub returns-clause-hits : goal.returns-clause-hits
@@ -96,4 +106,5 @@ returns-clause-hits g c =
     let last : length c.push.new.self - 1 ≡ 0 = ap (λ (ks : List ℕ). length ks - 1) alone in
     let few = subst (λ n. length c.add_hits.new.sense.hits ≤ length c.new.result.hits + length (atoms_at c.args.plan.now.guides n)) last c.in_ok-add_hits.ensures.few in
     let gains = c.in_ok-descend.ensures.gains.hits in
+    let fewer = c.in_ok-seal_if.ensures.hits in
     omega arith

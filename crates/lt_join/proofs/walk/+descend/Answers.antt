@@ -3,7 +3,7 @@ use Rattle.lt_join.specs.Walked.{IsReached, IsExploredBelow, HitsAbove, at}
 use Rattle.lt_join.specs.Cost.{cost_from, LevelGains}
 use Rattle.std.specs.List.{AllZip}
 use Rattle.lt_join.specs.Holders.{IsOpen, IsTrieOf, IsUsable, IsJoined, left_of, atoms_at}
-use Rattle.lt_join.proofs.Costs.{IsPaid-begun, IsPaid-more, cost-all, cost-stopped, cost-opened, IsCredited-begun, IsCredited-more, GainsFewer-below}
+use Rattle.lt_join.proofs.Costs.{IsPaid-begun, IsPaid-more, cost-all, cost-stopped, cost-opened, cost_leaf, IsCredited-begun, IsCredited-more, GainsFewer-below}
 use Rattle.lt_join.proofs.Steps.{IsUnderWay-begun, IsUnderWay-more, IsExploredBelow-all, IsReached-child, length_push, slice_get_is, popped, witnesses_grow, FoundGrows-chain, under_more}
 use Rattle.lt_join.proofs.Entering.{left_iters}
 use Rattle.lt_join.proofs.Usable.{walkable_all, usable_at, next_iters, hits_before}
@@ -38,7 +38,7 @@ open_level-requires-clause-usable g t c =
 pub loop-joined-init : goal.loop-joined-init
 loop-joined-init g t c = record {
   way = IsUnderWay-begun c.args.body.now c.args.plan.now c.args.terms.now (g.I.Indexes.state c.args.tables.now) c.args.found.now c.args.keys.now c.index-as_slice-depth.result c.open_level.new.sense c.in_ok-joined.joined.key c.requires.right c.in_ok-joined.ensures.stands.stands;
-  paid = IsPaid-begun c.args.plan.now (g.I.Indexes.state c.args.tables.now) c.args.keys.now c.index-as_slice-depth.result c.args.moves.now c.open_level.new.moves (left_of c.in_ok-joined.joined.leap) c.in_ok-joined.joined.key c.in_ok-joined.ensures.stands.cost;
+  paid = IsPaid-begun (length c.args.body.now.absents) c.args.plan.now (g.I.Indexes.state c.args.tables.now) c.args.keys.now c.index-as_slice-depth.result c.args.moves.now c.open_level.new.moves (left_of c.in_ok-joined.joined.leap) c.in_ok-joined.joined.key c.in_ok-joined.ensures.stands.cost;
   credited = IsCredited-begun (length (atoms_at c.args.plan.now.guides (length c.args.keys.now))) c.args.found.now.sense c.open_level.new.sense c.args.moves.now c.open_level.new.moves c.in_ok-joined.joined.key c.in_ok-joined.ensures.gains;
   under = λ row there. inl there;
   unfound = λ h. refl;
@@ -86,8 +86,8 @@ loop-joined-preserved g t c =
       way = IsUnderWay-more c.args.body.now c.args.plan.now c.args.terms.now (g.I.Indexes.state c.args.tables.now) c.args.found.now c.loop-joined.found (record { sense = c.add_hits.new.sense; rows = c.loop-joined.found.rows }) c.descend.new.found c.args.keys.now c.loop-joined.keys c.pop.new.self c.index-as_slice-depth.result c.loop-joined.joined.key c.next_key.new.sense c.next_key.new.joined.key
           inv.way (record { sense = c.in_ok-add_hits.ensures.grows; rows = λ row h. h }) c.in_ok-stopped.ensures.grows c.in_ok-stopped.ensures.right
           (subst (IsExploredBelow c.args.body.now c.args.plan.now c.args.terms.now c.descend.new.found) pushed (c.in_ok-stopped.ensures.explored c.if-stopped.false)) back next.stands;
-      paid = IsPaid-more c.args.plan.now (g.I.Indexes.state c.args.tables.now) c.args.keys.now c.loop-joined.keys c.index-as_slice-depth.result c.args.moves.now c.loop-joined.moves (left_of c.loop-joined.joined.leap) c.loop-joined.joined.key c.descend.new.moves c.next_key.new.moves (left_of c.next_key.new.joined.leap) c.next_key.new.joined.key (omega arith) c.in_ok-next_key.ensures.rises inv.paid
-          (subst (λ ks. c.descend.new.moves ≤ c.loop-joined.moves + cost_from (g.I.Indexes.state c.args.tables.now) c.args.plan.now.guides (drop (length ks) c.args.plan.now.levels) (length ks) (at ks)) pushed c.descend.ensures.cost) next.cost;
+      paid = IsPaid-more (length c.args.body.now.absents) c.args.plan.now (g.I.Indexes.state c.args.tables.now) c.args.keys.now c.loop-joined.keys c.index-as_slice-depth.result c.args.moves.now c.loop-joined.moves (left_of c.loop-joined.joined.leap) c.loop-joined.joined.key c.descend.new.moves c.next_key.new.moves (left_of c.next_key.new.joined.leap) c.next_key.new.joined.key (omega arith) c.in_ok-next_key.ensures.rises inv.paid
+          (subst (λ ks. c.descend.new.moves ≤ c.loop-joined.moves + cost_from (length c.args.body.now.absents) (g.I.Indexes.state c.args.tables.now) c.args.plan.now.guides (drop (length ks) c.args.plan.now.levels) (length ks) (at ks)) pushed c.descend.ensures.cost) next.cost;
       credited = IsCredited-more (length (atoms_at c.args.plan.now.guides (length c.args.keys.now))) c.args.found.now.sense c.loop-joined.found.sense c.add_hits.new.sense c.descend.new.found.sense c.next_key.new.sense c.args.moves.now c.loop-joined.moves c.descend.new.moves c.next_key.new.moves c.loop-joined.joined.key c.next_key.new.joined.key
           inv.credited (omega arith) c.in_ok-add_hits.ensures.gaps few c.in_ok-stopped.ensures.gains gains;
       under = under_more c.args.terms.now c.args.body.now c.args.plan.now (g.I.Indexes.state c.args.tables.now) c.args.keys.now c.push.new.self c.loop-joined.joined.key c.args.found.now c.loop-joined.found c.descend.new.found pushed inv.under c.in_ok-stopped.ensures.under;
@@ -111,7 +111,7 @@ returns-clause-cost g t c =
     let deeper : length c.args.keys.now < length c.args.plan.now.levels = omega (arith, c.requires.reached.within) in
     let here : slice_get c.args.plan.now.levels (length c.args.keys.now) ≡ Some c.index-as_slice-depth.result =
     slice_get_is c.args.plan.now.levels (length c.args.keys.now) c.index-as_slice-depth.result deeper (rw (c.as_slice.ensures, c.len-depth.ensures) at c.index-as_slice-depth.is) in
-    cost-all c.args.plan.now (g.I.Indexes.state c.args.tables.now) c.args.keys.now c.index-as_slice-depth.result c.args.moves.now c.loop-joined.moves (left_of c.loop-joined.joined.leap) c.loop-joined.joined.key here c.loop-joined.invariant.paid
+    cost-all (length c.args.body.now.absents) c.args.plan.now (g.I.Indexes.state c.args.tables.now) c.args.keys.now c.index-as_slice-depth.result c.args.moves.now c.loop-joined.moves (left_of c.loop-joined.joined.leap) c.loop-joined.joined.key here c.loop-joined.invariant.paid
 
 pub returns-then-stopped-clause-cost : goal.returns-then-stopped-clause-cost
 returns-then-stopped-clause-cost g t c =
@@ -120,8 +120,8 @@ returns-then-stopped-clause-cost g t c =
     let deeper : length c.args.keys.now < length c.args.plan.now.levels = omega (arith, c.requires.reached.within) in
     let here : slice_get c.args.plan.now.levels (length c.args.keys.now) ≡ Some c.index-as_slice-depth.result =
     slice_get_is c.args.plan.now.levels (length c.args.keys.now) c.index-as_slice-depth.result deeper (rw (c.as_slice.ensures, c.len-depth.ensures) at c.index-as_slice-depth.is) in
-    let below = subst (λ ks. c.descend.new.moves ≤ c.loop-joined.moves + cost_from (g.I.Indexes.state c.args.tables.now) c.args.plan.now.guides (drop (length ks) c.args.plan.now.levels) (length ks) (at ks)) pushed c.descend.ensures.cost in
-    cost-stopped c.args.plan.now (g.I.Indexes.state c.args.tables.now) c.args.keys.now c.index-as_slice-depth.result c.args.moves.now c.loop-joined.moves (left_of c.loop-joined.joined.leap) c.loop-joined.joined.key c.descend.new.moves here (omega arith) c.loop-joined.invariant.paid (omega (arith, below))
+    let below = subst (λ ks. c.descend.new.moves ≤ c.loop-joined.moves + cost_from (length c.args.body.now.absents) (g.I.Indexes.state c.args.tables.now) c.args.plan.now.guides (drop (length ks) c.args.plan.now.levels) (length ks) (at ks)) pushed c.descend.ensures.cost in
+    cost-stopped (length c.args.body.now.absents) c.args.plan.now (g.I.Indexes.state c.args.tables.now) c.args.keys.now c.index-as_slice-depth.result c.args.moves.now c.loop-joined.moves (left_of c.loop-joined.joined.leap) c.loop-joined.joined.key c.descend.new.moves here (omega arith) c.loop-joined.invariant.paid (omega (arith, below))
 
 pub returns-in_err-stopped-clause-cost : goal.returns-in_err-stopped-clause-cost
 returns-in_err-stopped-clause-cost g t c =
@@ -130,8 +130,8 @@ returns-in_err-stopped-clause-cost g t c =
     let deeper : length c.args.keys.now < length c.args.plan.now.levels = omega (arith, c.requires.reached.within) in
     let here : slice_get c.args.plan.now.levels (length c.args.keys.now) ≡ Some c.index-as_slice-depth.result =
     slice_get_is c.args.plan.now.levels (length c.args.keys.now) c.index-as_slice-depth.result deeper (rw (c.as_slice.ensures, c.len-depth.ensures) at c.index-as_slice-depth.is) in
-    let below = subst (λ ks. c.descend.new.moves ≤ c.loop-joined.moves + cost_from (g.I.Indexes.state c.args.tables.now) c.args.plan.now.guides (drop (length ks) c.args.plan.now.levels) (length ks) (at ks)) pushed c.descend.ensures.cost in
-    cost-stopped c.args.plan.now (g.I.Indexes.state c.args.tables.now) c.args.keys.now c.index-as_slice-depth.result c.args.moves.now c.loop-joined.moves (left_of c.loop-joined.joined.leap) c.loop-joined.joined.key c.descend.new.moves here (omega arith) c.loop-joined.invariant.paid (omega (arith, below))
+    let below = subst (λ ks. c.descend.new.moves ≤ c.loop-joined.moves + cost_from (length c.args.body.now.absents) (g.I.Indexes.state c.args.tables.now) c.args.plan.now.guides (drop (length ks) c.args.plan.now.levels) (length ks) (at ks)) pushed c.descend.ensures.cost in
+    cost-stopped (length c.args.body.now.absents) c.args.plan.now (g.I.Indexes.state c.args.tables.now) c.args.keys.now c.index-as_slice-depth.result c.args.moves.now c.loop-joined.moves (left_of c.loop-joined.joined.leap) c.loop-joined.joined.key c.descend.new.moves here (omega arith) c.loop-joined.invariant.paid (omega (arith, below))
 
 pub returns-in_err-next_key-clause-cost : goal.returns-in_err-next_key-clause-cost
 returns-in_err-next_key-clause-cost g t c =
@@ -140,8 +140,8 @@ returns-in_err-next_key-clause-cost g t c =
     let deeper : length c.args.keys.now < length c.args.plan.now.levels = omega (arith, c.requires.reached.within) in
     let here : slice_get c.args.plan.now.levels (length c.args.keys.now) ≡ Some c.index-as_slice-depth.result =
     slice_get_is c.args.plan.now.levels (length c.args.keys.now) c.index-as_slice-depth.result deeper (rw (c.as_slice.ensures, c.len-depth.ensures) at c.index-as_slice-depth.is) in
-    let below = subst (λ ks. c.descend.new.moves ≤ c.loop-joined.moves + cost_from (g.I.Indexes.state c.args.tables.now) c.args.plan.now.guides (drop (length ks) c.args.plan.now.levels) (length ks) (at ks)) pushed c.descend.ensures.cost in
-    cost-stopped c.args.plan.now (g.I.Indexes.state c.args.tables.now) c.args.keys.now c.index-as_slice-depth.result c.args.moves.now c.loop-joined.moves (left_of c.loop-joined.joined.leap) c.loop-joined.joined.key c.next_key.new.moves here (omega arith) c.loop-joined.invariant.paid (omega (arith, below, c.next_key.ensures.within))
+    let below = subst (λ ks. c.descend.new.moves ≤ c.loop-joined.moves + cost_from (length c.args.body.now.absents) (g.I.Indexes.state c.args.tables.now) c.args.plan.now.guides (drop (length ks) c.args.plan.now.levels) (length ks) (at ks)) pushed c.descend.ensures.cost in
+    cost-stopped (length c.args.body.now.absents) c.args.plan.now (g.I.Indexes.state c.args.tables.now) c.args.keys.now c.index-as_slice-depth.result c.args.moves.now c.loop-joined.moves (left_of c.loop-joined.joined.leap) c.loop-joined.joined.key c.next_key.new.moves here (omega arith) c.loop-joined.invariant.paid (omega (arith, below, c.next_key.ensures.within))
 
 pub returns-in_err-push-clause-cost : goal.returns-in_err-push-clause-cost
 returns-in_err-push-clause-cost g t c =
@@ -149,7 +149,7 @@ returns-in_err-push-clause-cost g t c =
     let deeper : length c.args.keys.now < length c.args.plan.now.levels = omega (arith, c.requires.reached.within) in
     let here : slice_get c.args.plan.now.levels (length c.args.keys.now) ≡ Some c.index-as_slice-depth.result =
     slice_get_is c.args.plan.now.levels (length c.args.keys.now) c.index-as_slice-depth.result deeper (rw (c.as_slice.ensures, c.len-depth.ensures) at c.index-as_slice-depth.is) in
-    cost-all c.args.plan.now (g.I.Indexes.state c.args.tables.now) c.args.keys.now c.index-as_slice-depth.result c.args.moves.now c.loop-joined.moves (left_of c.loop-joined.joined.leap) c.loop-joined.joined.key here c.loop-joined.invariant.paid
+    cost-all (length c.args.body.now.absents) c.args.plan.now (g.I.Indexes.state c.args.tables.now) c.args.keys.now c.index-as_slice-depth.result c.args.moves.now c.loop-joined.moves (left_of c.loop-joined.joined.leap) c.loop-joined.joined.key here c.loop-joined.invariant.paid
 
 pub returns-in_err-add_hits-clause-cost : goal.returns-in_err-add_hits-clause-cost
 returns-in_err-add_hits-clause-cost g t c =
@@ -157,7 +157,7 @@ returns-in_err-add_hits-clause-cost g t c =
     let deeper : length c.args.keys.now < length c.args.plan.now.levels = omega (arith, c.requires.reached.within) in
     let here : slice_get c.args.plan.now.levels (length c.args.keys.now) ≡ Some c.index-as_slice-depth.result =
     slice_get_is c.args.plan.now.levels (length c.args.keys.now) c.index-as_slice-depth.result deeper (rw (c.as_slice.ensures, c.len-depth.ensures) at c.index-as_slice-depth.is) in
-    cost-all c.args.plan.now (g.I.Indexes.state c.args.tables.now) c.args.keys.now c.index-as_slice-depth.result c.args.moves.now c.loop-joined.moves (left_of c.loop-joined.joined.leap) c.loop-joined.joined.key here c.loop-joined.invariant.paid
+    cost-all (length c.args.body.now.absents) c.args.plan.now (g.I.Indexes.state c.args.tables.now) c.args.keys.now c.index-as_slice-depth.result c.args.moves.now c.loop-joined.moves (left_of c.loop-joined.joined.leap) c.loop-joined.joined.key here c.loop-joined.invariant.paid
 
 pub returns-in_err-joined-clause-cost : goal.returns-in_err-joined-clause-cost
 returns-in_err-joined-clause-cost g t c =
@@ -165,7 +165,7 @@ returns-in_err-joined-clause-cost g t c =
     let deeper : length c.args.keys.now < length c.args.plan.now.levels = omega (arith, c.requires.reached.within) in
     let here : slice_get c.args.plan.now.levels (length c.args.keys.now) ≡ Some c.index-as_slice-depth.result =
     slice_get_is c.args.plan.now.levels (length c.args.keys.now) c.index-as_slice-depth.result deeper (rw (c.as_slice.ensures, c.len-depth.ensures) at c.index-as_slice-depth.is) in
-    cost-opened c.args.plan.now (g.I.Indexes.state c.args.tables.now) c.args.keys.now c.index-as_slice-depth.result c.args.moves.now c.open_level.new.moves here c.open_level.ensures.within
+    cost-opened (length c.args.body.now.absents) c.args.plan.now (g.I.Indexes.state c.args.tables.now) c.args.keys.now c.index-as_slice-depth.result c.args.moves.now c.open_level.new.moves here c.open_level.ensures.within
 
 pub returns-then-stopped-clause-grows : goal.returns-then-stopped-clause-grows
 returns-then-stopped-clause-grows g t c =
@@ -196,8 +196,11 @@ descend-requires g t c =
                 (
                   iters,
                   (
-                    subst (IsReached c.args.plan.now c.add_hits.new.sense) (sym pushed) (IsReached-child c.args.body.now c.args.plan.now c.args.found.now.sense c.add_hits.new.sense c.args.keys.now c.loop-joined.joined.key c.index-as_slice-depth.result c.requires.of_body c.requires.reached here deeper key.0 key.1 (subst (HitsAbove c.add_hits.new.sense c.args.plan.now.guides) pushed c.in_ok-add_hits.ensures.hits)),
-                    record { tight = c.in_ok-add_hits.ensures.tight; answers = witnesses_grow c.loop-joined.found.sense c.add_hits.new.sense c.in_ok-add_hits.ensures.grows c.args.terms.now c.args.body.now (g.I.Indexes.state c.args.tables.now) c.loop-joined.found.rows c.loop-joined.invariant.way.right.answers },
+                    c.requires.look_ups,
+                    (
+                      subst (IsReached c.args.plan.now c.add_hits.new.sense) (sym pushed) (IsReached-child c.args.body.now c.args.plan.now c.args.found.now.sense c.add_hits.new.sense c.args.keys.now c.loop-joined.joined.key c.index-as_slice-depth.result c.requires.of_body c.requires.reached here deeper key.0 key.1 (subst (HitsAbove c.add_hits.new.sense c.args.plan.now.guides) pushed c.in_ok-add_hits.ensures.hits)),
+                      record { tight = c.in_ok-add_hits.ensures.tight; answers = witnesses_grow c.loop-joined.found.sense c.add_hits.new.sense c.in_ok-add_hits.ensures.grows c.args.terms.now c.args.body.now (g.I.Indexes.state c.args.tables.now) c.loop-joined.found.rows c.loop-joined.invariant.way.right.answers },
+                    ),
                   ),
                 ),
               ),
@@ -231,3 +234,7 @@ pub returns-then-stopped-clause-under : goal.returns-then-stopped-clause-under
 returns-then-stopped-clause-under g t c =
     let pushed : c.push.new.self ≡ c.args.keys.now ++ c.loop-joined.joined.key ∷ [] = c.in_ok-push.ensures.ok ∙ ap (λ ks. ks ++ c.loop-joined.joined.key ∷ []) c.loop-joined.invariant.way.same in
     under_more c.args.terms.now c.args.body.now c.args.plan.now (g.I.Indexes.state c.args.tables.now) c.args.keys.now c.push.new.self c.loop-joined.joined.key c.args.found.now c.loop-joined.found c.descend.new.found pushed c.loop-joined.invariant.under c.in_ok-stopped.ensures.under
+
+pub returns-then-depth-len-clause-cost : goal.returns-then-depth-len-clause-cost
+returns-then-depth-len-clause-cost g t c =
+    cost_leaf (length c.args.body.now.absents) c.args.plan.now (g.I.Indexes.state c.args.tables.now) c.args.keys.now c.args.moves.now c.at_leaf.new.moves (sym c.len-depth.ensures ∙ c.if-depth-len.true ∙ c.len.ensures) c.at_leaf.ensures.cost

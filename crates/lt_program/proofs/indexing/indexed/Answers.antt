@@ -41,6 +41,7 @@ returns-clause-indexes g c =
     let made = subst (λ (names : List IndexName). AreMade c.args.base.now names c.loop-name.db) whole c.loop-name.invariant.made in
     made_all c.args.base.now c.loop-name.db c.in_ok-names.names made c.args.prog.now
     (λ stmt there. c.in_ok-names.ensures.each stmt there (stated_plan (body_of stmt)) (IsPlanOf-stated (body_of stmt)) (IsStatedPlan-stated (body_of stmt)))
+    c.in_ok-names.ensures.firsts
 
 pub returns-clause-kept : goal.returns-clause-kept
 returns-clause-kept g c =

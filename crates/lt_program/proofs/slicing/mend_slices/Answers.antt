@@ -1,7 +1,7 @@
 use Rattle.std.proofs.Common.{sym, subst}
 use Rattle.lt_base.specs.Tables.{state_of}
 use Rattle.lt_query.specs.Lists.{IsRising}
-use Rattle.lt_program.proofs.KeptSlices.{planned_of, planned_runnable, planned_fits, planned_indexes, planned_bound, planned_narrow, planned_levels, old_rises, mended_are, mended_is, mending_told}
+use Rattle.lt_program.proofs.KeptSlices.{planned_of, planned_runnable, planned_fits, planned_indexes, planned_firsts, planned_bound, planned_narrow, planned_levels, old_rises, mended_are, mended_is, mending_told}
 use Rattle.lt_program.proofs.slicing.mend_slices.Goals as goal
 
 pub mend-requires-clause-of_body : goal.mend-requires-clause-of_body
@@ -12,6 +12,9 @@ mend-requires-clause-runnable g c = planned_runnable c.args.stmt.now c.body_of.r
 
 pub mend-requires-clause-fits : goal.mend-requires-clause-fits
 mend-requires-clause-fits g c = planned_fits (state_of c.args.tables.now) c.args.stmt.now c.body_of.result.now c.body_of.ensures c.requires.fits
+
+pub mend-requires-clause-has_firsts : goal.mend-requires-clause-has_firsts
+mend-requires-clause-has_firsts g c = planned_firsts c.args.tables.now c.args.stmt.now c.body_of.result.now c.body_of.ensures c.requires.indexes
 
 pub mend-requires-clause-has_indexes : goal.mend-requires-clause-has_indexes
 mend-requires-clause-has_indexes g c = planned_indexes c.args.tables.now c.args.stmt.now c.args.plan.now c.requires.plan c.requires.indexes
@@ -47,10 +50,10 @@ returns-clause-mended g c =
     c.in_ok-part.ensures.root c.in_ok-part.ensures.slices c.in_ok-mended.ensures.root c.in_ok-mended.ensures.slices
 
 pub returns-clause-cost : goal.returns-clause-cost
-returns-clause-cost g c = mending_told (state_of c.args.tables.now) c.args.stmt.now c.args.plan.now c.as_slice-2.result.now c.args.keys.now c.args.moves.now c.mend.new.moves c.requires.plan c.as_slice-2.ensures c.mend.ensures.cost
+returns-clause-cost g c = mending_told (state_of c.args.tables.now) c.args.stmt.now c.body_of.result.now c.args.plan.now c.as_slice-2.result.now c.args.keys.now c.args.moves.now c.mend.new.moves c.body_of.ensures c.requires.plan c.as_slice-2.ensures c.mend.ensures.cost
 
 pub returns-in_err-mended-clause-cost : goal.returns-in_err-mended-clause-cost
-returns-in_err-mended-clause-cost g c = mending_told (state_of c.args.tables.now) c.args.stmt.now c.args.plan.now c.as_slice-2.result.now c.args.keys.now c.args.moves.now c.mend.new.moves c.requires.plan c.as_slice-2.ensures c.mend.ensures.cost
+returns-in_err-mended-clause-cost g c = mending_told (state_of c.args.tables.now) c.args.stmt.now c.body_of.result.now c.args.plan.now c.as_slice-2.result.now c.args.keys.now c.args.moves.now c.mend.new.moves c.body_of.ensures c.requires.plan c.as_slice-2.ensures c.mend.ensures.cost
 
 pub returns-in_err-part-clause-cost : goal.returns-in_err-part-clause-cost
-returns-in_err-part-clause-cost g c = mending_told (state_of c.args.tables.now) c.args.stmt.now c.args.plan.now c.as_slice-2.result.now c.args.keys.now c.args.moves.now c.mend.new.moves c.requires.plan c.as_slice-2.ensures c.mend.ensures.cost
+returns-in_err-part-clause-cost g c = mending_told (state_of c.args.tables.now) c.args.stmt.now c.body_of.result.now c.args.plan.now c.as_slice-2.result.now c.args.keys.now c.args.moves.now c.mend.new.moves c.body_of.ensures c.requires.plan c.as_slice-2.ensures c.mend.ensures.cost

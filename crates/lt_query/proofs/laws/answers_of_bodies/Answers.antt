@@ -5,7 +5,7 @@ use Rattle.lt_query.proofs.Given.{IsIn-answers_of, IsAnswer-from_answers, some_a
 use Rattle.lt_query.proofs.laws.answers_of_bodies.Goals as goal
 
 pub returns-clause-ascend : goal.returns-clause-ascend
-returns-clause-ascend c = λ terms body state. IsAscending-ascending (filter_map (answer_of terms body) (picks body.atoms state))
+returns-clause-ascend c = λ terms body state. IsAscending-ascending (filter_map (answer_of terms body state) (picks body.atoms state))
 
 pub returns-clause-cells : goal.returns-clause-cells
 returns-clause-cells c = λ terms body state tests bound row. (IsAnswer-from_answers terms body state row, IsIn-answers_of terms body state row tests bound)

@@ -9,4 +9,4 @@ abbrev pub decreases-find_answers : goal.decreases-find_answers
 decreases-find_answers l = length l.atoms.now
 
 abbrev pub invariant-loop-row : goal.invariant-loop-row
-invariant-loop-row l = l.found.items ≡ l.initial.found.items ++ flat_map (row_found (values_in l.values.cells) l.atom l.rest l.tests (bare l.relations) l.terms) (take l.row-index l.row-items)
+invariant-loop-row l = l.found.items ≡ l.initial.found.items ++ flat_map (row_found (values_in l.values.cells) l.atom l.rest l.tests l.absents (bare l.relations) l.terms) (take l.row-index l.row-items)

@@ -9,4 +9,4 @@ abbrev pub decreases-find_some : goal.decreases-find_some
 decreases-find_some l = length l.atoms.now
 
 abbrev pub invariant-loop-row : goal.invariant-loop-row
-invariant-loop-row l = list_any (row_some (values_in l.values.cells) l.atom l.rest l.tests (bare l.relations)) (take l.row-index l.row-items) ≡ false
+invariant-loop-row l = list_any (row_some (values_in l.values.cells) l.atom l.rest l.tests l.absents (bare l.relations)) (take l.row-index l.row-items) ≡ false

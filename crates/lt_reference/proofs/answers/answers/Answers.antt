@@ -14,8 +14,9 @@ returns c =
     c.in_ok-rows.ensures
     ∙ (ap ascending
     (c.in_ok-find_answers.ensures
-    ∙ (ap (λ (old : List Row). old ++ found_from c.args.terms.now (values_in c.none.result.cells) c.as_slice-atoms.result.now c.as_slice-tests.result.now state) c.new-found.ensures.items
-    ∙ (ap (λ (v : Values). found_from c.args.terms.now v c.as_slice-atoms.result.now c.as_slice-tests.result.now state) c.none.ensures
-    ∙ (ap (λ (atoms : List Atom). found_from c.args.terms.now (λ _. None) atoms c.as_slice-tests.result.now state) c.as_slice-atoms.ensures
-    ∙ ap (λ (tests : List Test). found_from c.args.terms.now (λ _. None) c.args.body.now.atoms tests state) c.as_slice-tests.ensures))))
+    ∙ (ap (λ (old : List Row). old ++ found_from c.args.terms.now (values_in c.none.result.cells) c.as_slice-atoms.result.now c.as_slice-tests.result.now c.as_slice.result.now state) c.new-found.ensures.items
+    ∙ (ap (λ (v : Values). found_from c.args.terms.now v c.as_slice-atoms.result.now c.as_slice-tests.result.now c.as_slice.result.now state) c.none.ensures
+    ∙ (ap (λ (atoms : List Atom). found_from c.args.terms.now (λ _. None) atoms c.as_slice-tests.result.now c.as_slice.result.now state) c.as_slice-atoms.ensures
+    ∙ (ap (λ (tests : List Test). found_from c.args.terms.now (λ _. None) c.args.body.now.atoms tests c.as_slice.result.now state) c.as_slice-tests.ensures
+    ∙ ap (λ (absents : List Atom). found_from c.args.terms.now (λ _. None) c.args.body.now.atoms c.args.body.now.tests absents state) c.as_slice.ensures)))))
     ∙ answers_found c.args.terms.now c.args.body.now c.args.relations.now c.requires.cells)

@@ -17,7 +17,7 @@ found : (c : In_ok-rows) → c.in_ok-rows.rows ≡ answers c.args.head.now.terms
 found c = c.in_ok-rows.ensures ∙ ap (λ (terms : List Term). answers terms c.args.body.now (bare c.args.relations.now)) c.as_slice.ensures
 
 pub marked-requires : goal.marked-requires
-marked-requires c = subst IsAscending (sym c.in_ok-rows.ensures) (IsAscending-ascending (filter_map (answer_of c.as_slice.result.now c.args.body.now) (picks c.args.body.now.atoms (bare c.args.relations.now))))
+marked-requires c = subst IsAscending (sym c.in_ok-rows.ensures) (IsAscending-ascending (filter_map (answer_of c.as_slice.result.now c.args.body.now (bare c.args.relations.now)) (picks c.args.body.now.atoms (bare c.args.relations.now))))
 
 pub returns-clause-cells : goal.returns-clause-cells
 returns-clause-cells c =

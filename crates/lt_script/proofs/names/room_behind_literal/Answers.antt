@@ -8,3 +8,8 @@ pub returns-in-Atom : goal.returns-in-Atom
 returns-in-Atom c =
     let few : length (literal_names (literal_of c.args.literal.now)) ≤ length c.as_slice.result.now = rw (c.in-Atom.is, c.as_slice.ensures) (few_arguments c.in-Atom.head.terms.items) in
     behind_fewer _ _ _ _ few c.room_behind.ensures
+
+pub returns-in-Absent : goal.returns-in-Absent
+returns-in-Absent c =
+    let few : length (literal_names (literal_of c.args.literal.now)) ≤ length c.as_slice-in-Absent.result.now = rw (c.in-Absent.is, c.as_slice-in-Absent.ensures) (few_arguments c.in-Absent.head.terms.items) in
+    behind_fewer _ _ _ _ few c.room_behind-in-Absent.ensures

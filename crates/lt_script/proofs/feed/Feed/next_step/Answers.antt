@@ -4,14 +4,27 @@ use Rattle.lt_model.specs.declared.syntax.Item.{Item}
 use Rattle.lt_script.specs.declared.feed.Feed.{Feed}
 use Rattle.lt_script.specs.declared.feed.Fault.{Fault}
 use Rattle.lt_script.specs.Feed.{kept_of, HasFed, IsOpenAt}
-use Rattle.lt_script.proofs.Feeds.{open_by, closed_by, gives, none_by, not_none}
+use Rattle.lt_script.proofs.Feeds.{open_by, closed_by, kept_none, same_fault, answered, gives, none_by, not_none}
 use Rattle.lt_script.proofs.feed.Feed.next_step.Goals as goal
 
 open_of : (f : Feed) (bytes : List ℕ) (items : List Item) → ((x : Fault) → f.fault ≡ Some x → ⊥) → HasFed f bytes items → IsOpenAt f.line (kept_of f) bytes items
 open_of f bytes items none h = open_by f.fault f.ended f.line (kept_of f) bytes items none h
 
 pub returns-in-Some-clause-step : goal.returns-in-Some-clause-step
-returns-in-Some-clause-step c = λ bytes items h. (closed_by c.args.self.now.fault c.in-Some.fault c.args.self.now.ended c.args.self.now.line (kept_of c.args.self.now) bytes items c.in-Some.is h, h)
+returns-in-Some-clause-step c = λ bytes items h. (
+  closed_by c.args.self.now.fault c.in-Some.fault c.args.self.now.ended c.args.self.now.line (kept_of c.args.self.now) bytes items c.in-Some.is h,
+  h,
+  record {
+    fault = c.in-Some.fault;
+    is = c.in-Some.is;
+    line_is = refl;
+    code_is = refl;
+    nothing = kept_none c.args.self.now.fault c.in-Some.fault c.args.self.now.ended c.args.self.now.line (kept_of c.args.self.now) bytes items c.in-Some.is h;
+  },
+)
+
+pub returns-in-Some-clause-again : goal.returns-in-Some-clause-again
+returns-in-Some-clause-again c = λ line code h. (answered h.fault c.in-Some.fault line code (same_fault c.args.self.now.fault h.fault c.in-Some.fault h.is c.in-Some.is) h.line_is h.code_is, h)
 
 pub returns-in-Some-clause-decided : goal.returns-in-Some-clause-decided
 returns-in-Some-clause-decided c = λ bytes items h none. absurd (not_none c.args.self.now.fault c.in-Some.fault c.in-Some.is none)
@@ -27,7 +40,8 @@ returns-in-Fault-clause-step c = λ bytes items h.
     let o = open_of c.args.self.now bytes items c.in_default.not-Some h in
     let n : c.len-all-in-Fault.result ≡ length c.args.self.now.bytes.items = omega (arith, c.len-all-in-Fault.ensures) in
     let f = c.in-Fault.ensures bytes o.done items o.leads o.derived in
-    (f.0, (drop_all c.len-all-in-Fault.result c.args.self.now.bytes.items (omega (arith, n)), f.0))
+    let none = drop_all c.len-all-in-Fault.result c.args.self.now.bytes.items (omega (arith, n)) in
+    (f.0, (none, f.0), record { fault = c.in-Fault.fault; is = refl; line_is = refl; code_is = refl; nothing = none })
 
 pub returns-in-Fault-clause-decided : goal.returns-in-Fault-clause-decided
 returns-in-Fault-clause-decided c = λ bytes items h none.
@@ -45,3 +59,18 @@ returns-in-More-clause-step c = λ bytes items h.
     let o = open_of c.args.self.now bytes items c.in_default.not-Some h in
     let m = c.in-More.ensures bytes o.done items o.leads o.derived in
     (m.0, m.1, refl)
+
+pub returns-in-Item-clause-again : goal.returns-in-Item-clause-again
+returns-in-Item-clause-again c = λ line code h. absurd (c.in_default.not-Some h.fault h.is)
+
+pub returns-in-Fault-clause-again : goal.returns-in-Fault-clause-again
+returns-in-Fault-clause-again c = λ line code h. absurd (c.in_default.not-Some h.fault h.is)
+
+pub returns-in-End-clause-again : goal.returns-in-End-clause-again
+returns-in-End-clause-again c = λ line code h. absurd (c.in_default.not-Some h.fault h.is)
+
+pub returns-in-More-clause-again : goal.returns-in-More-clause-again
+returns-in-More-clause-again c = λ line code h. absurd (c.in_default.not-Some h.fault h.is)
+
+pub returns-in-NoMemory-clause-again : goal.returns-in-NoMemory-clause-again
+returns-in-NoMemory-clause-again c = λ line code h. absurd (c.in_default.not-Some h.fault h.is)

@@ -1,4 +1,4 @@
-use Rattle.std.proofs.Common.{◌≡◌, ◌<◌, ◌++◌, List, [], get_or, length, subst}
+use Rattle.std.proofs.Common.{◌≡◌, ◌<◌, ◌++◌, List, get_or, length, subst}
 use Rattle.lt_sense.specs.declared.store.Passed.{Passed}
 use Rattle.lt_sense.specs.Ordered.{gaps_in}
 use Rattle.lt_sense.specs.Stored.{stored_gap}

@@ -1,11 +1,8 @@
 use Rattle.std.proofs.Common.{◌≡◌, length, ap, arith}
 use Rattle.lt_sense.specs.Stored.{stored_gap}
 use Rattle.lt_sense.specs.Ordered.{gaps_in}
-use Rattle.lt_sense.proofs.Sought.{widths_done, uncovered_if_none}
+use Rattle.lt_sense.proofs.Sought.{widths_done}
 use Rattle.lt_sense.proofs.store.Store.gap_in_family.Goals as goal
-
-pub returns-then-columns-gt-MOST_COLUMNS-clause-none : goal.returns-then-columns-gt-MOST_COLUMNS-clause-none
-returns-then-columns-gt-MOST_COLUMNS-clause-none n c = uncovered_if_none c.args.self.now (stored_gap c.args.self.now c.args.head) c.args.relation c.args.row.now c.gap_with.result c.gap_with.ensures.there
 
 pub returns-clause-none : goal.returns-clause-none
 returns-clause-none n c =

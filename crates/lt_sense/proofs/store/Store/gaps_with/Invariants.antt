@@ -1,5 +1,5 @@
 use Rattle.std.specs.Prelude.{filter}
-use Rattle.std.proofs.Common.{◌≡◌, map, take}
+use Rattle.std.proofs.Common.{◌≡◌, take}
 use Rattle.lt_sense.specs.Sense.{gap_covers}
 use Rattle.lt_sense.specs.Ordered.{gaps_in}
 use Rattle.lt_sense.proofs.store.Store.gaps_with.Given as goal

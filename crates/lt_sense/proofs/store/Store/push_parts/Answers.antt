@@ -1,4 +1,4 @@
-use Rattle.std.proofs.Common.{◌≡◌, ◌∙◌, sym}
+use Rattle.std.proofs.Common.{◌∙◌, sym}
 use Rattle.lt_sense.proofs.Cuts.{AreParted-cut, AreParted-passed}
 use Rattle.lt_sense.proofs.store.Store.push_parts.Goals as goal
 use Rattle.lt_sense.proofs.store.Store.push_parts.Goals.{then-is_between+in_ok-push_part, else-is_between}

@@ -3,6 +3,7 @@ use Rattle.lt_sense.specs.Stored.{stored_gap}
 use Rattle.lt_sense.specs.Ordered.{gaps_in}
 use Rattle.lt_sense.proofs.Lies.{get_there, length_map}
 use Rattle.lt_sense.proofs.Sorted.{image_at}
+use Rattle.lt_sense.proofs.Families.{no_family}
 use Rattle.lt_sense.proofs.Sought.{paid_next, paid_stop, paid_ended, uncovered_next, uncovered_all}
 use Rattle.lt_sense.proofs.store.Store.sealed_gap_with.Goals as goal
 
@@ -13,15 +14,15 @@ families-preserved n c =
     let at = image_at (stored_gap s) s.gaps.items c.families.at _ (get_there s.gaps.items c.families.at _ (omega (arith, c.families-test.true, c.len.ensures)) c.index-head.ensures) in
     record {
       none = uncovered_next (gaps_in s s.gaps.items) c.args.relation c.families.at c.family_end-at.result c.args.row.now _ c.families.invariant.none c.family_end-at.ensures at c.in-None.ensures.none;
-      paid = paid_next (gaps_in s s.gaps.items) c.args.relation c.args.steps.now c.families.steps c.gap_of_head.new.steps c.families.at c.family_end-at.result _ c.families.invariant.paid c.family_end-at.ensures at (λ narrow d lt. c.gap_of_head.ensures.steps narrow d (omega (arith, m, lt)));
+      paid = paid_next (gaps_in s s.gaps.items) c.args.relation c.args.steps.now c.families.steps c.gap_of_head.new.steps c.families.at c.family_end-at.result _ c.families.invariant.paid c.family_end-at.ensures at (λ d lt. c.gap_of_head.ensures.steps d (omega (arith, m, lt)));
     }
 
 pub returns-in-Some-clause-steps : goal.returns-in-Some-clause-steps
-returns-in-Some-clause-steps n c narrow d lt =
+returns-in-Some-clause-steps n c d lt =
     let s = c.args.self.now in
     let m = length_map (stored_gap s) s.gaps.items in
     let at = image_at (stored_gap s) s.gaps.items c.families.at _ (get_there s.gaps.items c.families.at _ (omega (arith, c.families-test.true, c.len.ensures)) c.index-head.ensures) in
-    paid_stop (gaps_in s s.gaps.items) c.args.relation c.args.steps.now c.families.steps c.gap_of_head.new.steps c.families.at _ c.families.invariant.paid at (λ narrow d lt. c.gap_of_head.ensures.steps narrow d (omega (arith, m, lt))) narrow d (omega (arith, m, lt))
+    paid_stop (gaps_in s s.gaps.items) c.args.relation c.args.steps.now c.families.steps c.gap_of_head.new.steps c.families.at _ c.families.invariant.paid at (λ d lt. c.gap_of_head.ensures.steps d (omega (arith, m, lt))) d (omega (arith, m, lt))
 
 pub returns-clause-none : goal.returns-clause-none
 returns-clause-none n c =
@@ -29,6 +30,9 @@ returns-clause-none n c =
     uncovered_all (gaps_in s s.gaps.items) c.args.relation c.families.at c.args.row.now (omega (arith, length_map (stored_gap s) s.gaps.items, c.families-test.false, c.len.ensures)) c.families.invariant.none
 
 pub returns-clause-steps : goal.returns-clause-steps
-returns-clause-steps n c narrow d lt =
+returns-clause-steps n c d lt =
     let s = c.args.self.now in
-    paid_ended (gaps_in s s.gaps.items) c.args.relation c.args.steps.now c.families.steps c.families.at c.families.invariant.paid narrow d (omega (arith, length_map (stored_gap s) s.gaps.items, lt))
+    paid_ended (gaps_in s s.gaps.items) c.args.relation c.args.steps.now c.families.steps c.families.at c.families.invariant.paid d (omega (arith, length_map (stored_gap s) s.gaps.items, lt))
+
+pub returns-then-not-has_family-clause-none : goal.returns-then-not-has_family-clause-none
+returns-then-not-has_family-clause-none n c = no_family c.args.self.now c.args.relation c.args.row.now c.requires.sound (c.has_family.ensures c.if-not-has_family.true)

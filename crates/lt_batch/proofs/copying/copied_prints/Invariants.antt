@@ -1,5 +1,0 @@
-use Rattle.std.proofs.Common.{◌≡◌, take}
-use Rattle.lt_batch.proofs.copying.copied_prints.Given as goal
-
-abbrev pub invariant-loop-printed : goal.invariant-loop-printed
-invariant-loop-printed l = l.copy ≡ take l.printed-index l.prints
