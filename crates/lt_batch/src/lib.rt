@@ -6,6 +6,7 @@ mod gathering;
 mod indexing;
 pub mod leaf;
 pub mod outcome;
+mod ties;
 pub mod work;
 
 pub use batch::run_batch;

@@ -16,6 +16,7 @@ ghost use Rattle.lt_batch.specs.Work.{AreRunnable, FitsBatch, IsLeaf, base_on};
 
 use crate::indexing::all_indexed;
 use crate::leaf::LeafTally;
+use crate::ties::{Ties, is_tied, ties_of, weight_of};
 use lt_base::Database;
 use lt_circuit::LeafWork;
 use lt_delta::Marks;
@@ -37,6 +38,8 @@ pub struct BatchWork {
     snapshot: Database,
     programs: Vec<Arc<Planned>>,
     is_reading: bool,
+    /// Of each program, which of those before it have a bearing on it. No clause speaks of it.
+    ties: Vec<Ties>,
 }
 
 impl Model for BatchWork {
@@ -179,10 +182,12 @@ impl BatchWork {
         let programs = plan_all(alloc, progs)?;
         let snapshot = all_indexed(rt, db, programs.as_slice())?;
         let is_reading = reads_any(progs);
+        let ties = ties_of(alloc, progs)?;
         Ok(BatchWork {
             snapshot,
             programs,
             is_reading,
+            ties,
         })
     }
 
@@ -252,5 +257,19 @@ impl LeafWork for BatchWork {
 
     fn effect<'a>(&self, tally: &'a LeafTally) -> &'a Marks {
         &tally.effect
+    }
+
+    fn weight(&self, tally: &LeafTally) -> usize {
+        weight_of(&tally.run)
+    }
+
+    fn is_tied(&self, leaf: u32, tally: &LeafTally) -> bool {
+        let leaf = leaf as usize;
+        leaf < self.ties.len() && is_tied(self.ties[leaf], tally)
+    }
+
+    fn is_free(&self, leaf: u32) -> bool {
+        let leaf = leaf as usize;
+        leaf < self.ties.len() && self.ties[leaf].is_free()
     }
 }

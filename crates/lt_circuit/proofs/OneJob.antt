@@ -70,6 +70,10 @@ worker_is e = by_kind e.event
 pub later_none : (old new : List Entry) → new ≡ old → IsLaterBy 0 (map event_of old) (map event_of new)
 later_none old new same = record { more = []; is = ap (map event_of) same ∙ sym (append-nil (map event_of old)); by = tt }
 
+-- one event
+pub later_one : (old new : List Entry) (e : Entry) → e.worker ≡ 0 → new ≡ old ++ e ∷ [] → IsLaterBy 0 (map event_of old) (map event_of new)
+later_one old new e by_e is = record { more = map event_of (e ∷ []); is = ap (map event_of) is ∙ map-append event_of old (e ∷ []); by = (worker_is e ∙ by_e, tt) }
+
 -- a claim and its end
 pub later_two : (old mid new : List Entry) (c d : Entry) → c.worker ≡ 0 → d.worker ≡ 0 → mid ≡ old ++ c ∷ [] → new ≡ mid ++ d ∷ [] → IsLaterBy 0 (map event_of old) (map event_of new)
 later_two old mid new c d by_c by_d first second =

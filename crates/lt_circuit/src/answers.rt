@@ -1,6 +1,7 @@
 //! What a circuit tells. It takes no memory.
 ghost use Rattle.std.specs.Prelude.{true, false, ◌≡◌, ◌≢◌, ◌≤◌, ◌<◌, ◌^◌, ℕ, [], None, Some, IfSome, IsTrue, ◌↔◌, slice_index_or};
-ghost use Rattle.lt_face.specs.Limits.{most_workers};
+ghost use Rattle.lt_face.specs.Limits.{most_programs, most_workers};
+ghost use Rattle.lt_net.specs.declared.job.JobName.TheVariants.{Leaf};
 ghost use Rattle.lt_net.specs.declared.job.JobState.TheVariants.{Pending};
 ghost use Rattle.lt_circuit.specs.Board.{standing};
 ghost use Rattle.lt_net.specs.Net.{IsSettled, Effect};
@@ -23,6 +24,22 @@ impl<W: LeafWork> Circuit<W> {
         ensures replay { IsReplay (W.does self.now.work) self.now.board self.now.journal }
     {
         &self.journal
+    }
+
+    /// How many leaves there are.
+    pub fn leaves(&self) -> u32 {
+        self.board.leaves()
+    }
+
+    /// How many leaves never ran and hang on none before them.
+    pub fn free_leaves(&self) -> u32 {
+        let mut count: u32 = 0;
+        for leaf in 0..self.board.leaves() {
+            if self.work.is_free(leaf) && self.board.is_fresh(leaf) {
+                count = count.saturating_add(1);
+            }
+        }
+        count
     }
 
     /// How many claims stand. Where none does and no job is Pending, the circuit is settled, and only there.
@@ -60,7 +77,25 @@ impl<W: LeafWork> Circuit<W> {
         ensures small { IfSome result (λ job. code_of job < 2 ^ 32) }
         ensures none { result ≡ None → (job : ℕ) → (state self.old).status job ≢ Pending }
     {
+        if worker > 0 {
+            if let Some(leaf) = self.free_leaf() {
+                return Some(JobName::Leaf(leaf));
+            }
+        }
         self.board.next_pending(worker)
+    }
+
+    // The lowest leaf that never ran, is Pending, and hangs on none before it.
+    fn free_leaf(&self) -> Option<u32>
+        ensures some { IfSome result (λ leaf. (state self.now).status (code_of (Leaf leaf)) ≡ Pending) }
+        ensures small { IfSome result (λ leaf. leaf < most_programs) }
+    {
+        for leaf in 0..self.board.leaves() {
+            if self.work.is_free(leaf) && self.board.is_fresh(leaf) {
+                return Some(leaf);
+            }
+        }
+        None
     }
 
     /// Whether the job is Pending. A name that is no job's of the circuit isn't.

@@ -10,7 +10,7 @@ use crate::nodes::Nodes;
 use lt_delta::Marks;
 use std::marker::Model;
 
-/// The tables: per node, per job's code, per leaf, per worker. Below `next_fresh` each leaf was taken as a fresh one, or wasn't one.
+/// The tables: per node, per job's code, per leaf, per worker.
 #[derive(Drop)]
 pub struct Board {
     leaves: u32,
@@ -18,7 +18,6 @@ pub struct Board {
     jobs: Jobs,
     done: Vec<Option<Marks>>,
     holders: Holders,
-    next_fresh: u32,
 }
 
 impl Model for Board {

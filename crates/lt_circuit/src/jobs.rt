@@ -98,6 +98,27 @@ fn lowered(low: usize, place: usize, state: JobState) -> usize
     }
 }
 
+/// Whether the code is an inner node's job's.
+fn is_inner(code: u32) -> bool {
+    match JobName::of(code) {
+        JobName::Leaf(_leaf) => false,
+        _inner => true,
+    }
+}
+
+/// The first code from the place `low` on whose job is Pending and an inner node's.
+fn next_inner_code(states: &[JobState], order: &[u32], low: usize) -> Option<u32>
+    ensures { IfSome result (λ code. slice_index_or states.now code Clean ≡ Pending) }
+{
+    for place in low..order.len() {
+        let code = order[place];
+        if is_inner(code) && is_pending_at(states, code) {
+            return Some(code);
+        }
+    }
+    None
+}
+
 impl Jobs {
     /// The leaves' jobs are Pending, the others Clean. The order is the walk over the tree from the left.
     pub fn start(alloc: Global, leaves: u32) -> Result<Jobs, NoMemory>
@@ -156,6 +177,17 @@ impl Jobs {
         ensures none { result ≡ false → (code : ℕ) → slice_index_or self.now code Clean ≢ Pending }
     {
         next_place(&self.states, &self.order, self.low) < self.order.len()
+    }
+
+    /// The first in the order that is Pending and no leaf's.
+    pub fn next_inner(&self) -> Option<JobName>
+        ensures some { IfSome result (λ job. slice_index_or self.now (code_of job) Clean ≡ Pending) }
+        ensures small { IfSome result (λ job. code_of job < 2 ^ 32) }
+    {
+        match next_inner_code(&self.states, &self.order, self.low) {
+            Some(code) => Some(JobName::of(code)),
+            None => None,
+        }
     }
 
     /// The first in the order that is Pending.

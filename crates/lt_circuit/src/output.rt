@@ -22,3 +22,37 @@ impl<W: LeafWork> Model for Output<W> {
 
     ghost invariant = { λ o. IsOutput (W.does (arc_value o.work)) (W.stands_for (arc_value o.work)) (W.fits (arc_value o.work)) o.did };
 }
+
+impl<W: LeafWork> Output<W> {
+    /// How dear a leaf's run was, or None of an inner job.
+    pub fn weight(&self) -> Option<usize> {
+        match &self.did {
+            Done::Leaf { tally, .. } => Some(self.work.weight(&tally.tally)),
+            Done::Merge { .. } => None,
+            Done::Correct { .. } => None,
+        }
+    }
+
+    /// Whether most of what the leaf did hangs on its correction, or None of a free leaf and of an inner job.
+    pub fn is_tied(&self) -> Option<bool> {
+        match &self.did {
+            Done::Leaf { leaf, tally, .. } => {
+                if self.work.is_free(*leaf) {
+                    return None;
+                }
+                Some(self.work.is_tied(*leaf, &tally.tally))
+            }
+            Done::Merge { .. } => None,
+            Done::Correct { .. } => None,
+        }
+    }
+
+    /// Whether it is a leaf's that had run before.
+    pub fn is_again(&self) -> bool {
+        match &self.did {
+            Done::Leaf { prior, .. } => prior.is_some(),
+            Done::Merge { .. } => false,
+            Done::Correct { .. } => false,
+        }
+    }
+}

@@ -45,6 +45,22 @@ pub trait LeafWork: Drop {
     fn effect<'a>(&self, tally: &'a Self::Tally) -> &'a Marks
         ensures { (leaf : ℕ) (c : List Mark) → stands_for self.now tally.now leaf c → result.now ≡ does self.now leaf c };
 
+    /// How dear the leaf's run was, in gaps and hits that it met. Nothing is said of it.
+    fn weight(&self, _tally: &Self::Tally) -> usize {
+        0
+    }
+
+    /// Whether most of what the leaf did hangs on its correction, so that a run without that is in vain. Nothing is said of it.
+    fn is_tied(&self, _leaf: u32, _tally: &Self::Tally) -> bool {
+        false
+    }
+
+    /// Whether no leaf before this one writes what it reads, so that whoever runs it ahead does nothing in vain. Nothing is
+    /// said of it.
+    fn is_free(&self, _leaf: u32) -> bool {
+        false
+    }
+
     /// What fits is marks.
     ghost fits_marks: { (w : Self) (a : List Mark) → fits w a → AreMarks a };
 

@@ -1,5 +1,5 @@
 //! Sinks of bytes.
-ghost use Rattle.std.specs.Prelude.{ℕ, List};
+ghost use Rattle.std.specs.Prelude.{ℕ, ◌<◌, ◌^◌, List};
 ghost use Rattle.std.specs.declared.option.Option.{Option};
 ghost use Rattle.std.specs.Io.KnownBytes.{Keeps, WriteAppends};
 ghost use Rattle.lt_edges.specs.Causes.{HasCause, Takes};
@@ -19,10 +19,12 @@ pub trait Sink {
     fn write(&mut self, piece: &[u8]) -> Result<usize, Failed>
         ensures takes { Takes result piece.now }
         ensures bytes { WriteAppends (holds self.old) (holds self.new) result piece.now }
-        ensures cause { HasCause (faults self.old) (faults self.new) result };
+        ensures cause { HasCause (faults self.old) (faults self.new) result }
+        ensures few { faults self.new < 2 ^ 64 };
 
     /// Passes on what it has taken.
     fn flush(&mut self) -> Result<(), Failed>
         ensures bytes { Keeps (holds self.old) (holds self.new) }
-        ensures cause { HasCause (faults self.old) (faults self.new) result };
+        ensures cause { HasCause (faults self.old) (faults self.new) result }
+        ensures few { faults self.new < 2 ^ 64 };
 }

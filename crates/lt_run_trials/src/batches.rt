@@ -48,6 +48,22 @@ const MIXED: [&str; 12] = [
     "delete r(3); print (x) where r(x);",
 ];
 
+/// All pairs of twelve.
+const PAIRS: &str =
+    "insert r(1); insert r(2); insert r(3); insert r(4); insert r(5); insert r(6); insert r(7); insert r(8); insert r(9); insert r(10); insert r(11); insert r(12); insert e(x, y) where r(x), r(y);";
+
+/// Dear programs over these. The first ones read nothing that those before them write, of the others some do.
+const DEAR: [&str; 8] = [
+    "print (x) where e(x, y), e(y, x);",
+    "print (y) where e(x, y), e(y, x), x < y;",
+    "insert r(20); print (x) where e(x, y), e(y, x);",
+    "print (x) where r(x), e(x, y), e(y, x);",
+    "print (x) where e(x, y), e(y, x), x < 3;",
+    "delete e(1, 2); print (x) where e(x, y), r(y), e(y, x);",
+    "print (x) where e(x, y), e(y, x);",
+    "insert e(1, 2); insert e(20, 1); print (y) where e(x, y), e(y, x);",
+];
+
 /// Whether these are the replies and the marks of the runs.
 fn are_same_runs(replies: &[Reply], effects: &[Marks], runs: &[Ran]) -> bool {
     if replies.len() != runs.len() || effects.len() != runs.len() {
@@ -130,6 +146,7 @@ fn ran<R: Threads + Wait + Sync>(
 fn does<R: Threads + Wait + Sync>(
     rt: &R,
     alloc: Global,
+    stock: &str,
     progs: &[Arc<Prog>],
     serial: &Serial,
     workers: u32,
@@ -138,7 +155,7 @@ fn does<R: Threads + Wait + Sync>(
     requires workers { (1 ≤ workers) × (workers ≤ 16) }
     requires fit { AllByRecursion FitsBoth (map arc_value progs.now) }
 {
-    let out = ran(rt, alloc, "", progs, workers)?;
+    let out = ran(rt, alloc, stock, progs, workers)?;
     let is_so = is_serial(&out, serial);
     drop(out);
     Ok(is_so)
@@ -155,8 +172,23 @@ fn agrees<R: Threads + Wait + Sync>(
     requires workers { (1 ≤ workers) × (workers ≤ 16) }
 {
     let progs = programs(alloc, &MIXED, count)?;
-    let serial = one_after_another(alloc, &progs)?;
-    does(rt, alloc, &progs, &serial, workers)
+    let serial = one_after_another(alloc, "", &progs)?;
+    does(rt, alloc, "", &progs, &serial, workers)
+}
+
+/// Whether a batch of dear programs, some of them tied to others, does what they do one after another.
+fn dear_agree<R: Threads + Wait + Sync>(
+    rt: &R,
+    alloc: Global,
+    count: usize,
+    workers: u32,
+) -> Result<bool, NoMemory>
+    requires few { count ≤ 256 }
+    requires workers { (1 ≤ workers) × (workers ≤ 16) }
+{
+    let progs = programs(alloc, &DEAR, count)?;
+    let serial = one_after_another(alloc, PAIRS, &progs)?;
+    does(rt, alloc, PAIRS, &progs, &serial, workers)
 }
 
 #[test]
@@ -165,6 +197,15 @@ fn mixed_batches_are_serial(rt: HostRuntime) -> Result<(), NoMemory> {
         for workers in [1u32, 2, 3, 4, 16] {
             holds(&rt, agrees(&rt, rt.alloc(), count, workers)?);
         }
+    }
+    Ok(())
+}
+
+#[test]
+fn batches_of_dear_programs_are_serial(rt: HostRuntime) -> Result<(), NoMemory> {
+    for workers in [1u32, 2, 3, 4, 16] {
+        holds(&rt, dear_agree(&rt, rt.alloc(), 8, workers)?);
+        holds(&rt, dear_agree(&rt, rt.alloc(), 16, workers)?);
     }
     Ok(())
 }

@@ -14,7 +14,7 @@ use lt_delta::Marks;
 use lt_edges::{MeetGate, OpenGate};
 use lt_face::{Moves, NoMemory};
 use lt_model::normal::Prog;
-use lt_workers::Shared;
+use lt_workers::{Shared, settle};
 use std::alloc::Global;
 use std::sync::atomic::{AtomicBool, Ordering};
 use std::sync::{Arc, Wait};
@@ -81,19 +81,22 @@ fn two_leaves_meet_at_a_gate(rt: HostRuntime) -> Result<(), NoMemory> {
     Ok(())
 }
 
-/// Work of two leaves. In its first run each looks for the other to have begun.
+/// Work whose two last leaves look, in their first runs, for each other to have begun.
 #[derive(Drop)]
 struct Meeting {
     alloc: Global,
+    /// The number of the first of these two. What stands before is dear.
+    first: u32,
     begun: [AtomicBool; 2],
     found: [AtomicBool; 2],
 }
 
 impl Meeting {
     /// Nobody has begun.
-    fn new(alloc: Global) -> Meeting {
+    fn new(alloc: Global, first: u32) -> Meeting {
         Meeting {
             alloc,
+            first,
             begun: [AtomicBool::new(false), AtomicBool::new(false)],
             found: [AtomicBool::new(false), AtomicBool::new(false)],
         }
@@ -149,9 +152,9 @@ impl LeafWork for Meeting {
         _correction: &Marks,
         _moves: &mut Moves<L>,
     ) -> Result<Marks, NoMemory> {
-        if leaf == 0 {
+        if leaf == self.first {
             self.look(0, 1);
-        } else {
+        } else if leaf > self.first {
             self.look(1, 0);
         }
         let marks = Marks::empty(self.alloc)?;
@@ -161,11 +164,19 @@ impl LeafWork for Meeting {
     fn effect<'a>(&self, tally: &'a Marks) -> &'a Marks {
         tally
     }
+
+    fn weight(&self, _tally: &Marks) -> usize {
+        1024
+    }
+
+    fn is_free(&self, _leaf: u32) -> bool {
+        true
+    }
 }
 
 /// Whether the works of two leaves met, outside the turn.
 fn works_meet<R: Threads + Wait + Sync>(rt: &R, alloc: Global) -> Result<bool, NoMemory> {
-    let work = Arc::new(alloc, Meeting::new(alloc))?;
+    let work = Arc::new(alloc, Meeting::new(alloc, 0))?;
     let circuit = Circuit::start(alloc, work.clone()?, 2)?;
     let (shared, mut seat) = Shared::new(alloc, circuit, 2)?;
     shared.fan_out(rt, &mut seat, &OpenGate);
@@ -178,5 +189,22 @@ fn works_meet<R: Threads + Wait + Sync>(rt: &R, alloc: Global) -> Result<bool, N
 #[test]
 fn the_works_of_two_leaves_meet(rt: HostRuntime) -> Result<(), NoMemory> {
     holds(&rt, works_meet(&rt, rt.alloc())?);
+    Ok(())
+}
+
+/// Whether the works of two leaves met behind a dear one, at a gate that holds nobody up.
+fn called_meet<R: Threads + Wait + Sync>(rt: &R, alloc: Global) -> Result<bool, NoMemory> {
+    let work = Arc::new(alloc, Meeting::new(alloc, 1))?;
+    let circuit = Circuit::start(alloc, work.clone()?, 3)?;
+    let circuit = settle(rt, alloc, circuit, 2, &OpenGate)?;
+    let is_so = work.met() && circuit.settled();
+    drop(circuit);
+    Ok(is_so)
+}
+
+/// One worker begins alone. Behind a dear leaf it calls the other, else the two leaves would look in vain.
+#[test]
+fn others_are_called_behind_a_dear_leaf(rt: HostRuntime) -> Result<(), NoMemory> {
+    holds(&rt, called_meet(&rt, rt.alloc())?);
     Ok(())
 }

@@ -114,7 +114,7 @@ fn batch_of(alloc: Global, count: usize) -> Result<Batch, NoMemory>
     ensures fit { IfOk result (λ batch. AllByRecursion FitsBoth (map arc_value batch.progs.items)) }
 {
     let progs = programs(alloc, &MEETING, count)?;
-    let serial = one_after_another(alloc, &progs)?;
+    let serial = one_after_another(alloc, "", &progs)?;
     Ok(Batch { progs, serial })
 }
 

@@ -53,12 +53,18 @@ pub(crate) fn one_run(
     Ok(Ran { reply, marks })
 }
 
-/// The programs one after another, from relations without rows.
-pub(crate) fn one_after_another(alloc: Global, progs: &[Arc<Prog>]) -> Result<Serial, NoMemory>
+/// The programs one after another, from the rows that these statements leave.
+pub(crate) fn one_after_another(
+    alloc: Global,
+    stock: &str,
+    progs: &[Arc<Prog>],
+) -> Result<Serial, NoMemory>
     requires { AllByRecursion FitsBoth (map arc_value progs.now) }
 {
+    let first = program(alloc, stock)?;
     let mut runs = Vec::new(alloc);
     let mut relations = no_rows(alloc)?;
+    one_run(alloc, &mut relations, &first)?;
     for prog in progs {
         let ran = one_run(alloc, &mut relations, prog)?;
         runs.push(ran)?;

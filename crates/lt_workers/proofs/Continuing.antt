@@ -1,5 +1,5 @@
 -- What a seat knows while its workers go on.
-use Rattle.std.proofs.Common.{◌≡◌, ℕ, ◌<◌, ⊎_elim, List, [], ◌∷◌, ◌++◌, map, Option, Some, None, true, false, cond, ltb, length, refl, sym, ap, ◌∙◌, subst, arith, append_assoc, append-nil}
+use Rattle.std.proofs.Common.{◌≡◌, ℕ, ◌<◌, ⊎_elim, Bool, List, [], ◌∷◌, ◌++◌, map, Option, Some, None, true, false, cond, ltb, length, refl, sym, ap, ◌∙◌, subst, arith, append_assoc, append-nil}
 use mathlib.Core.Logic.{dite}
 use native.Mathlib.Decide.{ℕ_discrete, dec_le}
 use Rattle.lt_model.specs.declared.mark.Mark.{Mark}
@@ -7,6 +7,13 @@ use Rattle.lt_net.specs.declared.job.JobState.TheVariants.{Clean}
 use Rattle.lt_net.specs.Kept.{IsKept}
 use Rattle.lt_net.specs.Net.{Net, State, Claim as Held, Event, Claims as Claim, Finishes, Abandons, step, claim_step, is_held, is_pending, replay, opening, IsSettled}
 use Rattle.lt_net.proofs.Serial.{reached_kept}
+use Rattle.std.proofs.lemmas.List.{map-append}
+use Rattle.lt_net.specs.declared.job.JobName.{JobName}
+use Rattle.lt_net.specs.Codes.{code_of}
+use Rattle.lt_circuit.specs.declared.entry.Entry.{Entry}
+use Rattle.lt_circuit.specs.declared.entry.Event.TheVariants.{Abandon}
+use Rattle.lt_circuit.specs.Entry.{entry_code}
+use Rattle.lt_circuit.proofs.Entries.{event_told}
 use Rattle.lt_circuit.specs.Circuit.{CircuitView, state}
 use Rattle.lt_circuit.specs.declared.claim.Claim.TheVariants.{Settled as SettledAnswer}
 use Rattle.lt_turn.specs.Journal.{Extends}
@@ -15,9 +22,9 @@ use Rattle.lt_turn.specs.declared.view.View.{View}
 use Rattle.lt_workers.specs.declared.held.Basis.{Basis}
 use Rattle.lt_workers.specs.declared.driving.Ended.{Ended}
 use Rattle.lt_workers.specs.declared.driving.Ended.TheVariants.{Settled, NoMemory, Spared}
-use Rattle.lt_workers.specs.Seen.{event_for, pairs_of, net_of, reached, Knows, Claims, AreFree, BeginsFree}
+use Rattle.lt_workers.specs.Seen.{pair_of, event_for, pairs_of, net_of, reached, Knows, Claims, AreFree, BeginsFree}
 use Rattle.lt_workers.specs.Visit.{IsSame, Visits, Answers, KeepsOthers}
-use Rattle.lt_workers.specs.Driven.{EndsAt, AreOthersFree, Continues, Drives, either_of}
+use Rattle.lt_workers.specs.Driven.{GaveBack, EndsAt, AreOthersFree, Continues, Drives, either_of}
 use Rattle.lt_workers.proofs.Knowing.{reached_before}
 use Rattle.lt_workers.proofs.Replays.{replay_parts, events_append}
 
@@ -144,6 +151,41 @@ module _ {W : Type 0} (does : W → ℕ → List Mark → List Mark) where
         let k = joined_known one Settled first second in
         (k.0, k.1, settled_stays w.opening w.first w.end w.seen j.seen second.0 k.0 high second.1 second.2 (subst (λ (o : Option (Basis W)). reached does o j.seen ≡ Some k.0) opening_high k.1))
 
+    -- of two seats that gave back the one that has seen more did so last
+    joined_gave : GaveBack v → GaveBack w → GaveBack j
+    joined_gave first second = by_longer (ltb (length v.seen) (length w.seen)) refl
+      where
+        starts : j.first ≡ v.first
+        starts = ap (λ (x : View (Basis W)). x.first) is
+
+        ends : j.end ≡ w.end
+        ends = ap (λ (x : View (Basis W)). x.end) is
+
+        sees : j.seen ≡ longer v.seen w.seen
+        sees = ap (λ (x : View (Basis W)). x.seen) is
+
+        by_longer : (b : Bool) → ltb (length v.seen) (length w.seen) ≡ b → GaveBack j
+        by_longer true e = record {
+          log = second.log;
+          worker = second.worker;
+          code = second.code;
+          job = second.job;
+          seen = sees ∙ (ap (λ b. cond b w.seen v.seen) e ∙ second.seen);
+          gave = second.gave;
+          low = omega (arith, starts, next, first.low, first.high, second.low);
+          high = omega (arith, ends, second.high);
+        }
+        by_longer false e = record {
+          log = first.log;
+          worker = first.worker;
+          code = first.code;
+          job = first.job;
+          seen = sees ∙ (ap (λ b. cond b w.seen v.seen) e ∙ first.seen);
+          gave = first.gave;
+          low = omega (arith, starts, first.low);
+          high = omega (arith, ends, next, first.high, second.low, second.high);
+        }
+
     pub joined_ends : (one other : Ended) → EndsAt does v one → EndsAt does w other → EndsAt does j (either_of one other)
     joined_ends Settled other first second =
         let k = joined_known Settled other first second in
@@ -155,13 +197,29 @@ module _ {W : Type 0} (does : W → ℕ → List Mark → List Mark) where
     joined_ends Spared NoMemory first second = joined_known Spared NoMemory first second
     joined_ends Spared Spared first second =
         let k = joined_known Spared Spared first second in
-        (k.0, k.1, subst (λ n. 0 < n) (sym (ap (λ (x : View (Basis W)). x.first) is)) first.2)
+        (k.0, k.1, subst (λ n. 0 < n) (sym (ap (λ (x : View (Basis W)). x.first) is)) first.2, joined_gave first.3 second.3)
 
   -- ---- what a worker does with an answer
 
   module _ {T : Type 0} (v w : View (Basis W)) (before after : CircuitView W T) (same : IsSame v w) (free : AreFree does v) (visits : Visits does v w before after) (keeps : KeepsOthers does v w) (first : Claims does w w.first None) where
     pub continues_idle : Continues does v w
     continues_idle = record { same = same; later = visit_later v w before after visits; free = all_free w (others_free v w same free keeps) first }
+
+  -- the first worker gave its job back
+  pub gave_back : {T : Type 0} (v w : View (Basis W)) (before after : CircuitView W T) (name : JobName) → IsSame v w → Visits does v w before after → v.first < v.end
+      → after.journal ≡ before.journal ++ record { worker = v.first; job = name; event = Abandon } ∷ [] → GaveBack w
+  gave_back v w before after name same visits some entry =
+      let e : Entry = record { worker = v.first; job = name; event = Abandon } in
+      record {
+        log = pairs_of before;
+        worker = v.first;
+        code = entry_code e;
+        job = code_of name;
+        seen = visits.seen ∙ (ap (map pair_of) entry ∙ map-append pair_of before.journal (e ∷ []));
+        gave = event_told e;
+        low = omega (arith, same.3);
+        high = omega (arith, same.4, some);
+      }
 
   -- the claim's end, after others were free
   pub continues_end : {T : Type 0} (v w : View (Basis W)) (before after : CircuitView W T) → IsSame v w → AreOthersFree does v → Visits does v w before after → KeepsOthers does v w → Claims does w w.first None → Continues does v w

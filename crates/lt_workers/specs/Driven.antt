@@ -1,20 +1,31 @@
 -- What a seat knows once its workers have ended.
-use Rattle.std.specs.Prelude.{◌≡◌, ◌≢◌, ℕ, ◌<◌, ◌≤◌, List, ◌++◌, Option, None, IfSome}
+use Rattle.std.specs.Prelude.{◌≡◌, ◌≢◌, ℕ, ◌<◌, ◌≤◌, List, [], ◌∷◌, ◌++◌, Option, None, IfSome}
 use Rattle.lt_model.specs.declared.mark.Mark.{Mark}
-use Rattle.lt_net.specs.Net.{State, IsSettled}
+use Rattle.lt_net.specs.Net.{State, IsSettled, Abandons}
 use Rattle.lt_turn.specs.declared.view.View.{View}
 use Rattle.lt_workers.specs.declared.held.Basis.{Basis}
 use Rattle.lt_workers.specs.declared.driving.Ended.{Ended}
 use Rattle.lt_workers.specs.declared.driving.Ended.TheVariants.{Settled, NoMemory, Spared}
-use Rattle.lt_workers.specs.Seen.{Knows, Claims, AreFree}
+use Rattle.lt_workers.specs.Seen.{event_for, Knows, Claims, AreFree}
 use Rattle.lt_workers.specs.Visit.{IsSame}
 
+-- the last that the seat has seen is that one of its workers gave a job back
+pub record GaveBack {O : Type 0} (v : View O) : Type 0 where
+  pub log : List (ℕ × ℕ)
+  pub worker : ℕ
+  pub code : ℕ
+  pub job : ℕ
+  pub seen : v.seen ≡ log ++ (worker, code) ∷ []
+  pub gave : event_for (worker, code) ≡ Abandons worker job
+  pub low : v.first ≤ worker
+  pub high : worker < v.end
+
 module _ {W : Type 0} (does : W → ℕ → List Mark → List Mark) where
-  -- what the seat has seen is legal, and settled where that is the answer; a seat with the first worker isn't spared
+  -- what the seat has seen is legal, and settled where that is the answer; spared is a seat without the first worker that gave back
   abbrev pub EndsAt : View (Basis W) → Ended → Type 0
   EndsAt v Settled = (s : State) × Knows does v s × IsSettled s
   EndsAt v NoMemory = (s : State) × Knows does v s
-  EndsAt v Spared = (s : State) × Knows does v s × (0 < v.first)
+  EndsAt v Spared = (s : State) × Knows does v s × (0 < v.first) × GaveBack v
 
   -- none of the workers but the first has a claim
   abbrev pub AreOthersFree : View (Basis W) → Type 0

@@ -2,3 +2,4 @@ pub mod Seen
 pub mod Visit
 pub mod Driven
 pub mod Seats
+pub mod Alone

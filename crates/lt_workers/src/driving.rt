@@ -8,11 +8,11 @@ ghost use Rattle.lt_workers.specs.Driven.{AreOthersFree, Drives, Goes, either_of
 ghost use denote.Param.Send.{IsSync};
 
 use crate::held::Held;
+use crate::pace::Luck;
 use crate::shared::Shared;
 use lt_circuit::{Claim, Job, LeafWork};
 use lt_edges::Gate;
 use lt_face::Moves;
-use lt_net::JobName;
 use lt_turn::Seat;
 use std::sync::Wait;
 use std::thread::{Threads, join_mut};
@@ -24,23 +24,16 @@ pub enum Ended {
     Settled,
     /// Memory was refused, and the job given back.
     NoMemory,
-    /// No leaf was left that never ran; a worker but the first then gives its job back and leaves what remains to the first. A seat
-    /// with the first worker never ends so.
+    /// A worker but the first gave its job back, since to run ahead what may be tied to others doesn't pay. A seat with the first
+    /// worker never ends so.
     Spared,
 }
 
-// Whether the worker leaves such a job to the first. One that runs ahead is given leaves that never ran, as long as there are any;
-// what it did behind them would mostly be done again, since the leaves before aren't done.
-fn is_spared(worker: u32, name: JobName) -> bool
+// Whether the worker leaves a job to the first: where it isn't the first, and to run ahead what may be tied to others doesn't pay.
+fn is_left(worker: u32, luck: &Luck, is_free: bool) -> bool
     ensures { result ≡ true → 0 < worker }
 {
-    if worker == 0 {
-        return false;
-    }
-    match name {
-        JobName::Leaf(_leaf) => false,
-        _inner => true,
-    }
+    worker > 0 && !luck.is_good() && !is_free
 }
 
 impl<W: LeafWork + Send + Sync> Shared<W>
@@ -48,7 +41,13 @@ where
     W::Tally: Send + Sync,
 {
     // Claims a job and does it. Where none is Pending it waits for others' entries.
-    fn go_on<R: Wait, G: Gate>(&self, rt: &R, seat: &mut Seat<Held<W>>, gate: &G) -> Option<Ended>
+    fn go_on<R: Wait, G: Gate>(
+        &self,
+        rt: &R,
+        seat: &mut Seat<Held<W>>,
+        gate: &G,
+        luck: &mut Luck,
+    ) -> Option<Ended>
         requires turn { IsSeatOf self.now seat.old }
         requires idle { IsIdle (view seat.old) }
         requires free { AreFree W.does (view seat.old) }
@@ -59,20 +58,21 @@ where
             Claim::Settled => Some(Ended::Settled),
             Claim::NoMemory => Some(Ended::NoMemory),
             Claim::Busy { in_flight: _ } => {
-                self.turn.wait_for_entries(rt, seat);
+                self.turn.look_for_entries(seat);
                 None
             }
-            Claim::Job(job) => self.take_up(rt, seat, job, gate),
+            Claim::Job(job) => self.take_up(rt, seat, job, gate, luck),
         }
     }
 
-    // Does the job, or gives it back, where it isn't a leaf's and the worker isn't the first.
+    // Does the job, or gives it back, where the worker isn't the first, and to run ahead what may be tied to others doesn't pay.
     fn take_up<R: Wait, G: Gate>(
         &self,
         rt: &R,
         seat: &mut Seat<Held<W>>,
         job: Job<W>,
         gate: &G,
+        luck: &mut Luck,
     ) -> Option<Ended>
         requires turn { IsSeatOf self.now seat.old }
         requires idle { IsIdle (view seat.old) }
@@ -83,11 +83,11 @@ where
         ensures turn { IsSeatOf self.now seat.new }
         ensures goes { Goes W.does (view seat.old) (view seat.new) result }
     {
-        if is_spared(seat.first(), job.name()) {
+        if is_left(seat.first(), luck, job.is_free()) {
             self.abandon(rt, seat, job);
             return Some(Ended::Spared);
         }
-        self.work_on(rt, seat, job, gate)
+        self.work_on(rt, seat, job, gate, luck)
     }
 
     // Passes the gate, does the job outside the turn, and ends the claim.
@@ -97,6 +97,7 @@ where
         seat: &mut Seat<Held<W>>,
         job: Job<W>,
         gate: &G,
+        luck: &mut Luck,
     ) -> Option<Ended>
         requires turn { IsSeatOf self.now seat.old }
         requires idle { IsIdle (view seat.old) }
@@ -111,6 +112,7 @@ where
         let mut moves: Moves<()> = Moves::new();
         match job.work(&mut moves) {
             Ok(output) => {
+                luck.note(seat.first(), gate.waits(), &output);
                 self.finish(rt, seat, output);
                 None
             }
@@ -130,8 +132,9 @@ where
         ensures turn { IsSeatOf self.now seat.new }
         ensures drives { Drives W.does (view seat.old) (view seat.new) result }
     {
+        let mut luck = Luck::start(self.runs_ahead);
         for _ in rt.forever() {
-            if let Some(ended) = self.go_on(rt, seat, gate) {
+            if let Some(ended) = self.go_on(rt, seat, gate, &mut luck) {
                 return ended;
             }
         }

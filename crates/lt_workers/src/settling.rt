@@ -5,6 +5,7 @@ ghost use Rattle.lt_net.specs.Alone.{IsUnclaimed};
 ghost use Rattle.lt_circuit.specs.Circuit.{state};
 ghost use Rattle.lt_net.specs.Net.{IsSettled};
 
+use crate::beginning::{Begun, begin};
 use crate::shared::Shared;
 use lt_circuit::{Circuit, LeafWork};
 use lt_edges::Gate;
@@ -28,7 +29,44 @@ fn settled_alone<W: LeafWork>(circuit: Circuit<W>) -> Result<Circuit<W>, NoMemor
     Ok(circuit)
 }
 
-/// The circuit after so many workers were at it, settled. What they leave, where memory was refused, one settles alone.
+// Not more workers than leaves, and one at least.
+fn needed(workers: u32, leaves: u32) -> u32
+    requires { 1 ≤ workers }
+    ensures some { 1 ≤ result }
+    ensures few { result ≤ workers }
+{
+    if leaves == 0 {
+        return 1;
+    }
+    if leaves < workers { leaves } else { workers }
+}
+
+// The circuit after so many workers were at it at the same time, settled. What they leave one settles alone.
+fn settled_by_all<R: Threads + Wait + Sync, W: LeafWork + Send + Sync, G: Gate>(
+    rt: &R,
+    alloc: Global,
+    circuit: Circuit<W>,
+    workers: u32,
+    runs_ahead: bool,
+    gate: &G,
+) -> Result<Circuit<W>, NoMemory>
+where
+    W::Tally: Send + Sync,
+    requires workers { (1 ≤ workers) × (workers ≤ most_workers) }
+    requires free { IsUnclaimed (state circuit) }
+    ensures work { IfOk result (λ done. done.work ≡ circuit.work) }
+    ensures leaves { IfOk result (λ done. done.board.leaves ≡ circuit.board.leaves) }
+    ensures settled { IfOk result (λ done. IsSettled (state done)) }
+{
+    let (mut shared, mut seat) = Shared::new(alloc, circuit, workers)?;
+    shared.runs_ahead = runs_ahead;
+    shared.fan_out(rt, &mut seat, gate);
+    settled_alone(shared.close(seat))
+}
+
+/// The circuit settled. One worker begins alone, and the others are called, no more than there are leaves, where leaves have shown
+/// to be dear; at a gate that may hold a worker until another comes all are there from the start. What they leave, where memory
+/// was refused, one settles alone.
 pub fn settle<R: Threads + Wait + Sync, W: LeafWork + Send + Sync, G: Gate>(
     rt: &R,
     alloc: Global,
@@ -44,7 +82,15 @@ where
     ensures leaves { IfOk result (λ done. done.board.leaves ≡ circuit.board.leaves) }
     ensures settled { IfOk result (λ done. IsSettled (state done)) }
 {
-    let (shared, mut seat) = Shared::new(alloc, circuit, workers)?;
-    shared.fan_out(rt, &mut seat, gate);
-    settled_alone(shared.close(seat))
+    let workers = needed(workers, circuit.leaves());
+    if gate.waits() {
+        return settled_by_all(rt, alloc, circuit, workers, true, gate);
+    }
+    let mut circuit = circuit;
+    match begin(rt, &mut circuit, gate, workers) {
+        Begun::All => settled_by_all(rt, alloc, circuit, workers, true, gate),
+        Begun::Free => settled_by_all(rt, alloc, circuit, workers, false, gate),
+        Begun::Ended => settled_alone(circuit),
+        Begun::On => settled_alone(circuit),
+    }
 }

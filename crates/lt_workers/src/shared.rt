@@ -23,6 +23,8 @@ use std::sync::Wait;
 #[derive(Drop)]
 pub struct Shared<W: LeafWork> {
     pub(crate) turn: Turn<Held<W>>,
+    /// Whether leaves are run ahead that may be tied to others. No clause speaks of it.
+    pub(crate) runs_ahead: bool,
 }
 
 impl<W: LeafWork> Shared<W> {
@@ -43,7 +45,13 @@ impl<W: LeafWork> Shared<W> {
         let _entries = circuit.journal();
         let held = Held { circuit };
         match Turn::new(alloc, held, workers) {
-            Ok((turn, seat)) => Ok((Shared { turn }, seat)),
+            Ok((turn, seat)) => Ok((
+                Shared {
+                    turn,
+                    runs_ahead: true,
+                },
+                seat,
+            )),
             Err(refused) => Err(refused),
         }
     }
@@ -142,7 +150,10 @@ impl<W: LeafWork> Shared<W> {
         ensures replayed { IsReplay (W.does result.work) result.board result.journal }
         ensures free { BeginsFree W.does (view seat) → AreFree W.does (view seat) → IsUnclaimed (state result) }
     {
-        let Self { turn } = self;
+        let Self {
+            turn,
+            runs_ahead: _,
+        } = self;
         let Held { circuit } = turn.close(seat);
         let _entries = circuit.journal();
         circuit

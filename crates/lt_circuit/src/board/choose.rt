@@ -1,11 +1,10 @@
 //! Which Pending job a worker is given.
 //!
-//! Worker 0 takes the first on the walk, so that few jobs are done twice. The others run ahead of it: each takes the lowest leaf
-//! that never ran, and where none is left the first on the walk.
+//! Worker 0 takes the first on the walk, so that few jobs are done twice. The others run ahead of it: each takes the first inner
+//! job on the walk, which is cheap and brings leaves their corrections, and where none is Pending the lowest leaf.
 #![tactic(auto)]
 
 ghost use Rattle.std.specs.Prelude.{◌≡◌, ◌≢◌, ℕ, true, false, ◌<◌, ◌^◌, None, IfSome};
-ghost use Rattle.lt_face.specs.Limits.{most_programs};
 ghost use Rattle.lt_net.specs.declared.job.JobState.TheVariants.{Pending};
 ghost use Rattle.lt_net.specs.declared.job.JobName.TheVariants.{Leaf};
 ghost use Rattle.lt_net.specs.Codes.{code_of};
@@ -15,44 +14,12 @@ use super::Board;
 use lt_net::JobName;
 
 impl Board {
-    // Whether the leaf is Pending and never ran.
-    fn is_fresh(&self, leaf: u32) -> bool
+    /// Whether the leaf is Pending and never ran.
+    pub fn is_fresh(&self, leaf: u32) -> bool
         requires { leaf < self.now.leaves }
         ensures { result ≡ true → (state_of self.now).status (code_of (Leaf leaf)) ≡ Pending }
     {
         self.done[leaf as usize].is_none() && self.is_pending(JobName::Leaf(leaf))
-    }
-
-    // The lowest leaf that is Pending and never ran, among those that weren't met before.
-    fn fresh_leaf(&self) -> Option<u32>
-        ensures some { IfSome result (λ leaf. (state_of self.now).status (code_of (Leaf leaf)) ≡ Pending) }
-        ensures small { IfSome result (λ leaf. leaf < most_programs) }
-    {
-        for leaf in self.next_fresh..self.leaves {
-            if self.is_fresh(leaf) {
-                return Some(leaf);
-            }
-        }
-        None
-    }
-
-    // That leaf, which now has been met.
-    fn next_fresh_leaf(&mut self) -> Option<u32>
-        ensures same { self.new ≡ self.old }
-        ensures some { IfSome result (λ leaf. (state_of self.old).status (code_of (Leaf leaf)) ≡ Pending) }
-        ensures small { IfSome result (λ leaf. leaf < most_programs) }
-    {
-        let found = self.fresh_leaf();
-        match found {
-            Some(leaf) => {
-                self.next_fresh = leaf + 1;
-                Some(leaf)
-            }
-            None => {
-                self.next_fresh = self.leaves;
-                None
-            }
-        }
     }
 
     /// Whether a job is Pending.
@@ -73,8 +40,8 @@ impl Board {
         if worker == 0 {
             return self.jobs.next_pending();
         }
-        match self.next_fresh_leaf() {
-            Some(leaf) => Some(JobName::Leaf(leaf)),
+        match self.jobs.next_inner() {
+            Some(job) => Some(job),
             None => self.jobs.next_pending(),
         }
     }

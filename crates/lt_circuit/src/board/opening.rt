@@ -39,7 +39,6 @@ impl Board {
             jobs,
             done,
             holders,
-            next_fresh: 0,
         })
     }
 }

@@ -2,11 +2,13 @@
 use super::{Seat, Turn};
 use crate::story::Story;
 use std::hint::spin_loop;
-use std::sync::Wait;
 use std::thread::yield_now;
 
 /// How often one looks before it lets other threads go on.
 const LOOKS: u32 = 64;
+
+/// How often one lets other threads go on before it asks again.
+const PAUSES: u32 = 64;
 
 impl<T: Story> Turn<T> {
     // Whether the turn is free within some looks.
@@ -31,14 +33,14 @@ impl<T: Story> Turn<T> {
         false
     }
 
-    /// Waits until others have added entries to what the seat gave back. Meanwhile it doesn't take the turn.
-    pub fn wait_for_entries<R: Wait>(&self, rt: &R, seat: &Seat<T>) {
-        for _ in rt.forever() {
+    /// Looks for entries of others behind what the seat gave back, some times, and lets other threads go on in between. It doesn't
+    /// wait for any, and doesn't take the turn.
+    pub fn look_for_entries(&self, seat: &Seat<T>) {
+        for _pause in 0..PAUSES {
             if self.has_soon_others(seat.left) {
                 return;
             }
             yield_now();
         }
-        unreachable!()
     }
 }

@@ -1,5 +1,5 @@
 use Rattle.lt_workers.proofs.Continuing.{begins_then}
-use Rattle.lt_workers.proofs.settling.settle.Goals as goal
+use Rattle.lt_workers.proofs.settling.settled_by_all.Goals as goal
 
 pub settled_alone-requires : goal.settled_alone-requires
 settled_alone-requires g c = record {

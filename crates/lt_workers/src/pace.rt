@@ -1,0 +1,115 @@
+//! How dear leaves are, and whether it pays to run them ahead. No clause speaks of it.
+use lt_circuit::{LeafWork, Output};
+
+/// Leaves below this weight in the mean aren't worth to be run ahead.
+const DEAR: usize = 128;
+
+/// What may be run ahead isn't worth a thread below this weight.
+const WORTH: usize = 1024;
+
+/// How many leaves are looked at, whether they are tied to those before them.
+const LOOKS: u32 = 2;
+
+/// What is known of the leaves that one worker alone has run in their order.
+#[derive(Drop)]
+pub(crate) struct Pace {
+    left: u32,
+    ran: u32,
+    weight: usize,
+    loose: u32,
+    tied: u32,
+}
+
+impl Pace {
+    /// None of so many leaves has run.
+    pub(crate) fn start(leaves: u32) -> Pace {
+        Pace {
+            left: leaves,
+            ran: 0,
+            weight: 0,
+            loose: 0,
+            tied: 0,
+        }
+    }
+
+    /// A job is done. An inner node's tells nothing.
+    pub(crate) fn note<W: LeafWork>(&mut self, output: &Output<W>) {
+        let Some(weight) = output.weight() else {
+            return;
+        };
+        self.ran = self.ran.saturating_add(1);
+        self.weight = self.weight.saturating_add(weight);
+        self.left = self.left.saturating_sub(1);
+        if self.is_worth(self.left) && self.loose.saturating_add(self.tied) < LOOKS {
+            self.note_tie(output.is_tied());
+        }
+    }
+
+    // A leaf that may be tied to others is, or isn't.
+    fn note_tie(&mut self, tie: Option<bool>) {
+        match tie {
+            None => {}
+            Some(true) => {
+                self.tied = self.tied.saturating_add(1);
+            }
+            Some(false) => {
+                self.loose = self.loose.saturating_add(1);
+            }
+        }
+    }
+
+    /// Whether so many leaves are worth to be run ahead.
+    pub(crate) fn is_worth(&self, leaves: u32) -> bool {
+        let ran = self.ran as usize;
+        if ran == 0 || leaves < 2 || self.weight < ran.saturating_mul(DEAR) {
+            return false;
+        }
+        self.weight.saturating_mul(leaves as usize) >= ran.saturating_mul(WORTH)
+    }
+
+    /// Whether the leaves that are left are worth to be run ahead, though they may be tied to others.
+    pub(crate) fn runs_ahead(&self) -> bool {
+        self.loose > self.tied && self.is_worth(self.left)
+    }
+}
+
+/// What came of leaves that a worker ran once more.
+#[derive(Drop)]
+pub(crate) struct Luck {
+    runs_ahead: bool,
+    kept: u32,
+    vain: u32,
+}
+
+impl Luck {
+    /// Nothing ran yet.
+    pub(crate) fn start(runs_ahead: bool) -> Luck {
+        Luck {
+            runs_ahead,
+            kept: 0,
+            vain: 0,
+        }
+    }
+
+    /// A worker's job is done. Only a leaf's that had run before tells something, and only of another than the first worker, at a
+    /// gate that holds nobody.
+    pub(crate) fn note<W: LeafWork>(&mut self, worker: u32, waits: bool, output: &Output<W>) {
+        if worker == 0 || waits || !output.is_again() {
+            return;
+        }
+        match output.is_tied() {
+            None => {}
+            Some(true) => {
+                self.vain = self.vain.saturating_add(1);
+            }
+            Some(false) => {
+                self.kept = self.kept.saturating_add(1);
+            }
+        }
+    }
+
+    /// Whether leaves are run ahead that may be tied to others.
+    pub(crate) fn is_good(&self) -> bool {
+        self.runs_ahead && self.vain <= self.kept
+    }
+}
