@@ -251,6 +251,19 @@ impl Tally {
         &self.course.reply
     }
 
+    /// The reply of the statements evaluated; the rest is given up.
+    pub fn into_reply(self) -> Reply
+        ensures reply { result ≡ self.reply }
+        ensures printed { AreReplied result }
+    {
+        let Tally {
+            prog: _,
+            base: _,
+            course,
+        } = self;
+        course.reply
+    }
+
     /// The marks of the statements evaluated.
     pub fn marks(&self) -> &Marks
         ensures marks { result.now ≡ self.now.marks }

@@ -1,0 +1,4 @@
+pub mod Beginnings
+pub mod Moves
+pub mod Adding
+pub mod Fitting

@@ -1,0 +1,4 @@
+pub mod Boards
+pub mod Lists
+pub mod History
+pub mod Passes
