@@ -1,7 +1,6 @@
 -- A leaf's run, and what its prior says of it.
 use Rattle.std.proofs.Common.{◌≡◌, ℕ, zero, suc, ◌+◌, ◌<◌, ◌≤◌, get_or, Bor, Bool, true, false, not, List, [], ◌∷◌, length, map, Option, Some, None, refl, sym, ap, ◌∙◌, inl, inr, subst, arith}
 use Rattle.std.specs.Prelude.{if◌then◌else◌, slice_index_or, unwrap_or, is_some, ◌⊎◌, IfSome}
-use Rattle.std.specs.Option.{option_map}
 use Rattle.std.specs.List.{list_any}
 use Rattle.lt_face.specs.Rows.{has_row}
 use Rattle.lt_face.specs.State.{Row, State, AgreeOn, rows_in}
@@ -14,14 +13,14 @@ use Rattle.lt_model.specs.declared.reply.Reply.{Reply}
 use Rattle.lt_base.specs.Changed.{differ_on}
 use Rattle.lt_base.specs.Tables.{Table, state_of}
 use Rattle.lt_base.proofs.Apart.{alike, with_marks}
-use Rattle.lt_program.specs.Run.{reads_rows}
+use Rattle.lt_program.specs.Run.{reads_marked_in}
 use Rattle.lt_program.specs.Tally.{TallyView, IsRun, has_ended}
 use Rattle.lt_restate.specs.Walked.{is_named}
 use Rattle.lt_batch.specs.declared.leaf.LeafTally.{LeafTally}
 use Rattle.lt_batch.specs.Batch.{program_at}
-use Rattle.lt_batch.specs.LeafRun.{StandsFor}
-use Rattle.lt_batch.specs.Priors.{IsPriorOf, run_bound, leaf_bound}
-use Rattle.lt_batch.specs.Work.{BatchView, FitsBatch, base_on}
+use Rattle.lt_batch.specs.LeafRun.{IsTallyOn, IsRunOn, StandsFor}
+use Rattle.lt_batch.specs.Priors.{IsPriorOf, IsRestated, run_bound, leaf_bound}
+use Rattle.lt_batch.specs.Work.{BatchView, FitsBatch, marks_for, base_on, batch_does}
 
 -- a row that neither list marks is said the same of by both, and so the states agree on it
 pub marked_or_agree : (a b : Marks) (s t : State) → ((relation : ℕ) (row : Row) → mark_on a relation row ≡ mark_on b relation row → AgreeOn s t relation row) → (relation : ℕ) (row : Row) → AgreeOn s t relation row ⊎ ((is_named a relation row ≡ true) ⊎ (is_named b relation row ≡ true))
@@ -43,51 +42,118 @@ agree_laid snapshot c d fit fits relation row same =
     alike (laid snapshot c) (laid snapshot d) relation row (same_not_apart (laid snapshot c) (laid snapshot d) relation row (unwrap_or (mark_on d relation row) (has_row (rows_in snapshot relation) row))
     (with_marks snapshot c relation row fit ∙ ap (λ (o : Option Bool). unwrap_or o (has_row (rows_in snapshot relation) row)) same) (with_marks snapshot d relation row fits))
 
-pub agree_at : (program : List Stmt) (snapshot : State) (c d : Marks) → FitMarks snapshot c → FitMarks snapshot d → (relation : ℕ) (row : Row) → mark_on c relation row ≡ mark_on d relation row → AgreeOn (base_on program snapshot c) (base_on program snapshot d) relation row
-agree_at program snapshot c d fit fits relation row same = go (list_any reads_rows program)
-  where
-    go : (b : Bool) → AgreeOn (if b then laid snapshot c else snapshot) (if b then laid snapshot d else snapshot) relation row
-    go true = agree_laid snapshot c d fit fits relation row same
-    go false = (λ there. there, λ there. there)
+-- ---- a restatement
 
-pub prior_is : (work : BatchView) (i : ℕ) (program : List Stmt) (next : State) (c on : Marks) (old : LeafTally) → StandsFor work old i c → FitsBatch work c → FitsBatch work on → program_at work.programs i ≡ program → next ≡ base_on program (state_of work.snapshot) on → IsPriorOf program next on old
-prior_is work i program next c on old h fit fits is next_is = record {
-  program = h.program ∙ is;
-  ended = h.ended;
-  agree = λ relation row same.
-      (let old_is : state_of old.run.base ≡ base_on program (state_of work.snapshot) c = h.base ∙ ap (λ (p : List Stmt). base_on p (state_of work.snapshot) c) is in
-      let marks : mark_on c relation row ≡ mark_on on relation row = ap (λ (m : Marks). mark_on m relation row) (sym h.correction) ∙ same in
-      subst (λ (s : State). AgreeOn (state_of old.run.base) s relation row) (sym next_is)
-      (subst (λ (s : State). AgreeOn s (base_on program (state_of work.snapshot) on) relation row) (sym old_is) (agree_at program (state_of work.snapshot) c on fit.0 fits.0 relation row marks)));
-}
+-- what a restatement asks of the bases, of two lists of marks laid on the snapshot
+pub bases_marked : (snapshot s t : State) (c d old_on : Marks) → s ≡ laid snapshot c → t ≡ laid snapshot d → old_on ≡ c → FitMarks snapshot c → FitMarks snapshot d
+    → (relation : ℕ) (row : Row) → AgreeOn s t relation row ⊎ ((is_named old_on relation row ≡ true) ⊎ (is_named d relation row ≡ true))
+bases_marked snapshot s t c d old_on s_is t_is on_is fit fits =
+    subst (λ (x : State). (relation : ℕ) (row : Row) → AgreeOn x t relation row ⊎ ((is_named old_on relation row ≡ true) ⊎ (is_named d relation row ≡ true))) (sym s_is)
+    (subst (λ (y : State). (relation : ℕ) (row : Row) → AgreeOn (laid snapshot c) y relation row ⊎ ((is_named old_on relation row ≡ true) ⊎ (is_named d relation row ≡ true))) (sym t_is)
+    (subst (λ (m : Marks). (relation : ℕ) (row : Row) → AgreeOn (laid snapshot c) (laid snapshot d) relation row ⊎ ((is_named m relation row ≡ true) ⊎ (is_named d relation row ≡ true))) (sym on_is)
+    (marked_or_agree c d (laid snapshot c) (laid snapshot d) (agree_laid snapshot c d fit fits))))
+
+-- a tally is its own restatement, without a touch
+pub itself_restated : (t : TallyView) → IsRestated t t
+itself_restated t = (
+  [],
+  record {
+    each = tt;
+    in_order = tt;
+    mended = λ j h. absurd h.1;
+    others = λ j part there below. inr (record { agree = λ relation row covered. (λ k. k, λ k. k); same = there });
+  },
+)
+
+-- a tally that was kept is a restatement of the one before
+pub kept_restated : (prior : Option (Bor LeafTally)) (old : Bor LeafTally) (tally : LeafTally) → prior ≡ Some old → tally ≡ old.now → IfSome prior (λ (before : Bor LeafTally). IsRestated before.now.run tally.run)
+kept_restated prior old tally is same =
+    subst (λ (o : Option (Bor LeafTally)). IfSome o (λ (before : Bor LeafTally). IsRestated before.now.run tally.run)) (sym is)
+    (subst (λ (t : LeafTally). IsRestated old.now.run t.run) (sym same) (itself_restated old.now.run))
 
 -- ---- a leaf's run
 
-pub prior_for : (o : Option (Bor LeafTally)) (work : BatchView) (i : ℕ) (program : List Stmt) (next : State) (on : Marks) → FitsBatch work on → program_at work.programs i ≡ program → next ≡ base_on program (state_of work.snapshot) on
-    → IfSome o (λ (old : Bor LeafTally). (c : Marks) × FitsBatch work c × StandsFor work old.now i c) → IfSome o (λ (old : Bor LeafTally). IsPriorOf program next on old.now)
-prior_for None work i program next on fits is next_is h = tt
-prior_for (Some old) work i program next on fits is next_is h = prior_is work i program next h.0 on old.now h.2 h.1 fits is next_is
+-- marks that fit a state fit it also where a program's run needs none of them laid
+pub fits_for : (program : List Stmt) (s : State) (c : Marks) → FitMarks s c → FitMarks s (marks_for program c)
+fits_for program s c fit = go (list_any (reads_marked_in c) program)
+  where
+    go : (b : Bool) → FitMarks s (if b then c else [])
+    go true = fit
+    go false = tt
 
-pub bound_kept : (prior : Option LeafTally) (work : BatchView) (i : ℕ) (program : List Stmt) (next : State) (on : Marks) (m n : ℕ) → program_at work.programs i ≡ program → next ≡ base_on program (state_of work.snapshot) on
-    → n ≤ m + run_bound prior program next → IfSome (leaf_bound work prior i on) (λ most. n ≤ m + most)
-bound_kept prior work i program next on m n is next_is h =
-    let there : n ≤ m + run_bound prior program (base_on program (state_of work.snapshot) on) = subst (λ (s : State). n ≤ m + run_bound prior program s) next_is h in
-    subst (λ (p : List Stmt). n ≤ m + run_bound prior p (base_on p (state_of work.snapshot) on)) (sym is) there
+pub prior_for : (o : Option (Bor LeafTally)) (work : BatchView) (i : ℕ) (program : List Stmt) (snapshot : State) → program_at work.programs i ≡ program → state_of work.snapshot ≡ snapshot
+    → IfSome o (λ (old : Bor LeafTally). (c : Marks) × FitsBatch work c × StandsFor work old.now i c) → IfSome o (λ (old : Bor LeafTally). IsPriorOf program snapshot old.now)
+prior_for None work i program snapshot is on h = tt
+prior_for (Some old) work i program snapshot is on h =
+    subst (λ (p : List Stmt). IsPriorOf p snapshot old.now) is
+    (subst (λ (s : State). IsPriorOf (program_at work.programs i) s old.now) on
+    (marks_for (program_at work.programs i) h.0, fits_for (program_at work.programs i) (state_of work.snapshot) h.0 h.1.0, h.2.ran))
+
+pub bound_kept : (prior : Option LeafTally) (work : BatchView) (i : ℕ) (program : List Stmt) (snapshot : State) (laid_on on : Marks) (m n : ℕ) → program_at work.programs i ≡ program → state_of work.snapshot ≡ snapshot → laid_on ≡ marks_for program on
+    → n ≤ m + run_bound prior program (laid snapshot laid_on) → IfSome (leaf_bound work prior i on) (λ most. n ≤ m + most)
+bound_kept prior work i program snapshot laid_on on m n is snapshot_is on_is h =
+    let there : n ≤ m + run_bound prior program (base_on program snapshot on) = subst (λ (c : Marks). n ≤ m + run_bound prior program (laid snapshot c)) on_is h in
+    let here : n ≤ m + run_bound prior program (base_on program (state_of work.snapshot) on) = subst (λ (s : State). n ≤ m + run_bound prior program (base_on program s on)) (sym snapshot_is) there in
+    subst (λ (p : List Stmt). n ≤ m + run_bound prior p (base_on p (state_of work.snapshot) on)) (sym is) here
+
+pub stands_is : (work : BatchView) (i : ℕ) (program : List Stmt) (snapshot : State) (laid_on on : Marks) (tally : LeafTally) → program_at work.programs i ≡ program → state_of work.snapshot ≡ snapshot → laid_on ≡ marks_for program on
+    → run program (laid snapshot laid_on) ≡ run program (laid snapshot on) → IsRunOn program snapshot laid_on tally → StandsFor work tally i on
+stands_is work i program snapshot laid_on on tally is snapshot_is on_is runs h =
+    (let all = subst (λ (p : List Stmt). Stands p (state_of work.snapshot)) (sym is) (subst (Stands program) (sym snapshot_is) here) in record { ran = all.0; reply = all.1; marks = all.2 })
+  where
+    Stands : List Stmt → State → Type 0
+    Stands p s = IsRunOn p s (marks_for p on) tally × (tally.run.reply ≡ (run p (laid s on)).0) × (tally.run.marks ≡ (run p (laid s on)).1)
+
+    here : Stands program snapshot
+    here = (subst (λ (c : Marks). IsRunOn program snapshot c tally) on_is h, h.run.reply ∙ ap (λ (out : Reply × Marks). out.0) runs, h.run.marks ∙ ap (λ (out : Reply × Marks). out.1) runs)
 
 pub item_at : {X : Type 0} (f : X → List Stmt) (xs : List X) (i : ℕ) (x : X) → i < length xs → x ≡ get_or xs i x → slice_index_or (map f xs) i [] ≡ f x
 item_at f [] i x lt is = absurd (omega arith)
 item_at f (y ∷ xs) zero x lt is = ap f (sym is)
 item_at f (y ∷ xs) (suc i) x lt is = item_at f xs i x (omega arith) is
 
-pub stands_is : (work : BatchView) (i : ℕ) (on correction effect : Marks) (program : List Stmt) (base : List Table) (t : TallyView) → program_at work.programs i ≡ program → state_of base ≡ base_on program (state_of work.snapshot) on → run program (state_of base) ≡ run program (laid (state_of work.snapshot) on) → correction ≡ on → effect ≡ t.marks
-    → t.program ≡ program → t.base ≡ base → IsRun t → has_ended t ≡ true → t.reply ≡ (run program (state_of base)).0 → t.marks ≡ (run program (state_of base)).1 → StandsFor work (record { run = t; correction = correction; effect = effect }) i on
-stands_is work i on correction effect program base t is base_is runs same same_effect p b ran ended reply marks = record {
-  correction = same;
-  effect = same_effect;
-  program = p ∙ sym is;
-  base = ap state_of b ∙ base_is ∙ ap (λ (q : List Stmt). base_on q (state_of work.snapshot) on) (sym is);
+-- ---- what of a correction is laid
+
+pub lays_all : (program xs : List Stmt) (c on : Marks) (b : Bool) → xs ≡ program → b ≡ list_any (reads_marked_in c) xs → b ≡ true → on ≡ c → on ≡ marks_for program c
+lays_all program xs c on b is value reads same =
+    same ∙ sym (ap (λ (x : Bool). if x then c else []) (ap (list_any (reads_marked_in c)) (sym is) ∙ sym value ∙ reads))
+
+pub lays_none : (program xs : List Stmt) (c on : Marks) (b : Bool) → xs ≡ program → b ≡ list_any (reads_marked_in c) xs → b ≡ false → on ≡ [] → on ≡ marks_for program c
+lays_none program xs c on b is value reads same =
+    same ∙ sym (ap (λ (x : Bool). if x then c else []) (ap (list_any (reads_marked_in c)) (sym is) ∙ sym value ∙ reads))
+
+pub runs_none : (program xs : List Stmt) (c on : Marks) → xs ≡ program → ((s : State) → run xs s ≡ run xs (laid s c)) → on ≡ [] → (s : State) → run program (laid s on) ≡ run program (laid s c)
+runs_none program xs c on is same none s =
+    ap (λ (m : Marks). run program (laid s m)) none ∙ subst (λ (p : List Stmt). run p s ≡ run p (laid s c)) is (same s)
+
+-- ---- tallies on the snapshot with marks laid on it
+
+pub tally_is : (program : List Stmt) (snapshot : State) (on : Marks) (base : List Table) (t : TallyView) → state_of base ≡ laid snapshot on → t.program ≡ program → t.base ≡ base → has_ended t ≡ true → IsRun t
+    → t.reply ≡ (run program (state_of base)).0 → t.marks ≡ (run program (state_of base)).1 → IsTallyOn program snapshot on t
+tally_is program snapshot on base t state_is p b ended ran reply marks = record {
+  program = p;
+  base = ap state_of b ∙ state_is;
   is_run = ran;
   ended = ended;
-  reply = reply ∙ ap (λ (out : Reply × Marks). out.0) runs ∙ ap (λ (q : List Stmt). (run q (laid (state_of work.snapshot) on)).0) (sym is);
-  marks = marks ∙ ap (λ (out : Reply × Marks). out.1) runs ∙ ap (λ (q : List Stmt). (run q (laid (state_of work.snapshot) on)).1) (sym is);
+  reply = reply ∙ ap (λ (s : State). (run program s).0) state_is;
+  marks = marks ∙ ap (λ (s : State). (run program s).1) state_is;
 }
+
+-- the old run, where its marks and the new ones are none
+pub same_run : (program : List Stmt) (snapshot : State) (on : Marks) (old : LeafTally) → IsPriorOf program snapshot old → old.correction ≡ [] → on ≡ [] → IsRunOn program snapshot on old
+same_run program snapshot on old prior none empty = subst (λ (c : Marks). IsRunOn program snapshot c old) (sym prior.2.correction ∙ none ∙ sym empty) prior.2
+
+pub kept_is : (program : List Stmt) (snapshot : State) (on : Marks) (t : TallyView) (tally : LeafTally) → IsTallyOn program snapshot on t → tally.run ≡ t → tally.correction ≡ on → tally.effect ≡ t.marks → IsRunOn program snapshot on tally
+kept_is program snapshot on t tally is ran correction effect = record {
+  run = subst (IsTallyOn program snapshot on) (sym ran) is;
+  correction = correction;
+  effect = effect ∙ ap (λ (x : TallyView). x.marks) (sym ran);
+}
+
+-- what the program writes there fits the snapshot, where what it does on the corrected one does
+pub written_fits : (work : BatchView) (i : ℕ) (program : List Stmt) (snapshot : State) (laid_on on : Marks) → program_at work.programs i ≡ program → state_of work.snapshot ≡ snapshot
+    → run program (laid snapshot laid_on) ≡ run program (laid snapshot on) → FitMarks (state_of work.snapshot) (batch_does work i on) → FitMarks snapshot (run program (laid snapshot laid_on)).1
+written_fits work i program snapshot laid_on on is snapshot_is runs fit =
+    subst (λ (out : Reply × Marks). FitMarks snapshot out.1) (sym runs)
+    (subst (λ (s : State). FitMarks s (run program (laid s on)).1) snapshot_is
+    (subst (λ (p : List Stmt). FitMarks (state_of work.snapshot) (run p (laid (state_of work.snapshot) on)).1) is fit))

@@ -1,20 +1,33 @@
 -- What a leaf's tally stands for.
-use Rattle.std.specs.Prelude.{◌≡◌, ℕ, true}
-use Rattle.lt_model.specs.Marks.{Marks}
+use Rattle.std.specs.Prelude.{◌≡◌, ℕ, true, List}
+use Rattle.lt_face.specs.State.{State}
+use Rattle.lt_model.specs.declared.normal.Stmt.{Stmt}
+use Rattle.lt_model.specs.Marks.{Marks, laid}
+use Rattle.lt_model.specs.Run.{run as run_of}
 use Rattle.lt_base.specs.Tables.{state_of}
-use Rattle.lt_program.specs.Tally.{IsRun, has_ended}
+use Rattle.lt_program.specs.Tally.{TallyView, IsRun, has_ended}
 use Rattle.lt_batch.specs.declared.leaf.LeafTally.{LeafTally}
 use Rattle.lt_batch.specs.Batch.{program_at, run_at}
-use Rattle.lt_batch.specs.Work.{BatchView, base_at}
+use Rattle.lt_batch.specs.Work.{BatchView, marks_for}
 
--- The whole run of program i on the snapshot with the correction laid on it. One that reads no relation is as well run
--- on the snapshot itself.
-pub record StandsFor (work : BatchView) (tally : LeafTally) (i : ℕ) (on : Marks) : Type 0 where
+-- the whole run of the program on the snapshot with these marks laid on it
+pub record IsTallyOn (prog : List Stmt) (snapshot : State) (on : Marks) (run : TallyView) : Type 0 where
+  pub program : run.program ≡ prog
+  pub base : state_of run.base ≡ laid snapshot on
+  pub is_run : IsRun run
+  pub ended : has_ended run ≡ true
+  pub reply : run.reply ≡ (run_of prog (laid snapshot on)).0
+  pub marks : run.marks ≡ (run_of prog (laid snapshot on)).1
+
+-- such a run, kept with the marks that were laid and with those that it writes
+pub record IsRunOn (prog : List Stmt) (snapshot : State) (on : Marks) (tally : LeafTally) : Type 0 where
+  pub run : IsTallyOn prog snapshot on tally.run
   pub correction : tally.correction ≡ on
   pub effect : tally.effect ≡ tally.run.marks
-  pub program : tally.run.program ≡ program_at work.programs i
-  pub base : state_of tally.run.base ≡ base_at work i on
-  pub is_run : IsRun tally.run
-  pub ended : has_ended tally.run ≡ true
+
+-- The whole run of program i on the snapshot with the correction laid on it. One that reads no relation that the correction
+-- has a mark on is as well run on the snapshot itself.
+pub record StandsFor (work : BatchView) (tally : LeafTally) (i : ℕ) (on : Marks) : Type 0 where
+  pub ran : IsRunOn (program_at work.programs i) (state_of work.snapshot) (marks_for (program_at work.programs i) on) tally
   pub reply : tally.run.reply ≡ (run_at work.programs (state_of work.snapshot) i on).0
   pub marks : tally.run.marks ≡ (run_at work.programs (state_of work.snapshot) i on).1

@@ -1,22 +1,20 @@
 -- What a leaf's prior tally is for.
-use Rattle.std.specs.Prelude.{◌≡◌, ℕ, true, List, Option, Some, None}
-use Rattle.lt_face.specs.State.{Row, State, AgreeOn}
+use Rattle.std.specs.Prelude.{ℕ, List, Option, Some, None}
+use Rattle.lt_face.specs.State.{State}
 use Rattle.lt_model.specs.declared.normal.Stmt.{Stmt}
-use Rattle.lt_model.specs.Laws.{mark_on}
+use Rattle.lt_model.specs.Fits.{FitMarks}
 use Rattle.lt_model.specs.Marks.{Marks}
-use Rattle.lt_base.specs.Tables.{state_of}
-use Rattle.lt_program.specs.Tally.{TallyView, cost_of_first, ends_at, has_ended}
+use Rattle.lt_program.specs.Tally.{TallyView, cost_of_first, ends_at}
 use Rattle.lt_restate.specs.declared.touch.Touch.{Touch}
 use Rattle.lt_restate.specs.Touches.{AreTouches, cost_again}
 use Rattle.lt_batch.specs.declared.leaf.LeafTally.{LeafTally}
 use Rattle.lt_batch.specs.Batch.{program_at}
+use Rattle.lt_batch.specs.LeafRun.{IsRunOn}
 use Rattle.lt_batch.specs.Work.{BatchView, base_at}
 
--- a whole run of the program, whose base agrees with this state wherever its correction says what this one does
-pub record IsPriorOf (prog : List Stmt) (next : State) (on : Marks) (old : LeafTally) : Type 0 where
-  pub program : old.run.program ≡ prog
-  pub ended : has_ended old.run ≡ true
-  pub agree : (relation : ℕ) (row : Row) → mark_on old.correction relation row ≡ mark_on on relation row → AgreeOn (state_of old.run.base) next relation row
+-- a whole run of the program on the snapshot, with some marks laid on it that fit it
+abbrev pub IsPriorOf : List Stmt → State → LeafTally → Type 0
+IsPriorOf program snapshot old = (on : Marks) × FitMarks snapshot on × IsRunOn program snapshot on old
 
 -- what the touches of a restatement say of the two tallies
 abbrev pub IsRestated : TallyView → TallyView → Type 0

@@ -1,5 +1,5 @@
 -- The work of a batch: its leaves are the programs.
-use Rattle.std.specs.Prelude.{ℕ, ◌<◌, ◌≤◌, List, length, if◌then◌else◌}
+use Rattle.std.specs.Prelude.{ℕ, ◌<◌, ◌≤◌, List, [], length, if◌then◌else◌}
 use Rattle.std.specs.List.{AllByRecursion, list_any}
 use Rattle.lt_face.specs.Limits.{most_columns}
 use Rattle.lt_face.specs.State.{State, Relation}
@@ -8,7 +8,7 @@ use Rattle.lt_model.specs.Fits.{Fits, FitMarks}
 use Rattle.lt_model.specs.Marks.{Marks, AreMarks, laid}
 use Rattle.lt_model.specs.State.{IsState}
 use Rattle.lt_base.specs.Tables.{Table, state_of}
-use Rattle.lt_program.specs.Run.{reads_rows}
+use Rattle.lt_program.specs.Run.{reads_marked_in}
 use Rattle.lt_program.specs.Tally.{HasIndexes}
 use Rattle.lt_batch.specs.Batch.{program_at, does_at}
 
@@ -32,9 +32,14 @@ pub record IsBatch (snapshot : List Table) (programs : List (List Stmt)) : Type 
   pub runnable : AreRunnable (state_of snapshot) programs
   pub indexed : AllByRecursion (HasIndexes snapshot) programs
 
--- the state that a program with this correction runs on: one that reads no relation is as well run on the snapshot itself
+-- what of a correction is laid on the snapshot before a program: all of it, or nothing where the program reads no relation that
+-- one of its marks is on
+abbrev pub marks_for : List Stmt → Marks → Marks
+marks_for program on = if list_any (reads_marked_in on) program then on else []
+
+-- the state that a program with this correction runs on
 abbrev pub base_on : List Stmt → State → Marks → State
-base_on program snapshot on = if list_any reads_rows program then laid snapshot on else snapshot
+base_on program snapshot on = laid snapshot (marks_for program on)
 
 abbrev pub base_at : BatchView → ℕ → Marks → State
 base_at work i on = base_on (program_at work.programs i) (state_of work.snapshot) on

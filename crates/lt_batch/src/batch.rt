@@ -25,15 +25,6 @@ use std::alloc::Global;
 use std::sync::{Arc, Wait};
 use std::thread::Threads;
 
-/// How many workers are called: no more than there are programs, since a leaf is the least that is done at once. So a batch
-/// of one program starts no thread.
-fn workers_for(programs: u32, workers: u32) -> u32
-    requires { (1 ≤ workers) × (workers ≤ most_workers) }
-    ensures { (1 ≤ result) × (result ≤ most_workers) }
-{
-    workers.min(programs).max(1)
-}
-
 /// The circuit over the programs, settled, with the work that it does.
 fn settled<R: Threads + Wait + Sync, G: Gate>(
     rt: &R,
@@ -58,8 +49,7 @@ fn settled<R: Threads + Wait + Sync, G: Gate>(
     let work = Arc::new(alloc, work)?;
     let leaves = progs.len() as u32;
     let circuit = Circuit::start(alloc, work.clone()?, leaves)?;
-    let called = workers_for(leaves, workers);
-    let circuit = settle(rt, alloc, circuit, called, gate)?;
+    let circuit = settle(rt, alloc, circuit, workers, gate)?;
     let _entries = circuit.journal();
     Ok((work, circuit))
 }

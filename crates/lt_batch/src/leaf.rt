@@ -2,8 +2,8 @@
 use lt_delta::Marks;
 use lt_program::Tally;
 
-/// The run of a program, the correction that was laid on the snapshot before it, and what it writes: the marks of the run, with
-/// what they do to each index of the snapshot.
+/// The run of a program, what of its correction was laid on the snapshot before it, and what it writes: the marks of the run,
+/// with what they do to each index of the snapshot.
 #[derive(Drop)]
 pub struct LeafTally {
     pub run: Tally,

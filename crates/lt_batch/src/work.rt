@@ -1,18 +1,19 @@
 //! The work of a batch: its programs as the leaves of a circuit.
-ghost use Rattle.std.specs.Prelude.{◌≡◌, ◌<◌, ◌≤◌, ◌+◌, ℕ, List, true, map, length, IfOk, IfSome};
+ghost use Rattle.std.specs.Prelude.{◌≡◌, ◌<◌, ◌≤◌, ◌+◌, ℕ, [], map, length, IfOk, IfSome, IsTrue};
+ghost use Rattle.lt_face.specs.State.{State};
 ghost use Rattle.std.specs.Arc.{arc_value};
 ghost use Rattle.std.specs.List.{AllByRecursion};
 ghost use Rattle.std.specs.Option.{option_map};
 ghost use Rattle.lt_model.specs.Fits.{Fits, FitMarks};
 ghost use Rattle.lt_model.specs.Marks.{Marks as MarksView, laid};
 ghost use Rattle.lt_model.specs.Run.{run as run_of};
-ghost use Rattle.lt_base.specs.Tables.{state_of, has_index};
-ghost use Rattle.lt_program.specs.Tally.{HasIndexes, IsRun, ends_at, has_ended};
+ghost use Rattle.lt_base.specs.Tables.{state_of};
+ghost use Rattle.lt_program.specs.Tally.{HasIndexes, cost_of_first, ends_at};
 ghost use Rattle.lt_query.specs.Planned.{HaveWidths};
 ghost use Rattle.lt_restate.specs.Touches.{cost_again};
-ghost use Rattle.lt_batch.specs.LeafRun.{StandsFor};
+ghost use Rattle.lt_batch.specs.LeafRun.{IsTallyOn, IsRunOn, StandsFor};
 ghost use Rattle.lt_batch.specs.Priors.{IsPriorOf, IsRestated, run_bound, leaf_bound};
-ghost use Rattle.lt_batch.specs.Work.{AreRunnable, FitsBatch, IsLeaf, base_on};
+ghost use Rattle.lt_batch.specs.Work.{AreRunnable, FitsBatch, IsLeaf, marks_for};
 
 use crate::indexing::all_indexed;
 use crate::leaf::LeafTally;
@@ -23,7 +24,7 @@ use lt_delta::Marks;
 use lt_face::memory::NoMemory;
 use lt_face::moves::Moves;
 use lt_model::normal::Prog;
-use lt_program::{Tally, reads, run};
+use lt_program::{Tally, reads, reads_marked, run};
 use lt_query::laws::plans_of_bodies;
 use lt_query::{Planned, plan_all};
 use lt_restate::restate_marks;
@@ -88,78 +89,148 @@ fn look_over(db: &Database, progs: &[Arc<Prog>])
     db.look_over();
 }
 
-/// The database that a program with this correction runs on: the snapshot with the correction laid on it, or the snapshot
-/// itself where the program reads no relation, since it does the same there.
-fn corrected(snapshot: &Database, prog: &Planned, correction: &Marks) -> Result<Database, NoMemory>
-    requires { FitMarks (state_of snapshot.now) correction.now }
-    ensures base { IfOk result (λ db. state_of db ≡ base_on prog.now (state_of snapshot.now) correction.now) }
-    ensures fits { IfOk result (λ db. Fits (state_of snapshot.now) prog.now → Fits (state_of db) prog.now) }
-    ensures indexes { IfOk result (λ db. (relation : ℕ) (columns : List ℕ) → has_index db relation columns ≡ has_index snapshot.now relation columns) }
-    ensures run { IfOk result (λ db. run_of prog.now (state_of db) ≡ run_of prog.now (laid (state_of snapshot.now) correction.now)) }
+/// What of a correction is laid on the snapshot before a program: all of it, or nothing where the program reads no relation
+/// that one of its marks is on, since it does the same there.
+fn marks_to_lay(prog: &Planned, correction: &Marks) -> Result<Marks, NoMemory>
+    ensures marks { IfOk result (λ on. on ≡ marks_for prog.now correction.now) }
+    ensures run { IfOk result (λ on. (s : State) → run_of prog.now (laid s on) ≡ run_of prog.now (laid s correction.now)) }
+    ensures fits { IfOk result (λ on. (s : State) → FitMarks s correction.now → FitMarks s on) }
 {
-    if reads(prog.statements()) {
-        let laid = snapshot.laid(correction)?;
-        Ok(laid)
+    if reads_marked(prog.statements(), correction) {
+        let all = correction.share()?;
+        Ok(all)
     } else {
-        let same = snapshot.share()?;
-        Ok(same)
+        let none = Marks::empty(prog.allocator())?;
+        Ok(none)
     }
 }
 
-/// The run of a program on another state than that of an old tally.
-fn restated<L>(
-    _prog: &Arc<Planned>,
-    base: &Database,
-    old: &LeafTally,
-    correction: &Marks,
-    moves: &mut Moves<L>,
-) -> Result<Tally, NoMemory>
-    requires fits { Fits (state_of base.now) (arc_value _prog.now) }
-    requires indexes { HasIndexes base.now (arc_value _prog.now) }
-    requires prior { IsPriorOf (arc_value _prog.now) (state_of base.now) correction.now old.now }
-    ensures program { IfOk result (λ t. t.program ≡ arc_value _prog.now) }
-    ensures base { IfOk result (λ t. t.base ≡ base.now) }
-    ensures ended { IfOk result (λ t. has_ended t ≡ true) }
-    ensures parts { IfOk result (λ t. IsRun t) }
-    ensures reply { IfOk result (λ t. t.reply ≡ (run_of (arc_value _prog.now) (state_of base.now)).0) }
-    ensures marks { IfOk result (λ t. t.marks ≡ (run_of (arc_value _prog.now) (state_of base.now)).1) }
-    ensures restated { IfOk result (IsRestated old.now.run) }
-    ensures moves { moves.new ≤ moves.old + cost_again old.now.run (state_of base.now) (ends_at (arc_value _prog.now) (state_of base.now)) }
-    ensures rises { moves.old ≤ moves.new }
+/// The snapshot with the marks laid on it, and the indexes that the program needs.
+fn corrected(snapshot: &Database, _prog: &Planned, on: &Marks) -> Result<Database, NoMemory>
+    requires marks { FitMarks (state_of snapshot.now) on.now }
+    requires fits { Fits (state_of snapshot.now) _prog.now }
+    requires indexes { HasIndexes snapshot.now _prog.now }
+    ensures state { IfOk result (λ base. state_of base ≡ laid (state_of snapshot.now) on.now) }
+    ensures fits { IfOk result (λ base. Fits (state_of base) _prog.now) }
+    ensures indexes { IfOk result (λ base. HasIndexes base _prog.now) }
 {
-    let (run, _touches) = restate_marks(&old.run, base, &old.correction, correction, moves)?;
-    Ok(run)
+    let base = snapshot.laid(on)?;
+    Ok(base)
 }
 
-/// The run of a program on a state, by an old tally of it where there is one.
-fn run_on<L>(
+/// The run of a program on the snapshot with the marks laid on it.
+fn begun<L>(
     prog: &Arc<Planned>,
-    base: &Database,
-    prior: Option<&LeafTally>,
-    correction: &Marks,
+    snapshot: &Database,
+    on: &Marks,
     moves: &mut Moves<L>,
 ) -> Result<Tally, NoMemory>
-    requires fits { Fits (state_of base.now) (arc_value prog.now) }
-    requires indexes { HasIndexes base.now (arc_value prog.now) }
-    requires prior { IfSome prior (λ old. IsPriorOf (arc_value prog.now) (state_of base.now) correction.now old.now) }
-    ensures program { IfOk result (λ t. t.program ≡ arc_value prog.now) }
-    ensures base { IfOk result (λ t. t.base ≡ base.now) }
-    ensures ended { IfOk result (λ t. has_ended t ≡ true) }
-    ensures parts { IfOk result (λ t. IsRun t) }
-    ensures reply { IfOk result (λ t. t.reply ≡ (run_of (arc_value prog.now) (state_of base.now)).0) }
-    ensures marks { IfOk result (λ t. t.marks ≡ (run_of (arc_value prog.now) (state_of base.now)).1) }
-    ensures restated { IfOk result (λ t. IfSome prior.entry (λ old. IsRestated old.now.run t)) }
-    ensures moves { moves.new ≤ moves.old + run_bound (option_map (λ old. old.now) prior.entry) (arc_value prog.now) (state_of base.now) }
+    requires marks { FitMarks (state_of snapshot.now) on.now }
+    requires fits { Fits (state_of snapshot.now) (arc_value prog.now) }
+    requires indexes { HasIndexes snapshot.now (arc_value prog.now) }
+    ensures run { IfOk result (IsTallyOn (arc_value prog.now) (state_of snapshot.now) on.now) }
+    ensures moves { moves.new ≤ moves.old + cost_of_first (ends_at (arc_value prog.now) (laid (state_of snapshot.now) on.now)) (arc_value prog.now) (laid (state_of snapshot.now) on.now) }
+    ensures rises { moves.old ≤ moves.new }
+{
+    let base = corrected(snapshot, prog, on)?;
+    let tally = run(prog, &base, moves)?;
+    Ok(tally)
+}
+
+/// The same by an old tally of the program, which ran on the snapshot with other marks laid on it.
+fn restated<L>(
+    prog: &Arc<Planned>,
+    snapshot: &Database,
+    old: &LeafTally,
+    on: &Marks,
+    moves: &mut Moves<L>,
+) -> Result<Tally, NoMemory>
+    requires marks { FitMarks (state_of snapshot.now) on.now }
+    requires fits { Fits (state_of snapshot.now) (arc_value prog.now) }
+    requires indexes { HasIndexes snapshot.now (arc_value prog.now) }
+    requires prior { IsPriorOf (arc_value prog.now) (state_of snapshot.now) old.now }
+    ensures run { IfOk result (IsTallyOn (arc_value prog.now) (state_of snapshot.now) on.now) }
+    ensures restated { IfOk result (IsRestated old.now.run) }
+    ensures moves { moves.new ≤ moves.old + cost_again old.now.run (laid (state_of snapshot.now) on.now) (ends_at (arc_value prog.now) (laid (state_of snapshot.now) on.now)) }
+    ensures rises { moves.old ≤ moves.new }
+{
+    let base = corrected(snapshot, prog, on)?;
+    let out = restate_marks(&old.run, &base, &old.correction, on, moves)?;
+    let (tally, _touches) = out;
+    Ok(tally)
+}
+
+/// The tally of a run on the snapshot with the marks laid on it.
+fn kept(snapshot: &Database, run: Tally, on: Marks, is_reading: bool) -> Result<LeafTally, NoMemory>
+    requires { FitMarks (state_of snapshot.now) run.marks }
+    ensures run { IfOk result (λ tally. tally.run ≡ run) }
+    ensures correction { IfOk result (λ tally. tally.correction ≡ on) }
+    ensures effect { IfOk result (λ tally. tally.effect ≡ run.marks) }
+{
+    let effect = effect_of(snapshot, run.marks(), is_reading)?;
+    Ok(LeafTally {
+        run,
+        correction: on,
+        effect,
+    })
+}
+
+/// A second owner of the tally.
+fn shared(old: &LeafTally) -> Result<LeafTally, NoMemory>
+    ensures { IfOk result (λ same. same ≡ old.now) }
+{
+    let run = old.run.share()?;
+    let correction = old.correction.share()?;
+    let effect = old.effect.share()?;
+    Ok(LeafTally {
+        run,
+        correction,
+        effect,
+    })
+}
+
+/// Whether neither of both lists has a mark.
+fn are_empty(first: &Marks, second: &Marks) -> bool
+    ensures first { IsTrue result → first.now ≡ [] }
+    ensures second { IsTrue result → second.now ≡ [] }
+{
+    first.len() == 0 && second.len() == 0
+}
+
+/// The tally of a program on the snapshot with the marks laid on it, by an old one where there is one. Where both ran on the
+/// snapshot itself, it is the old one.
+fn tally_on<L>(
+    prog: &Arc<Planned>,
+    snapshot: &Database,
+    prior: Option<&LeafTally>,
+    on: Marks,
+    is_reading: bool,
+    moves: &mut Moves<L>,
+) -> Result<LeafTally, NoMemory>
+    requires marks { FitMarks (state_of snapshot.now) on }
+    requires fits { Fits (state_of snapshot.now) (arc_value prog.now) }
+    requires indexes { HasIndexes snapshot.now (arc_value prog.now) }
+    requires written { FitMarks (state_of snapshot.now) (run_of (arc_value prog.now) (laid (state_of snapshot.now) on)).1 }
+    requires prior { IfSome prior (λ old. IsPriorOf (arc_value prog.now) (state_of snapshot.now) old.now) }
+    ensures run { IfOk result (IsRunOn (arc_value prog.now) (state_of snapshot.now) on) }
+    ensures restated { IfOk result (λ tally. IfSome prior.entry (λ old. IsRestated old.now.run tally.run)) }
+    ensures moves { moves.new ≤ moves.old + run_bound (option_map (λ old. old.now) prior.entry) (arc_value prog.now) (laid (state_of snapshot.now) on) }
     ensures rises { moves.old ≤ moves.new }
 {
     match prior {
         None => {
-            let run = run(prog, base, moves)?;
-            Ok(run)
+            let run = begun(prog, snapshot, &on, moves)?;
+            let tally = kept(snapshot, run, on, is_reading)?;
+            Ok(tally)
         }
         Some(old) => {
-            let run = restated(prog, base, old, correction, moves)?;
-            Ok(run)
+            if are_empty(&old.correction, &on) {
+                let tally = shared(old)?;
+                return Ok(tally);
+            }
+            let run = restated(prog, snapshot, old, &on, moves)?;
+            let tally = kept(snapshot, run, on, is_reading)?;
+            Ok(tally)
         }
     }
 }
@@ -244,15 +315,9 @@ impl LeafWork for BatchWork {
         ensures restated { IfOk result (λ tally. IfSome prior.entry (λ old. IsRestated old.now.run tally.run)) }
     {
         let prog = &self.programs[leaf as usize];
-        let base = corrected(&self.snapshot, prog, correction)?;
-        let run = run_on(prog, &base, prior, correction, moves)?;
-        let effect = effect_of(&self.snapshot, run.marks(), self.is_reading)?;
-        let correction = correction.share()?;
-        Ok(LeafTally {
-            run,
-            correction,
-            effect,
-        })
+        let on = marks_to_lay(prog, correction)?;
+        let tally = tally_on(prog, &self.snapshot, prior, on, self.is_reading, moves)?;
+        Ok(tally)
     }
 
     fn effect<'a>(&self, tally: &'a LeafTally) -> &'a Marks {
