@@ -9,16 +9,16 @@ use Rattle.lt_model.specs.Tokens.{Class, white, feed, hash, letter, digit, quote
 use Rattle.lt_script.specs.Pieces.{IsBack, first_by, first_at}
 use Rattle.lt_script.proofs.Pieces.{find_holds}
 
-pub back_same : (bytes : List ℕ) → IsBack bytes bytes
+abbrev pub back_same : (bytes : List ℕ) → IsBack bytes bytes
 back_same bytes = record { front = []; parts = refl }
 
-pub back_on : (left mid bytes : List ℕ) → IsBack left mid → IsBack mid bytes → IsBack left bytes
+abbrev pub back_on : (left mid bytes : List ℕ) → IsBack left mid → IsBack mid bytes → IsBack left bytes
 back_on left mid bytes f g = record { front = g.front ++ f.front; parts = g.parts ∙ ap (λ (us : List ℕ). g.front ++ us) f.parts ∙ sym (append_assoc g.front f.front left) }
 
-pub back_tail : (b : ℕ) (bytes : List ℕ) → IsBack bytes (b ∷ bytes)
+abbrev pub back_tail : (b : ℕ) (bytes : List ℕ) → IsBack bytes (b ∷ bytes)
 back_tail b bytes = record { front = b ∷ []; parts = refl }
 
-pub back_drop : (n : ℕ) (bytes : List ℕ) → IsBack (drop n bytes) bytes
+abbrev pub back_drop : (n : ℕ) (bytes : List ℕ) → IsBack (drop n bytes) bytes
 back_drop n bytes = record { front = take n bytes; parts = sym (take-append-drop n bytes) }
 
 -- ---- behind a token
@@ -38,7 +38,7 @@ quote_back true y text rest left s e = absurd cc
 quote_back false true text rest left s e = absurd cc
 quote_back false false text rest left s e = cc
 
-symbol_back : (n : ℕ) (text rest left : List ℕ) (s : tokens.Shape) → IsToken (Some (tokens.close_symbol n text rest)) s left → IsBack left rest
+pub symbol_back : (n : ℕ) (text rest left : List ℕ) (s : tokens.Shape) → IsToken (Some (tokens.close_symbol n text rest)) s left → IsBack left rest
 symbol_back n text [] left s e = absurd cc
 symbol_back n text (c ∷ rest) left s e = back_of rest left (c ∷ rest) (quote_back (not (c == 39)) ((n == 0) || nat_lt 15 n) text rest left s e) (back_tail c rest)
 

@@ -11,10 +11,11 @@ use Rattle.lt_script.specs.declared.lexer.Lexer.{Lexer}
 use Rattle.lt_script.specs.declared.lexer.Lexed.{Lexed}
 use Rattle.lt_script.specs.declared.lexer.Lexed.TheVariants.{Token as One, End, Broken}
 use Rattle.lt_script.specs.View.{shape, view, IsNext}
-use Rattle.lt_script.specs.Pieces.{IsBack, Leads, begins_longer, goes_on_by, goes_on as may_go_on, first_by, first_at, Opened}
-use Rattle.lt_script.specs.Ahead.{Source, source_of, read_all, Place, ahead, behind, passed_tokens, read_from, place_of, IsAt, IsBehind, decided, undecided, Stood}
-use Rattle.lt_script.proofs.Pieces.{leads_none, leads_then, leads_token, tokens_first}
+use Rattle.lt_script.specs.Pieces.{IsBack, Leads, Passes, begins_longer, goes_on_by, goes_on as may_go_on, first_by, first_at, Opened}
+use Rattle.lt_script.specs.Ahead.{Source, source_of, read_all, Place, ahead, behind, passed_tokens, read_from, place_of, IsAt, IsBehind, decided, undecided, EndsSo, Stood}
+use Rattle.lt_script.proofs.Pieces.{leads_then, leads_token, tokens_first}
 use Rattle.lt_script.proofs.Backs.{back_same, back_on, token_back, semicolon_back}
+use Rattle.lt_script.proofs.Passing.{passes_none, passes_leads, passes_on, passes_token}
 use Rattle.lt_script.proofs.Skips.{run_whole, is_empty}
 use Rattle.lt_script.proofs.Places.{parts, ahead_behind, goes_on, goes_in_step}
 
@@ -59,37 +60,6 @@ pub left_none : (tail left : List ℕ) (s : tokens.Shape) → may_go_on tail ≡
 left_none [] left s h e = absurd cc
 left_none (b ∷ bytes) left s h e = class_left (class_of b) b bytes left s h e
 
--- ---- the semicolon is decided at once
-
-other_semicolon : (b : ℕ) (left : List ℕ) → (b ≡ 33) ⊎ ((b ≡ 60) ⊎ (b ≡ 62)) → IsToken (Some (tokens.sign_at (b ∷ []))) semicolon left → ⊥
-other_semicolon b left (inl is) e = let there : IsToken (Some (tokens.sign_at (33 ∷ []))) semicolon left = subst (λ (n : ℕ). IsToken (Some (tokens.sign_at (n ∷ []))) semicolon left) is e in absurd cc
-other_semicolon b left (inr (inl is)) e = let there : IsToken (Some (tokens.sign_at (60 ∷ []))) semicolon left = subst (λ (n : ℕ). IsToken (Some (tokens.sign_at (n ∷ []))) semicolon left) is e in absurd cc
-other_semicolon b left (inr (inr is)) e = let there : IsToken (Some (tokens.sign_at (62 ∷ []))) semicolon left = subst (λ (n : ℕ). IsToken (Some (tokens.sign_at (n ∷ []))) semicolon left) is e in absurd cc
-
-word_semicolon : (b : Bool) (text rest left : List ℕ) → IsToken (Some (cond b (tokens.fault 5) (tokens.token (tokens.word text) rest))) semicolon left → ⊥
-word_semicolon true text rest left e = absurd cc
-word_semicolon false text rest left e = absurd cc
-
-symbol_semicolon : (n : ℕ) (text rest left : List ℕ) → rest ≡ [] → IsToken (Some (tokens.close_symbol n text rest)) semicolon left → ⊥
-symbol_semicolon n text [] left none e = absurd cc
-symbol_semicolon n text (c ∷ rest) left none e = absurd cc
-
-class_semicolon : (c : Class) (b : ℕ) (bytes left : List ℕ) → goes_on_by c b bytes ≡ true → IsToken (first_by c b bytes) semicolon left → ⊥
-class_semicolon white b bytes left h e = absurd cc
-class_semicolon feed b bytes left h e = absurd cc
-class_semicolon hash b bytes left h e = absurd cc
-class_semicolon letter b bytes left h e = let n : ℕ = prefix_len in_word (b ∷ bytes) in word_semicolon (nat_lt 15 n) (take n (b ∷ bytes)) (drop n (b ∷ bytes)) left e
-class_semicolon digit b bytes left h e = absurd cc
-class_semicolon quote b bytes left h e =
-    let n : ℕ = prefix_len in_word bytes in
-    symbol_semicolon n (take n bytes) (drop n bytes) left (is_empty (drop n bytes) (omega (arith, length-drop n bytes, run_whole in_word bytes h))) e
-class_semicolon other b [] left h e = other_semicolon b left (one_of b h) e
-class_semicolon other b (c ∷ bytes) left h e = absurd cc
-
-at_semicolon : (tail left : List ℕ) → may_go_on tail ≡ true → IsToken (first_at tail) semicolon left → ⊥
-at_semicolon [] left h e = absurd cc
-at_semicolon (b ∷ bytes) left h e = class_semicolon (class_of b) b bytes left h e
-
 abbrev last_of : tokens.Token → List tokens.Token → tokens.Token
 last_of d [] = d
 last_of d (t ∷ ts) = last_of t ts
@@ -101,17 +71,10 @@ last_is d t (x ∷ ts) = last_is x t ts
 same_last : (xs ys : List tokens.Token) (s t : tokens.Token) → xs ++ s ∷ [] ≡ ys ++ t ∷ [] → s ≡ t
 same_last xs ys s t e = sym (last_is s s xs) ∙ ap (last_of s) e ∙ last_is s t ys
 
--- a place behind a semicolon
-pub behind_semicolon : (source : Source) (before : List tokens.Token) (t : tokens.Token) (line : ℕ) (left : List ℕ) → t.shape ≡ semicolon → IsBehind source (before ++ t ∷ []) line left → Leads source.line source.bytes (before ++ t ∷ []) line left
-behind_semicolon source before t line left is (decided h) = h
-behind_semicolon source before t line left is (undecided others last after tail same h goes first none) =
-    let shape : last.shape ≡ semicolon = ap (λ (u : tokens.Token). u.shape) (sym (same_last before others t last same)) ∙ is in
-    absurd (at_semicolon tail [] goes (subst (λ (s : tokens.Shape). IsToken (first_at tail) s []) shape first))
-
 -- ---- one token on
 
 pub behind_first : (start : Lexer) → IsBehind (source_of start) [] start.line start.rest.now
-behind_first start = decided (leads_none start.line start.rest.now)
+behind_first start = decided (back_same start.rest.now) (passes_none start.line start.rest.now)
 
 -- no token is found where nothing is left
 nothing_found : (line after : ℕ) (tail left : List ℕ) (s : tokens.Shape) → Leads line [] [] after tail → IsToken (first_at tail) s left → ⊥
@@ -124,21 +87,46 @@ nothing_found line after tail left s h e =
     no_token : {t : tokens.Token} {ts : List tokens.Token} → [] ≡ t ∷ ts → ⊥
     no_token e = absurd cc
 
-by_tail : (source : Source) (passed : List tokens.Token) (after : ℕ) (tail left : List ℕ) (s : tokens.Shape) (b : Bool) → may_go_on tail ≡ b → Leads source.line source.bytes passed after tail → IsToken (first_at tail) s left
+by_tail : (source : Source) (passed : List tokens.Token) (after : ℕ) (tail left : List ℕ) (s : tokens.Shape) (b : Bool) → may_go_on tail ≡ b → (back : IsBack tail source.bytes) → Passes source.line back.front passed after tail → IsToken (first_at tail) s left
     → IsBehind source (passed ++ record { shape = s; line = after } ∷ []) after left
-by_tail source passed after tail left s true goes h e =
+by_tail source passed after tail left s true goes back h e =
     let none : left ≡ [] = left_none tail left s goes e in
-    undecided passed (record { shape = s; line = after }) after tail refl h goes (subst (λ (us : List ℕ). IsToken (first_at tail) s us) none e) none
-by_tail source passed after tail left s false goes h e =
-    decided (leads_then source.line after after source.bytes tail left passed (record { shape = s; line = after } ∷ []) h (leads_token after tail left s e goes))
+    undecided passed (record { shape = s; line = after }) after tail refl (passes_leads source.line after tail source.bytes passed back h) goes (subst (λ (us : List ℕ). IsToken (first_at tail) s us) none e) none
+by_tail source passed after tail left s false goes back h e =
+    let further : IsBack left tail = token_back tail left s e in
+    decided (back_on left tail source.bytes further back) (passes_on source.line after after left tail source.bytes passed (record { shape = s; line = after } ∷ []) further back h (passes_token after tail left s e goes further))
+
+-- to where the next token begins
+to_token : (source : Source) (passed : List tokens.Token) (line after : ℕ) (left tail : List ℕ) (back : IsBack left source.bytes) → Passes source.line back.front passed line left → (on : IsBack tail left) → Passes line on.front [] after tail
+    → Passes source.line (back.front ++ on.front) passed after tail
+to_token source passed line after left tail back h on k =
+    subst (λ (ts : List tokens.Token). Passes source.line (back.front ++ on.front) ts after tail) (append-nil passed) (passes_on source.line line after tail left source.bytes passed [] on back h k)
+
+none_left : (line after : ℕ) (left tail rest : List ℕ) (s : tokens.Shape) → left ≡ [] → (on : IsBack tail left) → Passes line on.front [] after tail → IsToken (first_at tail) s rest → ⊥
+none_left line after left tail rest s none on k e = nothing_found line after tail rest s (subst (λ (us : List ℕ). Leads line us [] after tail) none (passes_leads line after tail left [] on k)) e
 
 pub behind_next : (source : Source) (passed : List tokens.Token) (line after : ℕ) (left rest : List ℕ) (t : Token) → IsBehind source passed line left → Opened (One t) line left after rest → IsBehind source (passed ++ view t ∷ []) after rest
-behind_next source passed line after left rest t (decided h) o =
-    let way : Leads source.line source.bytes passed after o.tail =
-    subst (λ (ts : List tokens.Token). Leads source.line source.bytes ts after o.tail) (append-nil passed) (leads_then source.line line after source.bytes left o.tail passed [] h o.leads) in
-    subst (λ (n : ℕ). IsBehind source (passed ++ record { shape = shape t; line = n } ∷ []) after rest) (sym o.is.1) (by_tail source passed after o.tail rest (shape t) (may_go_on o.tail) refl way o.is.0)
-behind_next source passed line after left rest t (undecided before last at tail same h goes first none) o =
-    absurd (nothing_found line after o.tail rest (shape t) (subst (λ (us : List ℕ). Leads line us [] after o.tail) none o.leads) o.is.0)
+behind_next source passed line after left rest t (decided back h) o =
+    subst (λ (n : ℕ). IsBehind source (passed ++ record { shape = shape t; line = n } ∷ []) after rest) (sym o.is.1)
+    (by_tail source passed after o.tail rest (shape t) (may_go_on o.tail) refl (back_on o.tail left source.bytes o.back back) (to_token source passed line after left o.tail back h o.back o.passes) o.is.0)
+behind_next source passed line after left rest t (undecided before last at tail same h goes first none) o = absurd (none_left line after left o.tail rest (shape t) none o.back o.passes o.is.0)
+
+-- where the next token is a semicolon, its byte ends the front
+ends_next : (source : Source) (passed : List tokens.Token) (line after : ℕ) (left rest : List ℕ) (t : Token) → shape t ≡ semicolon → IsBehind source passed line left → Opened (One t) line left after rest → EndsSo source (passed ++ view t ∷ []) after rest
+unfolding Passes
+ends_next source passed line after left rest t is (undecided before last at tail same h goes first none) o = absurd (none_left line after left o.tail rest (shape t) none o.back o.passes o.is.0)
+ends_next source passed line after left rest t is (decided back h) o =
+    let front : List ℕ = back.front ++ o.back.front in
+    let there : o.tail ≡ 59 ∷ rest = semicolon_back o.tail rest (subst (λ (s : tokens.Shape). IsToken (first_at o.tail) s rest) is o.is.0) in
+    let way : Passes source.line front passed after (59 ∷ rest) = subst (λ (us : List ℕ). Passes source.line front passed after us) there (to_token source passed line after left o.tail back h o.back o.passes) in
+    let cut : Leads source.line (front ++ 59 ∷ []) passed after (59 ∷ []) = passes_leads source.line after (59 ∷ []) (front ++ 59 ∷ []) passed (record { front = front; parts = refl }) way in
+    let token : tokens.Token = record { shape = semicolon; line = after } in
+    let same : token ≡ view t = ap (λ (s : tokens.Shape). let u : tokens.Token = record { shape = s; line = after } in u) (sym is) ∙ ap (λ (n : ℕ). let u : tokens.Token = record { shape = shape t; line = n } in u) (sym o.is.1) in
+    record {
+      front = front;
+      parts = back.parts ∙ ap (λ (us : List ℕ). back.front ++ us) (o.back.parts ∙ ap (λ (us : List ℕ). o.back.front ++ us) there) ∙ sym (append_assoc back.front o.back.front (59 ∷ rest)) ∙ sym (append_assoc front (59 ∷ []) rest);
+      leads = subst (λ (u : tokens.Token). Leads source.line (front ++ 59 ∷ []) (passed ++ u ∷ []) after []) same (leads_then source.line after after (front ++ 59 ∷ []) (59 ∷ []) [] passed (token ∷ []) cut (leads_token after (59 ∷ []) [] semicolon refl refl));
+    }
 
 source_same : (p : Place) → (behind p).source ≡ p.source
 unfolding behind
@@ -165,11 +153,6 @@ read_same (Broken c) l read h = sym h
 none_last : (before : List tokens.Token) (last : tokens.Token) → [] ≡ before ++ last ∷ [] → ⊥
 none_last [] last e = absurd cc
 none_last (t ∷ before) last e = absurd cc
-
--- where a semicolon was found, the bytes behind it stand behind one
-found_semicolon : (bytes since tail left : List ℕ) (s : tokens.Shape) → IsBack tail since → IsBack since bytes → IsToken (first_at tail) s left → s ≡ semicolon → IsBack (59 ∷ left) bytes
-found_semicolon bytes since tail left s f g e is =
-    back_on (59 ∷ left) since bytes (subst (λ (us : List ℕ). IsBack us since) (semicolon_back tail left (subst (λ (x : tokens.Shape). IsToken (first_at tail) x left) is e)) f) g
 
 module _ (start : Lexer) (next : Lexed) (lexer : Lexer) (h : IsNext next lexer.line lexer.rest.now (tokens.tokens_at start.line start.rest.now)) where
   abbrev all : tokens.Read
@@ -203,8 +186,9 @@ stood_next source since next lexer p s there t is n l fits h o =
       fits = s.at.fits;
       back = back_on lexer.rest.now since.rest.now source.bytes (back_on lexer.rest.now opened.tail since.rest.now (token_back opened.tail lexer.rest.now (shape t) opened.is.0) opened.back) s.back;
       ends = λ before last are shape_is.
-          found_semicolon source.bytes since.rest.now opened.tail lexer.rest.now (shape t) opened.back s.back opened.is.0
-          (ap (λ (u : tokens.Token). u.shape) (sym (same_last before (passed_tokens p) last (view t) (sym are ∙ passed_now))) ∙ shape_is);
+          subst (λ (ts : List tokens.Token). EndsSo source ts lexer.line lexer.rest.now) (sym passed_now)
+          (ends_next source (passed_tokens p) since.line lexer.line since.rest.now lexer.rest.now t
+          (ap (λ (u : tokens.Token). u.shape) (sym (same_last before (passed_tokens p) last (view t) (sym are ∙ passed_now))) ∙ shape_is) first opened);
       behind = subst (λ (ts : List tokens.Token). IsBehind source ts lexer.line lexer.rest.now) (sym passed_now) (behind_next source (passed_tokens p) since.line lexer.line since.rest.now lexer.rest.now t first opened);
       opened = o;
     }

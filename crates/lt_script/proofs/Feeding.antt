@@ -8,14 +8,13 @@ use Rattle.lt_model.specs.Tokens.{Shape, Token, Ending, Read, First, finished, b
 use Rattle.lt_model.specs.Grammar.{formed, legal, semicolon, SpellsItem, Derives}
 use Rattle.lt_model.specs.Faults.{Faulty}
 use Rattle.lt_model.specs.Script as script
-use Rattle.lt_script.specs.Pieces.{IsBack, Leads, goes_on, first_at}
-use Rattle.lt_script.specs.Ahead.{Source, read_all, Place, ahead, shapes, passed_tokens, IsBehind, IsBehindSemicolon, IsUndecided, IsDecided, MayChange}
+use Rattle.lt_script.specs.Pieces.{Leads, goes_on, first_at}
+use Rattle.lt_script.specs.Ahead.{Source, read_all, Place, ahead, shapes, passed_tokens, EndsSo, IsBehindSemicolon, IsUndecided, IsDecided, MayChange}
 use Rattle.lt_script.specs.Taken.{Begins, HasFault, HaltsAt, at_token, cut, torn, Takes, Halts}
 use Rattle.lt_script.specs.Feed as feed
 use Rattle.lt_script.specs.Feed.{IsMore, IsClosed, IsInside, IsFaultAt, inside, IsDecidedFault, WantsMore, Goes}
 use Rattle.lt_script.proofs.Pieces.{leads_then, leads_token, torn_stays, tokens_first}
 use Rattle.lt_script.proofs.Places.{parts, passed_more}
-use Rattle.lt_script.proofs.Behind.{behind_semicolon}
 use Rattle.lt_script.proofs.Reading.{all_passed, EndsIn, reads_derived, ends, halted}
 use Rattle.lt_script.proofs.Taking.{begins_none}
 use Rattle.lt_script.proofs.Ends.{EndsWith, item_ends, LastToken, last_token}
@@ -81,20 +80,19 @@ module _ (bytes : List ℕ) (done : List Token) (items : List Item) (p : Place) 
       leads_then 1 p.source.line after bytes p.source.bytes left done ts lead (subst (λ (s : Source). Leads s.line s.bytes ts after left) same h)
 
   -- an item
-  pub goes : (q : Place) (item : Item) (n after : ℕ) (left : List ℕ) → n ≡ length left → Takes p q item → IsBehind q.source (passed_tokens q) after left → IsBehindSemicolon q.source (passed_tokens q) left → Goes bytes done items p.source.bytes item n after
-  goes q item n after left long t behind ends_so =
+  pub goes : (q : Place) (item : Item) (n after : ℕ) (left : List ℕ) → n ≡ length left → Takes p q item → IsBehindSemicolon q.source (passed_tokens q) after left → Goes done items p.source.line p.source.bytes item n after
+  goes q item n after left long t ends_so =
       let passed : script.shapes (passed_tokens q) ≡ t.tokens = passed_is q t.tokens t.same t.parts in
       let e : EndsWith semicolon t.tokens = item_ends item t.tokens t.spelled in
       let k : LastToken semicolon (passed_tokens q) = last_token semicolon e.front (passed_tokens q) (passed ∙ e.is) in
-      let way : Leads q.source.line q.source.bytes (k.before ++ k.last ∷ []) after left = behind_semicolon q.source k.before k.last after left k.is (subst (λ (ts : List Token). IsBehind q.source ts after left) k.are behind) in
-      let b : IsBack (59 ∷ left) p.source.bytes = subst (λ (s : Source). IsBack (59 ∷ left) s.bytes) t.same (ends_so k.before k.last k.are k.is) in
+      let b : EndsSo p.source (passed_tokens q) after left = subst (λ (s : Source). EndsSo s (passed_tokens q) after left) t.same (ends_so k.before k.last k.are k.is) in
       record {
         front = b.front;
         rest = left;
         long = long;
-        parts = b.parts ∙ sym (append_assoc b.front (59 ∷ []) left);
+        parts = b.parts;
         tokens = passed_tokens q;
-        leads = leads_on (passed_tokens q) q after left t.same (subst (λ (ts : List Token). Leads q.source.line q.source.bytes ts after left) (sym k.are) way);
+        leads = b.leads;
         spelled = subst (SpellsItem legal item) (sym passed) t.spelled;
         derived = reads_derived done p q items item derived t;
         within = t.within;

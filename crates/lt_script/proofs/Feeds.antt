@@ -14,6 +14,9 @@ use Rattle.lt_script.specs.declared.feed.FeedStep.TheVariants as steps
 use Rattle.lt_script.specs.Feed.{kept_of, IsMore, IsClosed, EndsItem, IsOpenAt, StandsBy, HasFed, IsSame, Gives, Goes}
 use Rattle.lt_script.proofs.Pieces.{leads_none}
 
+abbrev read_of : List Token → Ending → Read
+read_of ts ending = (ts, ending)
+
 -- ---- the bytes that are kept
 
 -- the last of a list, by their number
@@ -65,22 +68,31 @@ not_none o f is none = let e : Some f ≡ None = sym is ∙ none in absurd cc
 
 -- nothing was pushed yet
 pub fed_none : (kept : List ℕ) → kept ≡ [] → IsOpenAt 1 kept [] []
-fed_none kept none = record { front = []; parts = sym none; last = refl; done = []; leads = subst (λ (us : List ℕ). Leads 1 [] [] 1 us) (sym none) (leads_none 1 []); derived = refl }
+fed_none kept none = record { front = []; parts = sym none; last = refl; done = []; leads = leads_none 1 []; derived = refl }
+
+-- all bytes that were pushed are the tokens that are decided, and then those of the bytes that are kept
+pub leads_all : (line : ℕ) (kept bytes : List ℕ) (items : List Item) (o : IsOpenAt line kept bytes items) → Leads 1 bytes o.done line kept
+leads_all line kept bytes items o = λ more. ap (λ (us : List ℕ). tokens_at 1 (us ++ more)) o.parts ∙ ap (tokens_at 1) (append_assoc o.front kept more) ∙ o.leads (kept ++ more)
 
 -- ---- an item more
+
+-- one front behind another
+leads_front : (line after last : ℕ) (front more : List ℕ) (ts us : List Token) → Leads line front ts after [] → Leads after more us last [] → Leads line (front ++ more) (ts ++ us) last []
+leads_front line after last front more ts us h k = λ rest.
+    ap (tokens_at line) (append_assoc front more rest) ∙ h (more ++ rest) ∙ ap (λ (r : Read). read_of (ts ++ r.0) r.1) (k rest) ∙ ap (λ (vs : List Token). read_of vs (tokens_at last rest).1) (sym (append_assoc ts us (tokens_at last rest).0))
 
 ends_item : (items : List Item) (item : Item) (front others : List ℕ) → front ≡ others ++ 59 ∷ [] → EndsItem (items ++ item ∷ []) front
 ends_item [] item front others is = (others, is)
 ends_item (x ∷ items) item front others is = (others, is)
 
-module _ (bytes kept : List ℕ) (items : List Item) (item : Item) (line : ℕ) (o : IsOpenAt line kept bytes items) (left after : ℕ) (g : Goes bytes o.done items kept item left after) where
+module _ (bytes kept : List ℕ) (items : List Item) (item : Item) (line : ℕ) (o : IsOpenAt line kept bytes items) (left after : ℕ) (g : Goes o.done items line kept item left after) where
   pub open_more : (now : List ℕ) → now ≡ g.rest → IsOpenAt after now bytes (items ++ item ∷ [])
   open_more now is = record {
     front = o.front ++ (g.front ++ 59 ∷ []);
     parts = o.parts ∙ ap (λ (us : List ℕ). o.front ++ us) (g.parts ∙ ap (λ (us : List ℕ). (g.front ++ 59 ∷ []) ++ us) (sym is)) ∙ sym (append_assoc o.front (g.front ++ 59 ∷ []) now);
     last = ends_item items item (o.front ++ (g.front ++ 59 ∷ [])) (o.front ++ g.front) (sym (append_assoc o.front g.front (59 ∷ [])));
     done = o.done ++ g.tokens;
-    leads = subst (λ (us : List ℕ). Leads 1 bytes (o.done ++ g.tokens) after us) (sym is) g.leads;
+    leads = leads_front 1 line after o.front (g.front ++ 59 ∷ []) o.done g.tokens o.leads g.leads;
     derived = g.derived;
   }
 
@@ -97,7 +109,7 @@ module _ (bytes kept : List ℕ) (items : List Item) (item : Item) (line : ℕ) 
       cut ∙ ap (λ (us : List ℕ). take from all ++ us) (sym is ∙ g.parts) ∙ sym (append_assoc (take from all) (g.front ++ 59 ∷ []) g.rest) in
       ap (λ (n : ℕ). drop (length all - n) all) g.long ∙ drop_back all (take from all ++ (g.front ++ 59 ∷ [])) g.rest parts
 
-pub gives : (old new : Feed) (bytes : List ℕ) (items : List Item) (item : Item) (left after : ℕ) (o : IsOpenAt old.line (kept_of old) bytes items) → Goes bytes o.done items (kept_of old) item left after
+pub gives : (old new : Feed) (bytes : List ℕ) (items : List Item) (item : Item) (left after : ℕ) (o : IsOpenAt old.line (kept_of old) bytes items) → Goes o.done items old.line (kept_of old) item left after
     → new.bytes.items ≡ old.bytes.items → new.from ≡ length old.bytes.items - left → new.line ≡ after → new.fault ≡ None → Gives old new bytes items item
 gives old new bytes items item left after o g same from line none =
     let now : kept_of new ≡ g.rest = ap (λ (us : List ℕ). drop new.from us) same ∙ ap (λ (n : ℕ). drop n old.bytes.items) from ∙ rest_at bytes (kept_of old) items item old.line o left after g old.bytes.items old.from refl in
@@ -112,20 +124,13 @@ gives old new bytes items item left after o g same from line none =
 
 -- ---- more bytes, and the end
 
-abbrev read_of : List Token → Ending → Read
-read_of ts ending = (ts, ending)
-
-leads_pushed : (line : ℕ) (kept bytes piece : List ℕ) (done : List Token) → Leads 1 bytes done line kept → Leads 1 (bytes ++ piece) done line (kept ++ piece)
-leads_pushed line kept bytes piece done h = λ more.
-    ap (tokens_at 1) (append_assoc bytes piece more) ∙ h (piece ++ more) ∙ ap (λ (us : List ℕ). read_of (done ++ (tokens_at line us).0) (tokens_at line us).1) (sym (append_assoc kept piece more))
-
 open_pushed : (line : ℕ) (kept bytes piece : List ℕ) (items : List Item) → IsOpenAt line kept bytes items → IsOpenAt line (kept ++ piece) (bytes ++ piece) items
 open_pushed line kept bytes piece items o = record {
   front = o.front;
   parts = ap (λ (us : List ℕ). us ++ piece) o.parts ∙ append_assoc o.front kept piece;
   last = o.last;
   done = o.done;
-  leads = leads_pushed line kept bytes piece o.done o.leads;
+  leads = o.leads;
   derived = o.derived;
 }
 

@@ -1,5 +1,6 @@
 pub mod Pieces
 pub mod Backs
+pub mod Passing
 pub mod Gaps
 pub mod Skips
 pub mod Firsts

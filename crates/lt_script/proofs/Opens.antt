@@ -4,8 +4,9 @@ use Rattle.lt_model.specs.Tokens.{class_of, Class, letter, digit, quote, other, 
 use Rattle.lt_script.specs.declared.lexer.Lexed.{Lexed}
 use Rattle.lt_script.specs.declared.lexer.Lexed.TheVariants.{Token as One, End, Broken}
 use Rattle.lt_script.specs.View.{IsFirst, IsOther, shape}
-use Rattle.lt_script.specs.Pieces.{IsBack, Leads, first_by, first_at, IsFound, Skipped, Opened}
+use Rattle.lt_script.specs.Pieces.{Passes, first_by, first_at, IsFound, Skipped, Opened}
 use Rattle.lt_script.proofs.Firsts.{letter_class, digit_class, other_class}
+use Rattle.lt_script.proofs.Skips.{Arrived, arrives}
 
 found_first : (r : Lexed) (line b : ℕ) (bytes left : List ℕ) (c : Class) (f : First) → class_of b ≡ c → first_by c b bytes ≡ Some f → IsFirst r line left f → IsFound r line (b ∷ bytes) left
 found_first (One t) line b bytes left c f is by h = (ap (λ k. first_by k b bytes) is ∙ by ∙ ap (λ g. Some g) h.0, h.1)
@@ -14,11 +15,11 @@ found_first (Broken code) line b bytes left c f is by h = ap (λ k. first_by k b
 
 opened_by : (r : Lexed) (first line after b : ℕ) (all bytes left : List ℕ) (c : Class) (f : First) → Skipped first all line (b ∷ bytes) → after ≡ line → class_of b ≡ c → first_by c b bytes ≡ Some f → IsFirst r line left f → Opened r first all after left
 opened_by r first line after b all bytes left c f s same is by h =
-    let way : Leads first all [] line (b ∷ bytes) = subst (λ (us : List ℕ). Leads first all [] line us) (s.same (λ e. absurd cc)) s.leads in
+    let way : Arrived first line all (b ∷ bytes) = arrives first line b all bytes s in
     record {
       tail = b ∷ bytes;
-      back = subst (λ (us : List ℕ). IsBack us all) (s.same (λ e. absurd cc)) s.back;
-      leads = subst (λ k. Leads first all [] k (b ∷ bytes)) (sym same) way;
+      back = way.0;
+      passes = subst (λ k. Passes first way.0.front [] k (b ∷ bytes)) (sym same) way.1;
       is = subst (λ k. IsFound r k (b ∷ bytes) left) (sym same) (found_first r line b bytes left c f is by h);
     }
 
@@ -38,4 +39,4 @@ pub opened_other : (r : Lexed) (first line after b : ℕ) (all bytes left : List
 opened_other r first line after b all bytes left s same is not_quote not_line letters digits h = opened_by r first line after b all bytes left other (sign_at (b ∷ bytes)) s same (other_class b is not_quote not_line letters digits) refl h
 
 pub opened_end : (first line : ℕ) (all left : List ℕ) → Skipped first all line left → left ≡ [] → Opened End first all line left
-opened_end first line all left s none = record { tail = s.tail; back = s.back; leads = s.leads; is = s.ends none }
+opened_end first line all left s none = record { tail = s.tail; back = s.back; passes = s.passes; is = s.ends none }

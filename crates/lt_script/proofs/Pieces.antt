@@ -80,7 +80,7 @@ found_case : (P : List ℕ → Type 0) (p : List ℕ → Bool) (x : List ℕ) (x
 found_case P p x xs t true here others e = let same : x ≡ t = cc in subst P same here
 found_case P p x xs t false here others e = others e
 
-found_in : (P : List ℕ → Type 0) (p : List ℕ → Bool) (xs : List (List ℕ)) (t : List ℕ) → AllByRecursion P xs → find p xs ≡ Some t → P t
+pub found_in : (P : List ℕ → Type 0) (p : List ℕ → Bool) (xs : List (List ℕ)) (t : List ℕ) → AllByRecursion P xs → find p xs ≡ Some t → P t
 found_in P p [] t each e = absurd cc
 found_in P p (x ∷ xs) t each e = found_case P p x xs t (p x) each.0 (found_in P p xs t each.1) e
 

@@ -1,37 +1,42 @@
 -- Over white space and comments, whatever comes behind the bytes.
-use Rattle.std.proofs.Common.{◌≡◌, ◌≢◌, ℕ, ◌+◌, ◌==◌, ◌≤◌, ◌<◌, Bool, true, false, cond, ◌&&◌, List, [], ◌∷◌, ◌++◌, length, drop, refl, sym, ap, subst, ◌∙◌, arith}
+use Rattle.std.proofs.Common.{◌≡◌, ◌≢◌, ℕ, ◌+◌, ◌==◌, ◌≤◌, ◌<◌, Bool, true, false, cond, ◌&&◌, List, [], ◌∷◌, ◌++◌, length, take, drop, refl, sym, ap, subst, ◌∙◌, arith}
 use Rattle.std.specs.Prelude.{not}
 use Rattle.std.specs.List.{prefix_len, list_all}
-use Rattle.std.proofs.lemmas.List.{drop-append-le, length-drop}
+use Rattle.std.proofs.lemmas.List.{length-drop, take-append-drop}
+use Rattle.std.proofs.Transfers.{drop-appended}
 use Rattle.lt_model.specs.Tokens.{class_of, white, tokens_at}
-use Rattle.lt_script.specs.Pieces.{IsBack, Leads, goes_on, Skipped}
-use Rattle.lt_script.proofs.Pieces.{leads_none, leads_then, run_stays, run_ends}
-use Rattle.lt_script.proofs.Backs.{back_same, back_on, back_tail, back_drop}
+use Rattle.lt_script.specs.Pieces.{IsBack, Passes, goes_on, Skipped}
+use Rattle.lt_script.proofs.Pieces.{run_ends}
+use Rattle.lt_script.proofs.Backs.{back_same, back_on, back_tail}
+use Rattle.lt_script.proofs.Passing.{passes_none, passes_on, cut_there}
 use Rattle.lt_script.proofs.Gaps.{over_white, over_feed, over_comment}
 
-reach : (first line : ℕ) (all bytes : List ℕ) → IsBack bytes all → Leads first all [] line bytes → Skipped first all line bytes
-reach first line all bytes back h = record { tail = bytes; back = back; leads = h; same = λ some. refl; ends = λ none. subst (λ (us : List ℕ). goes_on us ≡ true) (sym none) refl }
+reach : (first line : ℕ) (all bytes : List ℕ) (back : IsBack bytes all) → Passes first back.front [] line bytes → Skipped first all line bytes
+reach first line all bytes back h = record { tail = bytes; back = back; passes = h; same = λ some. refl; ends = λ none. subst (λ (us : List ℕ). goes_on us ≡ true) (sym none) refl }
 
 pub skip_none : (line : ℕ) (bytes : List ℕ) → Skipped line bytes line bytes
-skip_none line bytes = reach line line bytes bytes (back_same bytes) (leads_none line bytes)
+skip_none line bytes = reach line line bytes bytes (back_same bytes) (passes_none line bytes)
 
 -- the way to the first byte of some
-arrives : (first line b : ℕ) (all bytes : List ℕ) → Skipped first all line (b ∷ bytes) → Leads first all [] line (b ∷ bytes)
-arrives first line b all bytes h = subst (λ (us : List ℕ). Leads first all [] line us) (h.same (λ e. absurd cc)) h.leads
+abbrev pub Arrived : ℕ → ℕ → List ℕ → List ℕ → Type 0
+Arrived first line all left = (back : IsBack left all) × Passes first back.front [] line left
 
-lies : (first line b : ℕ) (all bytes : List ℕ) → Skipped first all line (b ∷ bytes) → IsBack (b ∷ bytes) all
-lies first line b all bytes h = subst (λ (us : List ℕ). IsBack us all) (h.same (λ e. absurd cc)) h.back
+pub arrives : (first line b : ℕ) (all bytes : List ℕ) → Skipped first all line (b ∷ bytes) → Arrived first line all (b ∷ bytes)
+arrives first line b all bytes h = subst (Arrived first line all) (h.same (λ e. absurd cc)) (h.back, h.passes)
 
-lies_behind : (first line b : ℕ) (all bytes : List ℕ) → Skipped first all line (b ∷ bytes) → IsBack bytes all
-lies_behind first line b all bytes h = back_on bytes (b ∷ bytes) all (back_tail b bytes) (lies first line b all bytes h)
+-- from there over some bytes more
+over : (first line after b : ℕ) (all bytes left : List ℕ) → Skipped first all line (b ∷ bytes) → (back : IsBack left (b ∷ bytes)) → Passes line back.front [] after left → Skipped first all after left
+over first line after b all bytes left h back k =
+    let way : Arrived first line all (b ∷ bytes) = arrives first line b all bytes h in
+    reach first after all left (back_on left (b ∷ bytes) all back way.0) (passes_on first line after left (b ∷ bytes) all [] [] back way.0 way.1 k)
 
 pub skip_white : (first line b : ℕ) (all bytes : List ℕ) → class_of b ≡ white → Skipped first all line (b ∷ bytes) → Skipped first all line bytes
-skip_white first line b all bytes is h =
-    reach first line all bytes (lies_behind first line b all bytes h) (leads_then first line line all (b ∷ bytes) bytes [] [] (arrives first line b all bytes h) (λ more. over_white line b (bytes ++ more) is))
+unfolding Passes
+skip_white first line b all bytes is h = over first line line b all bytes bytes h (back_tail b bytes) (λ more begins. over_white line b more is)
 
 pub skip_feed : (first line : ℕ) (all bytes : List ℕ) → Skipped first all line (10 ∷ bytes) → Skipped first all (line + 1) bytes
-skip_feed first line all bytes h =
-    reach first (line + 1) all bytes (lies_behind first line 10 all bytes h) (leads_then first line (line + 1) all (10 ∷ bytes) bytes [] [] (arrives first line 10 all bytes h) (λ more. over_feed line (bytes ++ more)))
+unfolding Passes
+skip_feed first line all bytes h = over first line (line + 1) 10 all bytes bytes h (back_tail 10 bytes) (λ more begins. over_feed line more)
 
 abbrev in_line : ℕ → Bool
 in_line c = not (c == 10)
@@ -49,6 +54,7 @@ is_empty [] h = refl
 is_empty (x ∷ xs) h = absurd (omega (arith, h))
 
 pub skip_comment : (first line : ℕ) (all bytes : List ℕ) → Skipped first all line (35 ∷ bytes) → Skipped first all line (drop (prefix_len in_line bytes) bytes)
+unfolding Passes
 skip_comment first line all bytes h = go (list_all in_line bytes) refl
   where
     n : ℕ
@@ -57,10 +63,11 @@ skip_comment first line all bytes h = go (list_all in_line bytes) refl
     go : (b : Bool) → list_all in_line bytes ≡ b → Skipped first all line (drop n bytes)
     go true e = record {
       tail = 35 ∷ bytes;
-      back = lies first line 35 all bytes h;
-      leads = arrives first line 35 all bytes h;
+      back = (arrives first line 35 all bytes h).0;
+      passes = (arrives first line 35 all bytes h).1;
       same = λ some. absurd (some (is_empty (drop n bytes) (omega (arith, length-drop n bytes, run_whole in_line bytes e))));
       ends = λ none. e;
     }
-    go false e = reach first line all (drop n bytes) (back_on (drop n bytes) bytes all (back_drop n bytes) (lies_behind first line 35 all bytes h)) (leads_then first line line all (35 ∷ bytes) (drop n bytes) [] [] (arrives first line 35 all bytes h)
-        (λ more. over_comment line (bytes ++ more) ∙ ap (λ k. tokens_at line (drop k (bytes ++ more))) (run_stays in_line bytes more e) ∙ ap (tokens_at line) (drop-append-le n bytes more (omega (arith, run_ends in_line bytes e)))))
+    go false e = over first line line 35 all bytes (drop n bytes) h (record { front = 35 ∷ take n bytes; parts = ap (λ (us : List ℕ). 35 ∷ us) (sym (take-append-drop n bytes)) })
+        (λ more begins. over_comment line (take n bytes ++ more) ∙ ap (λ k. tokens_at line (drop k (take n bytes ++ more))) (cut_there in_line bytes more (run_ends in_line bytes e) begins)
+        ∙ ap (tokens_at line) (drop-appended (take n bytes) (take n bytes ++ more) more refl))

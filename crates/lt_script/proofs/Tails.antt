@@ -6,10 +6,11 @@ use Rattle.std.proofs.lemmas.List.{append-nil}
 use Rattle.lt_model.specs.Tokens as tokens
 use Rattle.lt_model.specs.Tokens.{Class, white, feed, hash, letter, digit, quote, other, class_of, in_word, is_digit, First, token, fault, Read}
 use Rattle.lt_script.specs.View.{IsOther, IsGapless}
-use Rattle.lt_script.specs.Pieces.{Leads, begins_longer, goes_on_by, goes_on, first_by, first_at, Skipped}
+use Rattle.lt_script.specs.Pieces.{IsBack, Leads, Passes, begins_longer, goes_on_by, goes_on, first_by, first_at, Skipped}
 use Rattle.lt_script.specs.Ahead.{Source, Place, passed_tokens, IsBehind, decided, undecided, IsUndecided, IsDecided, MayChange}
 use Rattle.lt_script.proofs.Firsts.{letter_class, digit_class, other_class}
 use Rattle.lt_script.proofs.Pieces.{leads_then, run_ends, tokens_first}
+use Rattle.lt_script.proofs.Passing.{passes_leads}
 use Rattle.lt_script.proofs.Skips.{run_whole}
 
 -- ---- the code's test
@@ -71,22 +72,28 @@ nothing_first line after tail f h e = go f (h [] ∙ ap (λ us. tokens.tokens_at
     go (token s rest) e = let first : [] ≡ (tokens.more tokens.tokens_at after (token s rest)).0 = ap (λ (r : Read). r.0) e in absurd cc
     go (fault c) e = let ends : tokens.finished line ≡ tokens.broken after c = ap (λ (r : Read). r.1) e in absurd cc
 
+-- the way over white space and comments, from behind the tokens that were passed
+led : (source : Source) (passed : List tokens.Token) (line after : ℕ) (left rest : List ℕ) (back : IsBack left source.bytes) → Passes source.line back.front passed line left → (s : Skipped line left after rest) → Leads source.line source.bytes passed after s.tail
+led source passed line after left rest back h s =
+    subst (λ (ts : List tokens.Token). Leads source.line source.bytes ts after s.tail) (append-nil passed)
+    (leads_then source.line line after source.bytes left s.tail passed [] (passes_leads source.line line left source.bytes passed back h) (passes_leads line after s.tail left [] s.back s.passes))
+
 pub may_change : (p : Place) (line after : ℕ) (left rest : List ℕ) (b : Bool) → goes_on rest ≡ b → IsBehind p.source (passed_tokens p) line left → Skipped line left after rest → IsGapless rest → MayChange b p
-may_change p line after left rest true e (decided h) s gapless = record {
+may_change p line after left rest true e (decided back h) s gapless = record {
   before = passed_tokens p;
   line = after;
   tail = s.tail;
-  leads = subst (λ (ts : List tokens.Token). Leads p.source.line p.source.bytes ts after s.tail) (append-nil (passed_tokens p)) (leads_then p.source.line line after p.source.bytes left s.tail (passed_tokens p) [] h s.leads);
+  leads = led p.source (passed_tokens p) line after left rest back h s;
   goes = tail_goes line after left rest s e;
   are = inl refl;
 }
-may_change p line after left rest false e (decided h) s gapless =
+may_change p line after left rest false e (decided back h) s gapless =
     let same : s.tail ≡ rest = s.same (tail_is line after left rest s e) in
     let f = found rest gapless e in
     record {
       line = after;
       tail = rest;
-      leads = subst (λ (us : List ℕ). Leads p.source.line p.source.bytes (passed_tokens p) after us) same (subst (λ (ts : List tokens.Token). Leads p.source.line p.source.bytes ts after s.tail) (append-nil (passed_tokens p)) (leads_then p.source.line line after p.source.bytes left s.tail (passed_tokens p) [] h s.leads));
+      leads = subst (λ (us : List ℕ). Leads p.source.line p.source.bytes (passed_tokens p) after us) same (led p.source (passed_tokens p) line after left rest back h s);
       stops = e;
       first = f.0;
       is = f.1;
@@ -95,4 +102,4 @@ may_change p line after left rest true e (undecided before last at tail is h goe
 may_change p line after left rest false e (undecided before last at tail is h goes first none) s gapless =
     let same : s.tail ≡ rest = s.same (tail_is line after left rest s e) in
     let f = found rest gapless e in
-    absurd (nothing_first line after rest f.0 (subst (λ (us : List ℕ). Leads line us [] after rest) none (subst (λ (us : List ℕ). Leads line left [] after us) same s.leads)) f.1)
+    absurd (nothing_first line after rest f.0 (subst (λ (us : List ℕ). Leads line us [] after rest) none (subst (λ (us : List ℕ). Leads line left [] after us) same (passes_leads line after s.tail left [] s.back s.passes))) f.1)

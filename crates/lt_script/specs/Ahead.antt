@@ -11,7 +11,7 @@ use Rattle.lt_script.specs.declared.lexer.Lexed.TheVariants.{Token as One, End, 
 use Rattle.lt_script.specs.declared.standing.Standing.{Standing}
 use Rattle.lt_script.specs.declared.standing.Standing.TheVariants as standing
 use Rattle.lt_script.specs.View.{shape, view}
-use Rattle.lt_script.specs.Pieces.{IsBack, Leads, goes_on, first_at, Opened}
+use Rattle.lt_script.specs.Pieces.{IsBack, Leads, Passes, goes_on, first_at, Opened}
 
 -- bytes, and the line on which they begin
 pub record Source : Type 0 where
@@ -84,13 +84,19 @@ pub record IsAt (source : Source) (next : Lexed) (lexer : Lexer) : Type 0 where
 -- A place behind the tokens that were passed, the bytes that are left there, and their line, whatever comes behind the
 -- source. Where nothing is left, the last of the tokens may be one that isn't decided.
 pub data IsBehind (source : Source) (passed : List tokens.Token) (line : ℕ) (left : List ℕ) : Type 0 where
-  decided : Leads source.line source.bytes passed line left → IsBehind source passed line left
+  decided : (back : IsBack left source.bytes) → Passes source.line back.front passed line left → IsBehind source passed line left
   undecided : (before : List tokens.Token) (last : tokens.Token) (after : ℕ) (tail : List ℕ) → passed ≡ before ++ last ∷ [] → Leads source.line source.bytes before after tail → goes_on tail ≡ true
       → first_at tail ≡ Some (tokens.token last.shape []) → left ≡ [] → IsBehind source passed line left
 
--- Where these tokens end with a semicolon, the bytes that are left stand behind one.
-abbrev pub IsBehindSemicolon : Source → List tokens.Token → List ℕ → Type 0
-IsBehindSemicolon source passed left = (before : List tokens.Token) (last : tokens.Token) → passed ≡ before ++ last ∷ [] → last.shape ≡ semicolon → IsBack (59 ∷ left) source.bytes
+-- A source's bytes are a front that ends with a semicolon, and those that are left. Whatever comes behind the front, it is these tokens.
+pub record EndsSo (source : Source) (passed : List tokens.Token) (line : ℕ) (left : List ℕ) : Type 0 where
+  pub front : List ℕ
+  pub parts : source.bytes ≡ (front ++ 59 ∷ []) ++ left
+  pub leads : Leads source.line (front ++ 59 ∷ []) passed line []
+
+-- Where the last of these tokens is a semicolon, the bytes that are left stand right behind it.
+abbrev pub IsBehindSemicolon : Source → List tokens.Token → ℕ → List ℕ → Type 0
+IsBehindSemicolon source passed line left = (before : List tokens.Token) (last : tokens.Token) → passed ≡ before ++ last ∷ [] → last.shape ≡ semicolon → EndsSo source passed line left
 
 -- the place of a cursor, and the way from there to its next token
 pub record Stood (source : Source) (since : Lexer) (next : Lexed) (lexer : Lexer) : Type 0 where
@@ -98,7 +104,7 @@ pub record Stood (source : Source) (since : Lexer) (next : Lexed) (lexer : Lexer
   pub fits : since.line + length since.rest.now < 2 ^ 64
   pub behind : IsBehind source (passed_tokens (place_of source next lexer)) since.line since.rest.now
   pub back : IsBack since.rest.now source.bytes
-  pub ends : IsBehindSemicolon source (passed_tokens (place_of source next lexer)) since.rest.now
+  pub ends : IsBehindSemicolon source (passed_tokens (place_of source next lexer)) since.line since.rest.now
   pub opened : Opened next since.line since.rest.now lexer.line lexer.rest.now
 
 -- Nothing that is decided stands next: these tokens are decided, and behind them is a tail that more bytes may make

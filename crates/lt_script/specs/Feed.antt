@@ -34,14 +34,14 @@ abbrev pub EndsItem : List Item → List ℕ → Type 0
 EndsItem [] front = front ≡ []
 EndsItem (item ∷ items) front = (others : List ℕ) × (front ≡ others ++ 59 ∷ [])
 
--- The items are decided: whatever comes, they are those tokens. The bytes that are kept are what is left of the script
--- behind the last item's semicolon.
+-- The items are decided: whatever comes, they are the tokens of this front, which ends with the last item's semicolon. The
+-- bytes that are kept are those behind it, and begin on this line.
 pub record IsOpenAt (line : ℕ) (kept : List ℕ) (bytes : List ℕ) (items : List Item) : Type 0 where
   pub front : List ℕ
   pub parts : bytes ≡ front ++ kept
   pub last : EndsItem items front
   pub done : List Token
-  pub leads : Leads 1 bytes done line kept
+  pub leads : Leads 1 front done line []
   pub derived : Derives legal (script.shapes done) items
 
 abbrev pub StandsBy : Option Fault → Bool → ℕ → List ℕ → List ℕ → List Item → Type 0
@@ -125,22 +125,22 @@ abbrev pub WantsMore : Bool → Bool → Place → Type 0
 WantsMore true ended p = (ended ≡ false) × IsUndecided p
 WantsMore false ended p = (ended ≡ true) ⊎ IsDecided p
 
--- an item, the bytes behind its semicolon, and their line
-pub record Goes (bytes : List ℕ) (done : List Token) (items : List Item) (kept : List ℕ) (item : Item) (left line : ℕ) : Type 0 where
+-- An item, the bytes right behind its semicolon, and their line. The bytes that are kept begin on the first line that is given.
+pub record Goes (done : List Token) (items : List Item) (from : ℕ) (kept : List ℕ) (item : Item) (left line : ℕ) : Type 0 where
   pub front : List ℕ
   pub rest : List ℕ
   pub long : left ≡ length rest
   pub parts : kept ≡ (front ++ 59 ∷ []) ++ rest
   pub tokens : List Token
-  pub leads : Leads 1 bytes (done ++ tokens) line rest
+  pub leads : Leads from (front ++ 59 ∷ []) tokens line []
   pub spelled : SpellsItem legal item (script.shapes tokens)
   pub derived : Derives legal (script.shapes (done ++ tokens)) (items ++ item ∷ [])
   pub within : IsWithinLimits item
 
 -- what was found in the bytes that are kept, behind these tokens of all bytes
-abbrev pub Finds : List ℕ → List Token → List Item → List ℕ → Bool → Found → Type 0
-Finds bytes done items kept ended (found.Item item left line) = Goes bytes done items kept item left line
-Finds bytes done items kept ended (found.Fault f) = IsClosed ended bytes items (script.Fault f.line f.code) × IsDecidedFault ended bytes items f.line f.code
-Finds bytes done items kept ended found.End = (ended ≡ true) × script.Script bytes items script.End
-Finds bytes done items kept ended found.More = (ended ≡ false) × IsInside bytes items
-Finds bytes done items kept ended found.NoMemory = Unit {0}
+abbrev pub Finds : List ℕ → List Token → List Item → ℕ → List ℕ → Bool → Found → Type 0
+Finds bytes done items from kept ended (found.Item item left line) = Goes done items from kept item left line
+Finds bytes done items from kept ended (found.Fault f) = IsClosed ended bytes items (script.Fault f.line f.code) × IsDecidedFault ended bytes items f.line f.code
+Finds bytes done items from kept ended found.End = (ended ≡ true) × script.Script bytes items script.End
+Finds bytes done items from kept ended found.More = (ended ≡ false) × IsInside bytes items
+Finds bytes done items from kept ended found.NoMemory = Unit {0}

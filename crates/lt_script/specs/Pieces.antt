@@ -10,6 +10,15 @@ use Rattle.lt_model.specs.Tokens.{Token, token, fault, Class, white, feed, hash,
 abbrev pub Leads : ℕ → List ℕ → List Token → ℕ → List ℕ → Type 0
 Leads line bytes ts after left = (more : List ℕ) → tokens_at line (bytes ++ more) ≡ (ts ++ (tokens_at after (left ++ more)).0, (tokens_at after (left ++ more)).1)
 
+-- these bytes begin as those that are left do, or in any way where none is left
+abbrev pub BeginsAs : List ℕ → List ℕ → Type 0
+BeginsAs [] bytes = Unit {0}
+BeginsAs (b ∷ left) bytes = (others : List ℕ) × (bytes ≡ b ∷ others)
+
+-- Where bytes come behind this front that begin as those that are left do, the front is these tokens, and theirs follow, from a line on.
+unfoldable pub Passes : ℕ → List ℕ → List Token → ℕ → List ℕ → Type 0
+Passes line front ts after left = (bytes : List ℕ) → BeginsAs left bytes → tokens_at line (front ++ bytes) ≡ (ts ++ (tokens_at after bytes).0, (tokens_at after bytes).1)
+
 -- whether this is a sign, or a byte of one, with which a longer sign begins
 abbrev pub begins_longer : ℕ → List ℕ → Bool
 begins_longer b [] = (b == 33) || (b == 60) || (b == 62)
@@ -52,7 +61,7 @@ pub record IsBack (left bytes : List ℕ) : Type 0 where
 pub record Skipped (line : ℕ) (bytes : List ℕ) (after : ℕ) (left : List ℕ) : Type 0 where
   pub tail : List ℕ
   pub back : IsBack tail bytes
-  pub leads : Leads line bytes [] after tail
+  pub passes : Passes line back.front [] after tail
   pub same : left ≢ [] → tail ≡ left
   pub ends : left ≡ [] → goes_on tail ≡ true
 
@@ -66,5 +75,5 @@ IsFound (Broken code) line tail left = first_at tail ≡ Some (fault code)
 pub record Opened (found : Lexed) (line : ℕ) (bytes : List ℕ) (after : ℕ) (left : List ℕ) : Type 0 where
   pub tail : List ℕ
   pub back : IsBack tail bytes
-  pub leads : Leads line bytes [] after tail
+  pub passes : Passes line back.front [] after tail
   pub is : IsFound found after tail left

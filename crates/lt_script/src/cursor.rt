@@ -87,7 +87,7 @@ impl<'a> Cursor<'a> {
     /// The bytes behind the last token that was passed, with their line.
     pub fn rest(&self) -> Lexer<'a>
         ensures place { IsBehind self.now.source (passed_tokens self.now) result.line result.rest.now }
-        ensures ends { IsBehindSemicolon self.now.source (passed_tokens self.now) result.rest.now }
+        ensures ends { IsBehindSemicolon self.now.source (passed_tokens self.now) result.line result.rest.now }
         ensures fits { result.line + length result.rest.now < 2 ^ 64 }
     {
         self.since

@@ -75,7 +75,7 @@ impl<'a> Cursor<'a> {
 // What these bytes begin with, which begin on the lexer's line.
 fn read_front(alloc: Global, start: Lexer, ended: bool) -> Found
     requires { start.line + length start.rest.now < 2 ^ 64 }
-    ensures { (bytes : List ℕ) (done : List ScriptToken) (items : List ScriptItem) → Leads 1 bytes done start.entry.line start.entry.rest.now → Derives legal (shapes done) items → Finds bytes done items start.entry.rest.now ended result }
+    ensures { (bytes : List ℕ) (done : List ScriptToken) (items : List ScriptItem) → Leads 1 bytes done start.entry.line start.entry.rest.now → Derives legal (shapes done) items → Finds bytes done items start.entry.line start.entry.rest.now ended result }
 {
     let mut cursor = Cursor::over(start);
     match cursor.take_item(alloc) {
@@ -180,7 +180,7 @@ impl Feed {
 
     // What the bytes that are kept begin with. Lines are counted in 64 bits.
     fn look(&self, alloc: Global) -> Found
-        ensures { (bytes : List ℕ) (done : List ScriptToken) (items : List ScriptItem) → Leads 1 bytes done self.now.line (kept_of self.now) → Derives legal (shapes done) items → Finds bytes done items (kept_of self.now) self.now.ended result }
+        ensures { (bytes : List ℕ) (done : List ScriptToken) (items : List ScriptItem) → Leads 1 bytes done self.now.line (kept_of self.now) → Derives legal (shapes done) items → Finds bytes done items self.now.line (kept_of self.now) self.now.ended result }
     {
         let kept = self.kept_bytes();
         if kept.len() as u64 > u64::MAX - self.line {

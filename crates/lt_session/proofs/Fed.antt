@@ -9,6 +9,7 @@ use Rattle.lt_model.specs.Script.{Script}
 use Rattle.lt_script.specs.declared.feed.Feed.{Feed}
 use Rattle.lt_script.specs.declared.feed.Fault.{Fault}
 use Rattle.lt_script.specs.Feed.{kept_of, IsMore, StandsBy, HasFed}
+use Rattle.lt_script.proofs.Feeds.{leads_all}
 use Rattle.lt_script.proofs.Totality.{BeginsReading, goes_on}
 
 pub feeds_on : (f : Feed) (bytes : List ℕ) (items : List Item) → HasFed f bytes items → (more : List ℕ) → IsMore f.ended more → BeginsReading (bytes ++ more) items
@@ -17,7 +18,7 @@ feeds_on f bytes items h more may = go f.fault f.ended f.line (kept_of f) h may
     go : (o : Option Fault) (ended : Bool) (line : ℕ) (kept : List ℕ) → StandsBy o ended line kept bytes items → IsMore ended more → BeginsReading (bytes ++ more) items
     go None ended line kept o may =
         let left : Read = tokens_at line (kept ++ more) in
-        goes_on (length left.0) (bytes ++ more) o.done left.0 items left.1 (omega arith) (o.leads more) o.derived
+        goes_on (length left.0) (bytes ++ more) o.done left.0 items left.1 (omega arith) (leads_all line kept bytes items o more) o.derived
     go (Some fault) ended line kept s may = record {
       more = [];
       close = script.Fault fault.line fault.code;

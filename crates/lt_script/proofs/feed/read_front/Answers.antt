@@ -14,9 +14,9 @@ pub returns-in-Item : goal.returns-in-Item
 returns-in-Item c = λ bytes done items lead d.
     let p = c.over-cursor.result in
     let same = c.over-cursor.ensures.source in
-    subst (λ (s : Source). Goes bytes done items s.bytes c.in-Item.item (length c.rest-rest.result.rest.now) c.rest-rest.result.line) same
+    subst (λ (s : Source). Goes done items s.line s.bytes c.in-Item.item (length c.rest-rest.result.rest.now) c.rest-rest.result.line) same
     (goes bytes done items p c.over-cursor.ensures.passed (leads_at p.source (source_of c.args.start) bytes done same lead) d c.take_item.new.self c.in-Item.item (length c.rest-rest.result.rest.now) c.rest-rest.result.line c.rest-rest.result.rest.now
-    refl c.in-Item.ensures c.rest-rest.ensures.place c.rest-rest.ensures.ends)
+    refl c.in-Item.ensures c.rest-rest.ensures.ends)
 
 pub returns-then-more : goal.returns-then-more
 returns-then-more c = λ bytes done items lead d.

@@ -9,4 +9,4 @@ pub returns-clause-fits : goal.returns-clause-fits
 returns-clause-fits c = c.self.invariant.fits
 
 pub returns-clause-ends : goal.returns-clause-ends
-returns-clause-ends c = subst (λ (p : Place). IsBehindSemicolon p.source (passed_tokens p) c.self.inside.since.rest.now) c.self.view_is c.self.invariant.ends
+returns-clause-ends c = subst (λ (p : Place). IsBehindSemicolon p.source (passed_tokens p) c.self.inside.since.line c.self.inside.since.rest.now) c.self.view_is c.self.invariant.ends

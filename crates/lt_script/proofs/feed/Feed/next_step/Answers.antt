@@ -3,12 +3,16 @@ use Rattle.std.proofs.lemmas.List.{drop_all}
 use Rattle.lt_model.specs.declared.syntax.Item.{Item}
 use Rattle.lt_script.specs.declared.feed.Feed.{Feed}
 use Rattle.lt_script.specs.declared.feed.Fault.{Fault}
+use Rattle.lt_script.specs.Pieces.{Leads}
 use Rattle.lt_script.specs.Feed.{kept_of, HasFed, IsOpenAt}
-use Rattle.lt_script.proofs.Feeds.{open_by, closed_by, kept_none, same_fault, answered, gives, none_by, not_none}
+use Rattle.lt_script.proofs.Feeds.{leads_all, open_by, closed_by, kept_none, same_fault, answered, gives, none_by, not_none}
 use Rattle.lt_script.proofs.feed.Feed.next_step.Goals as goal
 
 open_of : (f : Feed) (bytes : List ℕ) (items : List Item) → ((x : Fault) → f.fault ≡ Some x → ⊥) → HasFed f bytes items → IsOpenAt f.line (kept_of f) bytes items
 open_of f bytes items none h = open_by f.fault f.ended f.line (kept_of f) bytes items none h
+
+all_of : (f : Feed) (bytes : List ℕ) (items : List Item) (o : IsOpenAt f.line (kept_of f) bytes items) → Leads 1 bytes o.done f.line (kept_of f)
+all_of f bytes items o = leads_all f.line (kept_of f) bytes items o
 
 pub returns-in-Some-clause-step : goal.returns-in-Some-clause-step
 returns-in-Some-clause-step c = λ bytes items h. (
@@ -33,31 +37,31 @@ pub returns-in-Item-clause-step : goal.returns-in-Item-clause-step
 returns-in-Item-clause-step c = λ bytes items h.
     let o = open_of c.args.self.now bytes items c.in_default.not-Some h in
     let n : c.len-all.result ≡ length c.args.self.now.bytes.items = omega (arith, c.len-all.ensures) in
-    gives c.args.self.now _ bytes items c.in-Item.item c.in-Item.left c.in-Item.line o (c.in-Item.ensures bytes o.done items o.leads o.derived) refl (c.saturating_sub-self.ensures ∙ ap (λ (k : ℕ). k - c.in-Item.left) n) refl (none_by c.args.self.now.fault c.in_default.not-Some)
+    gives c.args.self.now _ bytes items c.in-Item.item c.in-Item.left c.in-Item.line o (c.in-Item.ensures bytes o.done items (all_of c.args.self.now bytes items o) o.derived) refl (c.saturating_sub-self.ensures ∙ ap (λ (k : ℕ). k - c.in-Item.left) n) refl (none_by c.args.self.now.fault c.in_default.not-Some)
 
 pub returns-in-Fault-clause-step : goal.returns-in-Fault-clause-step
 returns-in-Fault-clause-step c = λ bytes items h.
     let o = open_of c.args.self.now bytes items c.in_default.not-Some h in
     let n : c.len-all-in-Fault.result ≡ length c.args.self.now.bytes.items = omega (arith, c.len-all-in-Fault.ensures) in
-    let f = c.in-Fault.ensures bytes o.done items o.leads o.derived in
+    let f = c.in-Fault.ensures bytes o.done items (all_of c.args.self.now bytes items o) o.derived in
     let none = drop_all c.len-all-in-Fault.result c.args.self.now.bytes.items (omega (arith, n)) in
     (f.0, (none, f.0), record { fault = c.in-Fault.fault; is = refl; line_is = refl; code_is = refl; nothing = none })
 
 pub returns-in-Fault-clause-decided : goal.returns-in-Fault-clause-decided
 returns-in-Fault-clause-decided c = λ bytes items h none.
     let o = open_of c.args.self.now bytes items c.in_default.not-Some h in
-    (c.in-Fault.ensures bytes o.done items o.leads o.derived).1
+    (c.in-Fault.ensures bytes o.done items (all_of c.args.self.now bytes items o) o.derived).1
 
 pub returns-in-End-clause-step : goal.returns-in-End-clause-step
 returns-in-End-clause-step c = λ bytes items h.
     let o = open_of c.args.self.now bytes items c.in_default.not-Some h in
-    let e = c.in-End.ensures bytes o.done items o.leads o.derived in
+    let e = c.in-End.ensures bytes o.done items (all_of c.args.self.now bytes items o) o.derived in
     (e.0, e.1, refl)
 
 pub returns-in-More-clause-step : goal.returns-in-More-clause-step
 returns-in-More-clause-step c = λ bytes items h.
     let o = open_of c.args.self.now bytes items c.in_default.not-Some h in
-    let m = c.in-More.ensures bytes o.done items o.leads o.derived in
+    let m = c.in-More.ensures bytes o.done items (all_of c.args.self.now bytes items o) o.derived in
     (m.0, m.1, refl)
 
 pub returns-in-Item-clause-again : goal.returns-in-Item-clause-again
