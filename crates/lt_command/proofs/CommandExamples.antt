@@ -85,10 +85,22 @@ marks_with_a_value : asked (codes "run" ∷ codes "--marks=true" ∷ []) ≡ Non
 unfolding command clap_on_literals
 marks_with_a_value = refl
 
-bench : asked (codes "bench" ∷ codes "--seed" ∷ codes "1" ∷ codes "--items=64" ∷ codes "--programs" ∷ codes "32" ∷ []) ≡ Some (Bench 1 64 32 4)
+bench : asked (codes "bench" ∷ codes "--seed" ∷ codes "1" ∷ codes "--items=64" ∷ codes "--programs" ∷ codes "32" ∷ []) ≡ Some (Bench 1 64 32 4 0)
 unfolding command clap_on_literals
 bench = refl
 
 no_seed : asked (codes "bench" ∷ codes "--items" ∷ codes "1" ∷ codes "--programs" ∷ codes "1" ∷ []) ≡ None
 unfolding command clap_on_literals
 no_seed = refl
+
+eight_readers : asked (codes "bench" ∷ codes "--seed" ∷ codes "1" ∷ codes "--items" ∷ codes "1" ∷ codes "--programs" ∷ codes "1" ∷ codes "--readers" ∷ codes "8" ∷ []) ≡ Some (Bench 1 1 1 4 8)
+unfolding command clap_on_literals
+eight_readers = refl
+
+nine_readers : asked (codes "bench" ∷ codes "--seed" ∷ codes "1" ∷ codes "--items" ∷ codes "1" ∷ codes "--programs" ∷ codes "1" ∷ codes "--readers" ∷ codes "9" ∷ []) ≡ None
+unfolding command clap_on_literals
+nine_readers = refl
+
+readers_of_a_run : asked (codes "run" ∷ codes "--readers" ∷ codes "1" ∷ []) ≡ None
+unfolding command clap_on_literals
+readers_of_a_run = refl

@@ -40,18 +40,22 @@ items_in = number_within 1 16384 1 (codes "items")
 abbrev pub programs_in : List Row → ℕ
 programs_in = number_within 1 65536 1 (codes "programs")
 
--- it has from 1 to 16 workers, from 1 to 16384 items and from 1 to 65536 programs
+-- how many readers: none where they don't say
+abbrev pub readers_in : List Row → ℕ
+readers_in = number_within 0 definition.most_readers 0 (codes "readers")
+
+-- it has from 1 to 16 workers, from 1 to 16384 items, from 1 to 65536 programs and at most 8 readers
 abbrev pub IsWithin : declared.Command → Type 0
 IsWithin (Run workers marks) = (1 ≤ workers) × (workers ≤ most_workers)
-IsWithin (Bench seed items programs workers) =
-    (1 ≤ items) × (items ≤ 16384) × (1 ≤ programs) × (programs ≤ 65536) × (1 ≤ workers) × (workers ≤ most_workers)
+IsWithin (Bench seed items programs workers readers) =
+    (1 ≤ items) × (items ≤ 16384) × (1 ≤ programs) × (programs ≤ 65536) × (1 ≤ workers) × (workers ≤ most_workers) × (readers ≤ definition.most_readers)
 
 -- the command whose matches these are
 abbrev pub command_in : Option (Text × List Row) → Option declared.Command
 command_in None = None
 command_in (Some p) =
     if bytes_eq p.0 (codes "run") then Some (Run (workers_in p.1) (marks_in p.1))
-    else if bytes_eq p.0 (codes "bench") then Some (Bench (seed_in p.1) (items_in p.1) (programs_in p.1) (workers_in p.1))
+    else if bytes_eq p.0 (codes "bench") then Some (Bench (seed_in p.1) (items_in p.1) (programs_in p.1) (workers_in p.1) (readers_in p.1))
     else None
 
 -- the command that the words ask for; none where the definition doesn't take them

@@ -1,9 +1,13 @@
 -- The commands, as the parser of command lines reads them.
-use Rattle.std.specs.Prelude.{Some, codes, pos, true}
+use Rattle.std.specs.Prelude.{ℕ, Some, codes, pos, true}
 use Rattle.lt_face.specs.Limits.{most_workers}
 use Rattle.clap.specs.Words.{App, Rule, new_app, new_rule, with_rule, with_subcommand}
 use Rattle.clap.specs.declared.builder.value_parser.ValueParser.TheVariants.{Signed, Unsigned}
 use Rattle.clap.specs.declared.builder.action.ArgAction.TheVariants.{SetTrue}
+
+-- readers beside the batches of a bench
+abbrev pub most_readers : ℕ
+most_readers = 8
 
 -- `--workers N`, with N from 1 to 16
 abbrev pub workers : Rule
@@ -43,13 +47,24 @@ programs = record (new_rule (codes "programs")) {
   parser = Some (Signed (pos 1) (pos 65536));
 }
 
+-- `--readers M`, with M from 0 to 8
+abbrev pub readers : Rule
+readers = record (new_rule (codes "readers")) {
+  long = Some (codes "readers");
+  parser = Some (Signed (pos 0) (pos most_readers));
+}
+
 -- `run`
 abbrev pub run : App
 run = with_rule (with_rule (new_app (codes "run")) workers) marks
 
+-- `bench`, as far as it says which script is generated
+abbrev pub bench_of_script : App
+bench_of_script = with_rule (with_rule (with_rule (new_app (codes "bench")) seed) items) programs
+
 -- `bench`
 abbrev pub bench : App
-bench = with_rule (with_rule (with_rule (with_rule (new_app (codes "bench")) seed) items) programs) workers
+bench = with_rule (with_rule bench_of_script workers) readers
 
 -- one of the commands is required
 abbrev pub program : App

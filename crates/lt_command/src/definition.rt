@@ -8,6 +8,9 @@ use clap::{Arg, ArgAction, Command, value_parser};
 use lt_face::limits::MOST_WORKERS;
 use std::alloc::{AllocError, Global};
 
+/// Readers beside the batches of a bench.
+pub(crate) const MOST_READERS: u32 = 8;
+
 // `--workers N`: how many workers run a batch.
 fn workers<'a>(alloc: Global) -> Arg<'a>
     ensures rule { rule_of result ≡ definition.workers }
@@ -61,6 +64,16 @@ fn programs<'a>(alloc: Global) -> Arg<'a>
         .value_parser(value_parser!(u32).range(1..=65536))
 }
 
+// `--readers M`: how many readers ask beside the batches.
+fn readers<'a>(alloc: Global) -> Arg<'a>
+    ensures rule { rule_of result ≡ definition.readers }
+    ensures local { result.global ≡ false }
+{
+    Arg::new(alloc, "readers")
+        .long("readers")
+        .value_parser(value_parser!(u32).range(0..=MOST_READERS as i64))
+}
+
 // `run`: a script is read and its report written.
 fn run<'a>(alloc: Global) -> Result<Command<'a>, AllocError>
     ensures app { IfOk result (λ command. app_of command ≡ definition.run) }
@@ -70,15 +83,24 @@ fn run<'a>(alloc: Global) -> Result<Command<'a>, AllocError>
     run.arg(marks(alloc))
 }
 
+// What `bench` needs to know of the script that it generates.
+fn bench_of_script<'a>(alloc: Global) -> Result<Command<'a>, AllocError>
+    ensures app { IfOk result (λ command. app_of command ≡ definition.bench_of_script) }
+    ensures local { IfOk result (λ command. (fields_of command).has_globals ≡ false) }
+{
+    let bench = Command::new(alloc, "bench").arg(seed(alloc))?;
+    let bench = bench.arg(items(alloc))?;
+    bench.arg(programs(alloc))
+}
+
 // `bench`: a generated script is run and its summary written.
 fn bench<'a>(alloc: Global) -> Result<Command<'a>, AllocError>
     ensures app { IfOk result (λ command. app_of command ≡ definition.bench) }
     ensures local { IfOk result (λ command. (fields_of command).has_globals ≡ false) }
 {
-    let bench = Command::new(alloc, "bench").arg(seed(alloc))?;
-    let bench = bench.arg(items(alloc))?;
-    let bench = bench.arg(programs(alloc))?;
-    bench.arg(workers(alloc))
+    let bench = bench_of_script(alloc)?;
+    let bench = bench.arg(workers(alloc))?;
+    bench.arg(readers(alloc))
 }
 
 /// The commands. The words name one of them.

@@ -3,7 +3,7 @@ ghost use Rattle.std.specs.Prelude.{◌≡◌, ◌≤◌, IfOk, IfSome, map, str
 ghost use Rattle.clap.specs.Words.{found_of, rows_of, subcommand_rows_of};
 ghost use Rattle.lt_command.specs.Command.{command, command_in, marks_in, number_within, seed_in, IsWithin};
 
-use crate::definition::commands;
+use crate::definition::{MOST_READERS, commands};
 use clap::ArgMatches;
 use clap::error::ErrorKind;
 use lt_face::NoMemory;
@@ -24,6 +24,7 @@ pub enum Command {
         items: u32,
         programs: u32,
         workers: u32,
+        readers: u32,
     },
 }
 
@@ -76,6 +77,7 @@ fn command_met(matches: &ArgMatches<'_>) -> Option<Command>
             items: number_of(inner, "items", 1, 1, 16384),
             programs: number_of(inner, "programs", 1, 1, 65536),
             workers: number_of(inner, "workers", 4, 1, MOST_WORKERS as u32),
+            readers: number_of(inner, "readers", 0, 0, MOST_READERS),
         });
     }
     None

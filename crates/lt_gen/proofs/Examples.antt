@@ -44,6 +44,10 @@ one_of_each = refl
 
 -- ---- summaries
 
-summary_of_one : summary_text (summary_of 1 1 1) ≡ codes "programs 1\ndone 1\nrefused 0\nprinted 1\nleft 15\nsold 4\n"
+summary_of_one : summary_text (summary_of 1 1 1 0) ≡ codes "programs 1\ndone 1\nrefused 0\nprinted 1\nleft 15\nsold 4\n"
 unfolding digits
 summary_of_one = refl
+
+read_by_two : summary_text (summary_of 1 1 1 2) ≡ codes "programs 1\ndone 1\nrefused 0\nprinted 1\nleft 15\nsold 4\nreads 32\nequal 32\n"
+unfolding digits
+read_by_two = refl

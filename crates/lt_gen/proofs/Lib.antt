@@ -4,3 +4,4 @@ pub mod Within
 pub mod Parts
 pub mod Adding
 pub mod Answering
+pub mod Asking

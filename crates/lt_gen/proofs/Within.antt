@@ -10,7 +10,7 @@ use Rattle.lt_model.specs.declared.syntax.Item.TheVariants.{Batch}
 use Rattle.lt_model.specs.Cells.{zero_cell}
 use Rattle.lt_model.specs.Limits.{IsStatementWithin, IsProgramWithin, IsWithinLimits}
 use Rattle.lt_gen.specs.Draws.{draw, x_after}
-use Rattle.lt_gen.specs.Programs.{stocks, load, buy, requires_stock, takes_stock, sells, prints_sales}
+use Rattle.lt_gen.specs.Programs.{stocks, load, buy, requires_stock, stock_query, takes_stock, sells, prints_sales}
 use Rattle.lt_gen.specs.Script.{bench_items, buy_items, buyer, group_at, groups, numbers, stock_of}
 
 -- ---- lists
@@ -107,6 +107,21 @@ load_within xs all j = record { statements = all_group IsStatementWithin xs j al
 buy_within : (p c i k : ℕ) → p < 2 ^ 64 → c < 2 ^ 64 → i < 2 ^ 64 → k < 2 ^ 64 → IsProgramWithin (buy p c i k)
 buy_within p c i k hp hc hi hk = record {
   statements = (requires_within i c hi hc, (takes_within i c hi hc, (sells_within p i c hp hi hc, (prints_within k hk, tt))));
+  few = lit≤ tt;
+}
+
+pub query_within : IsProgramWithin stock_query
+query_within = record {
+  statements = (
+    record {
+      heads = tt;
+      printed = record { some = lit≤ tt; few = lit≤ tt; cells = (tt, (tt, tt)) };
+      literals = (record { some = lit≤ tt; few = lit≤ tt; cells = (tt, (tt, tt)) }, tt);
+      few_literals = lit≤ tt;
+      few_variables = lit≤ tt;
+    },
+    tt,
+  );
   few = lit≤ tt;
 }
 

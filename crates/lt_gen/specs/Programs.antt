@@ -60,3 +60,11 @@ load statements = record { name = codes "load"; statements = statements }
 -- program p buys c of item i, and prints who bought item k
 abbrev pub buy : ℕ → ℕ → ℕ → ℕ → Program
 buy p c i k = record { name = codes "buy"; statements = requires_stock i c ∷ takes_stock i c ∷ sells p i c ∷ prints_sales k ∷ [] }
+
+-- `print (i, n) where stock(i, n);`
+abbrev pub prints_stock : Statement
+prints_stock = Print (var (codes "i") ∷ var (codes "n") ∷ []) (Atom (stock (var (codes "i")) (var (codes "n"))) ∷ [])
+
+-- what readers ask
+abbrev pub stock_query : Program
+stock_query = record { name = codes "ask"; statements = prints_stock ∷ [] }

@@ -6,6 +6,7 @@ use Rattle.lt_model.specs.declared.syntax.Statement.{Statement}
 use Rattle.lt_model.specs.declared.syntax.Program.{Program}
 use Rattle.lt_model.specs.declared.syntax.Item.{Item}
 use Rattle.lt_model.specs.declared.syntax.Item.TheVariants.{Relation, Batch}
+use Rattle.lt_model.specs.Schema.{Schema}
 use Rattle.lt_gen.specs.Draws.{draw}
 use Rattle.lt_gen.specs.Programs.{stocks, load, buy}
 
@@ -37,6 +38,10 @@ stock_item = Relation (codes "stock") (Int ∷ Int ∷ [])
 
 abbrev pub sale_item : Item
 sale_item = Relation (codes "sale") (Int ∷ Int ∷ Int ∷ [])
+
+-- the relations of the script, by name
+abbrev pub bench_schema : Schema
+bench_schema = (codes "stock", Int ∷ Int ∷ []) ∷ (codes "sale", Int ∷ Int ∷ Int ∷ []) ∷ []
 
 -- one batch, whose programs insert a row for each item
 abbrev pub load_item : ℕ → ℕ → Item

@@ -1,5 +1,5 @@
 -- The summary of the generated script.
-use Rattle.std.specs.Prelude.{ℕ, ℤ, pos, ◌+ℤ◌, List, [], ◌∷◌, ◌++◌, map, false, fold, filter_map, slice_index, Option, Some, None, codes, decimal}
+use Rattle.std.specs.Prelude.{ℕ, zero, suc, ◌*◌, ℤ, pos, ◌+ℤ◌, List, [], ◌∷◌, ◌++◌, map, false, fold, filter_map, slice_index, Option, Some, None, codes, decimal}
 use Rattle.std.specs.Fmt.{signed_decimal}
 use Rattle.lt_face.specs.State.{Row, State, rows_in}
 use Rattle.lt_model.specs.Cells.{int_or_none, cell_int}
@@ -42,10 +42,15 @@ rows_named w name = rows_at w.state (number_of w.schema name)
 abbrev pub last_world : ℕ → ℕ → ℕ → World
 last_world seed items programs = fold (step false) opening (bench_items seed items programs)
 
+-- how many queries so many readers make, if there are some
+abbrev pub queries_of : ℕ → Option ℕ
+queries_of zero = None
+queries_of (suc readers) = Some (16 * suc readers)
+
 -- what comes of the script, its programs run one after another: how many programs that buy there are, how many were done
 -- and how many refused, how many rows were printed, how many of all items are left in stock, and how many were sold
-abbrev pub summary_of : ℕ → ℕ → ℕ → Summary
-summary_of seed items programs =
+abbrev pub summary_of : ℕ → ℕ → ℕ → ℕ → Summary
+summary_of seed items programs readers =
     let answers = answers_from opening (bench_items seed items programs) in
     let last = last_world seed items programs in
     record {
@@ -55,6 +60,8 @@ summary_of seed items programs =
       printed = printed_count answers;
       left = column_sum 1 (rows_named last (codes "stock"));
       sold = column_sum 2 (rows_named last (codes "sale"));
+      reads = queries_of readers;
+      equal = queries_of readers;
     }
 
 -- the lines of the programs and how they ended
@@ -65,6 +72,15 @@ counts_text s = line (codes "programs" ∷ decimal s.programs ∷ []) ++ line (c
 abbrev pub sums_text : Summary → Text
 sums_text s = line (codes "printed" ∷ decimal s.printed ∷ []) ++ line (codes "left" ∷ signed_decimal s.left ∷ []) ++ line (codes "sold" ∷ signed_decimal s.sold ∷ [])
 
--- its six lines
+-- the line of a number that may not be there
+abbrev pub count_text : Text → Option ℕ → Text
+count_text word None = []
+count_text word (Some n) = line (word ∷ decimal n ∷ [])
+
+-- the lines of what was read beside the batches, where someone read
+abbrev pub reads_text : Summary → Text
+reads_text s = count_text (codes "reads") s.reads ++ count_text (codes "equal") s.equal
+
+-- its six lines, or eight
 abbrev pub summary_text : Summary → Text
-summary_text s = counts_text s ++ sums_text s
+summary_text s = counts_text s ++ sums_text s ++ reads_text s

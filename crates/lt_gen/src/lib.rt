@@ -12,6 +12,7 @@ mod sums;
 mod text;
 
 pub use script::{ItemList, bench_script};
+pub use statements::stock_query;
 pub use summary::Summary;
 pub use sums::column_sum;
 pub use text::bench_summary;

@@ -1,6 +1,7 @@
 //! The statements and the programs of the generated script.
 ghost use Rattle.std.specs.Prelude.{◌≡◌, ◌≤◌, [], ◌∷◌, length, IfOk};
-ghost use Rattle.lt_gen.specs.Programs.{sales_of, buy, int, load, prints_sales, requires_stock, sale, sells, stock, stocks, takes_stock, stock_less, var};
+ghost use Rattle.lt_model.specs.Limits.{IsProgramWithin};
+ghost use Rattle.lt_gen.specs.Programs.{sales_of, buy, int, load, prints_sales, prints_stock, requires_stock, sale, sells, stock, stock_query, stocks, takes_stock, stock_less, var};
 
 use lt_face::NoMemory;
 use lt_face::items::Items;
@@ -149,6 +150,31 @@ fn prints_sales(alloc: Global, k: u32) -> Result<Statement, NoMemory>
     let terms = pair(alloc, program, count)?;
     let body = sales_of(alloc, k)?;
     Ok(Statement::Print { terms, body })
+}
+
+// `print (i, n) where stock(i, n);`
+fn prints_stock(alloc: Global) -> Result<Statement, NoMemory>
+    ensures { IfOk result (λ statement. statement ≡ prints_stock) }
+{
+    let terms = pair(alloc, var(alloc, b"i"), var(alloc, b"n"))?;
+    let head = stock(alloc, var(alloc, b"i"), var(alloc, b"n"))?;
+    let mut body = Items::new(alloc);
+    body.push(Literal::Atom(head))?;
+    Ok(Statement::Print { terms, body })
+}
+
+/// The program that readers ask, which prints all that is in stock.
+pub fn stock_query(alloc: Global) -> Result<Program, NoMemory>
+    ensures query { IfOk result (λ program. program ≡ stock_query) }
+    ensures within { IfOk result IsProgramWithin }
+{
+    let printed = prints_stock(alloc)?;
+    let mut statements = Items::new(alloc);
+    statements.push(printed)?;
+    Ok(Program {
+        name: Name::from_bytes(alloc, b"ask"),
+        statements,
+    })
 }
 
 /// A program that loads rows.

@@ -19,6 +19,9 @@ pub struct Summary {
     pub printed: u128,
     pub left: i128,
     pub sold: i128,
+    /// How many queries the readers made, and how many of their replies were those of their versions; None where no one read.
+    pub reads: Option<u64>,
+    pub equal: Option<u64>,
 }
 
 // How many rows there are in all.
@@ -80,6 +83,8 @@ impl Summary {
             printed: 0,
             left: 0,
             sold: 0,
+            reads: None,
+            equal: None,
         }
     }
 

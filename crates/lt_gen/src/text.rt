@@ -3,7 +3,7 @@ ghost use Rattle.std.specs.Prelude.{◌≡◌, ◌++◌, ◌∷◌, [], codes, d
 ghost use Rattle.std.specs.Fmt.{signed_decimal};
 ghost use Rattle.lt_model.specs.Report.{line as line_of};
 ghost use Rattle.lt_report.specs.Puts.{Puts};
-ghost use Rattle.lt_gen.specs.Summaries.{counts_text, sums_text, summary_text};
+ghost use Rattle.lt_gen.specs.Summaries.{count_text, counts_text, reads_text, sums_text, summary_text};
 
 use crate::summary::Summary;
 use itoa::{Buffer, Integer};
@@ -36,10 +36,29 @@ fn put_sums<K: Sink>(sink: &mut K, summary: &Summary) -> Result<(), Failed>
     put_number(sink, b"sold", summary.sold)
 }
 
+// A number that may not be there.
+fn put_if_there<K: Sink>(sink: &mut K, word: &[u8], number: Option<u64>) -> Result<(), Failed>
+    ensures { Puts result (K.holds sink.old) (K.holds sink.new) (K.faults sink.old) (K.faults sink.new) (count_text word.now number) }
+{
+    match number {
+        Some(number) => put_number(sink, word, number),
+        None => Ok(()),
+    }
+}
+
+// What was read beside the batches.
+fn put_reads<K: Sink>(sink: &mut K, summary: &Summary) -> Result<(), Failed>
+    ensures { Puts result (K.holds sink.old) (K.holds sink.new) (K.faults sink.old) (K.faults sink.new) (reads_text summary.now) }
+{
+    put_if_there(sink, b"reads", summary.reads)?;
+    put_if_there(sink, b"equal", summary.equal)
+}
+
 /// The lines of a summary. It takes no memory.
 pub fn bench_summary<K: Sink>(sink: &mut K, summary: &Summary) -> Result<(), Failed>
     ensures { Puts result (K.holds sink.old) (K.holds sink.new) (K.faults sink.old) (K.faults sink.new) (summary_text summary.now) }
 {
     put_programs(sink, summary)?;
-    put_sums(sink, summary)
+    put_sums(sink, summary)?;
+    put_reads(sink, summary)
 }

@@ -69,7 +69,7 @@ none_taken marks l h =
 -- so for a run, whatever the words are
 pub none_run : (o : Option Command) (l h : Bytes) → IfRun o (λ marks. IsPart marks l l h h)
 none_run (Some (Run workers marks)) l h = none_taken marks l h
-none_run (Some (Bench seed items programs workers)) l h = tt
+none_run (Some (Bench seed items programs workers readers)) l h = tt
 none_run None l h = tt
 
 -- ---- why a script stops

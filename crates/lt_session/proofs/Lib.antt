@@ -15,3 +15,7 @@ pub mod Ends
 pub mod Standing
 pub mod Counting
 pub mod Summing
+pub mod Asked
+pub mod Posted
+pub mod Compared
+pub mod Beginning

@@ -1,6 +1,6 @@
 -- What comes of a script, item by item.
-use Rattle.std.proofs.Common.{◌≡◌, ℕ, ◌+◌, ◌*◌, ◌≤◌, ◌<◌, List, [], ◌∷◌, ◌++◌, length, true, false, Some, None, refl, sym, ap, subst, ◌∙◌, arith}
-use Rattle.std.specs.Prelude.{Option, ℤ, if◌then◌else◌, fold, nat_le, nat_lt, unwrap_or, slice_get, codes}
+use Rattle.std.proofs.Common.{◌≡◌, ℕ, zero, suc, ◌+◌, ◌*◌, ◌≤◌, ◌<◌, List, [], ◌∷◌, ◌++◌, length, true, false, Some, None, refl, sym, ap, subst, ◌∙◌, arith}
+use Rattle.std.specs.Prelude.{Bool, Option, ℤ, if◌then◌else◌, fold, nat_le, nat_lt, unwrap_or, slice_get, codes}
 use Rattle.std.specs.Borrow.{Bor}
 use Rattle.std.specs.Option.{option_copied}
 use Rattle.std.proofs.lemmas.List.{length-append, length_push}
@@ -20,71 +20,79 @@ use Rattle.lt_gen.specs.declared.summary.Summary.{Summary}
 use Rattle.lt_gen.specs.Answered.{Answer, answers_from, answers_to}
 use Rattle.lt_gen.specs.Counted.{Counts}
 use Rattle.lt_gen.specs.Script.{bench_items}
-use Rattle.lt_gen.specs.Summaries.{column_sum, last_world, rows_at, rows_named, summary_of}
+use Rattle.lt_gen.specs.Summaries.{column_sum, last_world, queries_of, rows_at, rows_named, summary_of}
 use Rattle.lt_gen.proofs.Answering.{answers-push, item_answers_few}
+use Rattle.lt_session.specs.declared.come.Come.{Come}
 use Rattle.lt_session.specs.declared.world.World.{World}
+use Rattle.lt_session.specs.Coming.{HasCome, HasRun}
 use Rattle.lt_session.specs.Counting.{HasRoomFor}
-use Rattle.lt_session.specs.World.{IsWorld, now_of, Shows, ShowsNow, unwritten}
+use Rattle.lt_session.specs.World.{IsWorld, now_of, Shows, ShowsNow}
 use Rattle.lt_session.proofs.Columns.{set_held}
-use Rattle.lt_session.proofs.Said.{Shows-unwritten}
 
 -- ---- a session that has no versions
 
-related_now : (m : model.World) (name : List ℕ) (kinds : List Kind) (o : Option ℕ) → unwritten (with_relation (now_of m) name kinds o) ≡ now_of (with_relation m name kinds o)
+-- whether a test holds or not
+either_now : (b : Bool) (u v w x : model.World) → now_of u ≡ now_of w → now_of v ≡ now_of x → now_of (if b then u else v) ≡ now_of (if b then w else x)
+either_now true u v w x e f = e
+either_now false u v w x e f = f
+
+related_now : (m : model.World) (name : List ℕ) (kinds : List Kind) (o : Option ℕ) → now_of (with_relation (now_of m) name kinds o) ≡ now_of (with_relation m name kinds o)
 related_now m name kinds (Some n) = refl
-related_now m name kinds None =
-    let new : List Relation = record { width = length kinds; rows = [] } ∷ [] in
-    elim (nat_le 64 (length m.schema)) as (λ b. unwritten (if b then says (now_of m) (bad_text 25) else record (now_of m) { schema = m.schema ++ (name, kinds) ∷ []; state = m.state ++ new })
-    ≡ now_of (if b then says m (bad_text 25) else record m { schema = m.schema ++ (name, kinds) ∷ []; state = m.state ++ new })) [ true ↦ refl | false ↦ refl ]
+related_now m name kinds None = either_now (nat_le 64 (length m.schema)) _ _ _ _ refl refl
 
 shown_now : (m : model.World) (name : List ℕ) (at o : Option ℕ) → now_of (shown m name at o) ≡ now_of m
 shown_now m name at None = refl
-shown_now m name at (Some n) =
-    elim (nat_lt (length m.versions) (unwrap_or at 0)) as (λ b. now_of (if b then says m (bad_text 26) else says m (show_text name at (columns_of m.schema name) (rows_in (at_version m at) n))) ≡ now_of m) [ true ↦ refl | false ↦ refl ]
+shown_now m name at (Some n) = either_now (nat_lt (length m.versions) (unwrap_or at 0)) (says m (bad_text 26)) _ m m refl refl ∙ elim (nat_lt (length m.versions) (unwrap_or at 0)) as (λ b. now_of (if b then m else m) ≡ now_of m) [ true ↦ refl | false ↦ refl ]
 
-pub relation_now : (w : World) (m : model.World) (name : List ℕ) (kinds : List Kind) → Shows w (step false (now_of m) (Declares name kinds)) → ShowsNow w (step false m (Declares name kinds))
-relation_now w m name kinds s =
-    subst (Shows w) (related_now m name kinds (number_of m.schema name)) (Shows-unwritten w (step false (now_of m) (Declares name kinds)) s)
+-- a step goes where it would with versions
+pub now_step : (m : model.World) (item : Item) → now_of (step false (now_of m) item) ≡ now_of (step false m item)
+now_step m (Declares name kinds) = related_now m name kinds (number_of m.schema name)
+now_step m (Batch programs) = refl
+now_step m (Show name at) = shown_now (now_of m) name at (number_of m.schema name) ∙ sym (shown_now m name at (number_of m.schema name))
 
-pub show_now : (w : World) (m : model.World) (name : List ℕ) (at : Option ℕ) → ShowsNow w m → ShowsNow w (step false m (Show name at))
-show_now w m name at s = subst (Shows w) (sym (shown_now m name at (number_of m.schema name))) s
-
-pub batch_now : (w : World) (m : model.World) (programs : List Program) → ShowsNow w (step false (now_of m) (Batch programs)) → ShowsNow w (step false m (Batch programs))
-batch_now w m programs s = s
+-- and its programs answer the same
+pub answers_now : (m : model.World) (item : Item) → answers_to (now_of m) item ≡ answers_to m item
+answers_now m (Declares name kinds) = refl
+answers_now m (Batch programs) = refl
+answers_now m (Show name at) = refl
 
 -- ---- items
 
--- the items were run, and what their programs answered was counted
-pub record HasRun (items : List Item) (world : World) (summary : Summary) : Type 0 where
-  pub shows : ShowsNow world (fold (step false) opening items)
-  pub counts : Counts summary (answers_from opening items)
-  pub few : length (answers_from opening items) ≤ 256 * length items
+pub world_now : (items : List Item) (world : World) (summary : Summary) → HasRun ShowsNow items world summary → IsWorld world
+world_now items world summary so_far = record { model = now_of (fold (step false) opening items); shows = so_far.shows }
 
-pub none_run : (world : World) (summary : Summary) → Shows world opening → Counts summary [] → HasRun [] world summary
-none_run world summary shows counts = record { shows = shows; counts = counts; few = omega arith }
+pub world_kept : (items : List Item) (world : World) (summary : Summary) → HasRun Shows items world summary → IsWorld world
+world_kept items world summary so_far = record { model = fold (step false) opening items; shows = so_far.shows }
 
-module _ (items : List Item) (world : World) (summary : Summary) (so_far : HasRun items world summary) where
-  pub is_world : IsWorld world
-  is_world = record { model = now_of (fold (step false) opening items); shows = so_far.shows }
+module _ (Stands : World → model.World → Type 0) where
+  pub none_run : (world : World) (summary : Summary) → Stands world opening → Counts summary [] → HasRun Stands [] world summary
+  none_run world summary shows counts = record { shows = shows; counts = counts; few = omega arith }
 
-  pub room_for_one : (n : ℕ) → length items < n → n ≤ 1027 → HasRoomFor summary 256
-  room_for_one n below few = record { answers = answers_from opening items; counts = so_far.counts; few = omega (arith, so_far.few, below, few) }
+  module _ (items : List Item) (world : World) (summary : Summary) (so_far : HasRun Stands items world summary) where
+    pub room_for_one : (n : ℕ) → length items < n → n ≤ 1027 → HasRoomFor summary 256
+    room_for_one n below few = record { answers = answers_from opening items; counts = so_far.counts; few = omega (arith, so_far.few, below, few) }
 
-  -- one item more
-  pub one_run : (item : Item) (w : World) (counted : Summary) → IsWithinLimits item → ((m : model.World) → ShowsNow world m → ShowsNow w (step false m item))
-      → ((m : model.World) (answers : List Answer) → ShowsNow world m → Counts summary answers → Counts counted (answers ++ answers_to m item)) → HasRun (items ++ item ∷ []) w counted
-  one_run item w counted within takes counts =
-      let m : model.World = fold (step false) opening items in
-      let more : answers_from opening (items ++ item ∷ []) ≡ answers_from opening items ++ answers_to m item = answers-push opening items item in
-      let here : length (answers_to m item) ≤ 256 = item_answers_few m item within in
-      let both : length (answers_from opening (items ++ item ∷ [])) ≡ length (answers_from opening items) + length (answers_to m item) =
-      ap (λ (xs : List Answer). length xs) more ∙ length-append (answers_from opening items) (answers_to m item) in
-      let longer : length (items ++ item ∷ []) ≡ length items + 1 = length_push items item in
-      record {
-        shows = subst (ShowsNow w) (sym (fold_push (step false) opening items item)) (takes m so_far.shows);
-        counts = subst (Counts counted) (sym more) (counts m (answers_from opening items) so_far.shows so_far.counts);
-        few = omega (arith, both, here, longer, so_far.few);
-      }
+    -- one item more
+    pub one_run : (item : Item) (w : World) (counted : Summary) → IsWithinLimits item → ((m : model.World) → Stands world m → Stands w (step false m item))
+        → ((m : model.World) (answers : List Answer) → Stands world m → Counts summary answers → Counts counted (answers ++ answers_to m item)) → HasRun Stands (items ++ item ∷ []) w counted
+    one_run item w counted within takes counts =
+        let m : model.World = fold (step false) opening items in
+        let more : answers_from opening (items ++ item ∷ []) ≡ answers_from opening items ++ answers_to m item = answers-push opening items item in
+        let here : length (answers_to m item) ≤ 256 = item_answers_few m item within in
+        let both : length (answers_from opening (items ++ item ∷ [])) ≡ length (answers_from opening items) + length (answers_to m item) =
+        ap (λ (xs : List Answer). length xs) more ∙ length-append (answers_from opening items) (answers_to m item) in
+        let longer : length (items ++ item ∷ []) ≡ length items + 1 = length_push items item in
+        record {
+          shows = subst (Stands w) (sym (fold_push (step false) opening items item)) (takes m so_far.shows);
+          counts = subst (Counts counted) (sym more) (counts m (answers_from opening items) so_far.shows so_far.counts);
+          few = omega (arith, both, here, longer, so_far.few);
+        }
+
+pub come_alone : (items : List Item) (come : Come) → HasRun ShowsNow items come.world come.summary → HasCome items come
+come_alone items come run = record { model = now_of (fold (step false) opening items); shows = run.shows; now = refl; counts = run.counts }
+
+pub come_kept : (items : List Item) (come : Come) → HasRun Shows items come.world come.summary → HasCome items come
+come_kept items come run = record { model = fold (step false) opening items; shows = run.shows; now = refl; counts = run.counts }
 
 -- ---- relations by name
 
@@ -101,20 +109,31 @@ module _ (w : World) (m : model.World) (s : Shows w m) (name : List ℕ) where
 
 -- ---- the summary
 
--- what was counted, with these sums
-abbrev pub with_sums : Summary → ℤ → ℤ → Summary
-with_sums s left sold = record { programs = s.programs; done = s.done; refused = s.refused; printed = s.printed; left = left; sold = sold }
+-- what was counted, with these sums and these numbers of queries
+abbrev pub with_sums : Summary → ℤ → ℤ → Option ℕ → Option ℕ → Summary
+with_sums s left sold reads equal = record { programs = s.programs; done = s.done; refused = s.refused; printed = s.printed; left = left; sold = sold; reads = reads; equal = equal }
 
-is_summary : (seed items programs : ℕ) (s : Summary) (left sold : ℤ) → s.programs ≡ programs → Counts s (answers_from opening (bench_items seed items programs))
+is_summary : (seed items programs readers : ℕ) (s : Summary) (left sold : ℤ) (reads equal : Option ℕ) → s.programs ≡ programs → Counts s (answers_from opening (bench_items seed items programs))
     → left ≡ column_sum 1 (rows_named (last_world seed items programs) (codes "stock")) → sold ≡ column_sum 2 (rows_named (last_world seed items programs) (codes "sale"))
-    → with_sums s left sold ≡ summary_of seed items programs
-is_summary seed items programs s left sold asked counts stock sale = rw (asked, counts.done, counts.refused, counts.printed, stock, sale) refl
+    → reads ≡ queries_of readers → equal ≡ queries_of readers → with_sums s left sold reads equal ≡ summary_of seed items programs readers
+is_summary seed items programs readers s left sold reads equal asked counts stock sale queries same = rw (asked, counts.done, counts.refused, counts.printed, stock, sale, queries, same) refl
+
+-- a relation's rows, as the fold has them
+rows_there : (items : List Item) (come : Come) (h : HasCome items come) (name : List ℕ) → rows_named h.model name ≡ rows_named (fold (step false) opening items) name
+rows_there items come h name = ap (λ (m : model.World). rows_named m name) h.now
 
 -- behind the last item
-pub all_run : (seed items programs : ℕ) (ran : List Item) (world : World) (s : Summary) (left sold : ℤ) → ran ≡ bench_items seed items programs → HasRun ran world s → s.programs ≡ programs
-    → ((m : model.World) → Shows world m → left ≡ column_sum 1 (rows_named m (codes "stock"))) → ((m : model.World) → Shows world m → sold ≡ column_sum 2 (rows_named m (codes "sale")))
-    → with_sums s left sold ≡ summary_of seed items programs
-all_run seed items programs ran world s left sold all run asked stock sale =
-    let done : HasRun (bench_items seed items programs) world s = subst (λ (xs : List Item). HasRun xs world s) all run in
-    let last : model.World = now_of (last_world seed items programs) in
-    is_summary seed items programs s left sold asked done.counts (stock last done.shows) (sale last done.shows)
+pub all_run : (seed items programs readers : ℕ) (ran : List Item) (come : Come) (left sold : ℤ) (reads equal : Option ℕ) → ran ≡ bench_items seed items programs → HasCome ran come → come.summary.programs ≡ programs
+    → ((m : model.World) → Shows come.world m → left ≡ column_sum 1 (rows_named m (codes "stock"))) → ((m : model.World) → Shows come.world m → sold ≡ column_sum 2 (rows_named m (codes "sale")))
+    → reads ≡ queries_of readers → equal ≡ queries_of readers → with_sums come.summary left sold reads equal ≡ summary_of seed items programs readers
+all_run seed items programs readers ran come left sold reads equal all run asked stock sale queries same =
+    let done : HasCome (bench_items seed items programs) come = subst (λ (xs : List Item). HasCome xs come) all run in
+    is_summary seed items programs readers come.summary left sold reads equal asked done.counts
+    (stock done.model done.shows ∙ ap (column_sum 1) (rows_there (bench_items seed items programs) come done (codes "stock")))
+    (sale done.model done.shows ∙ ap (column_sum 2) (rows_there (bench_items seed items programs) come done (codes "sale")))
+    queries same
+
+-- how many queries some readers make
+pub some_queries : (readers made : ℕ) → 1 ≤ readers → made ≡ 16 * readers → Some made ≡ queries_of readers
+some_queries zero made some is = absurd (omega (arith, some))
+some_queries (suc n) made some is = ap Some is

@@ -20,13 +20,13 @@ use Rattle.lt_session.specs.Reports.{IsFrontOf, IsReportOf}
 -- the words ask for a run, with marks or without, of which this holds
 abbrev pub IfRun : Option Command → (Bool → Type 0) → Type 0
 IfRun (Some (Run workers marks)) P = P marks
-IfRun (Some (Bench seed items programs workers)) P = ⊤
+IfRun (Some (Bench seed items programs workers readers)) P = ⊤
 IfRun None P = ⊤
 
--- the words ask for a bench, with this seed and so many items and programs, of which this holds
-abbrev pub IfBench : Option Command → (ℕ → ℕ → ℕ → Type 0) → Type 0
+-- the words ask for a bench, with this seed and so many items, programs and readers, of which this holds
+abbrev pub IfBench : Option Command → (ℕ → ℕ → ℕ → ℕ → Type 0) → Type 0
 IfBench (Some (Run workers marks)) P = ⊤
-IfBench (Some (Bench seed items programs workers)) P = P seed items programs
+IfBench (Some (Bench seed items programs workers readers)) P = P seed items programs readers
 IfBench None P = ⊤
 
 -- these are all bytes that the source had left, and they are within the limit
@@ -93,8 +93,8 @@ EndsAs marks NoMemory l m r s h i w x = IsPart marks l m h i
 EndsAs marks TooLong l m r s h i w x = IsTooLong l m × IsLongPart marks l m h i
 
 -- the lines that tell what comes of the generated script
-abbrev pub bench_text : ℕ → ℕ → ℕ → List ℕ
-bench_text seed items programs = summary_text (summary_of seed items programs)
+abbrev pub bench_text : ℕ → ℕ → ℕ → ℕ → List ℕ
+bench_text seed items programs readers = summary_text (summary_of seed items programs readers)
 
 -- how a bench ends that has this text to write
 abbrev pub BenchEndsAs : List ℕ → Status → Option (List ℕ) → Option (List ℕ) → ℕ → ℕ → Type 0

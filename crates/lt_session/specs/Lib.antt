@@ -9,3 +9,7 @@ pub mod Statuses
 pub mod Writing
 pub mod Ends
 pub mod Counting
+pub mod Coming
+pub mod Reading
+pub mod Asking
+pub mod Posting

@@ -3,6 +3,8 @@
 
 mod batch;
 mod bench;
+mod beside;
+mod come;
 mod halt;
 mod input;
 mod options;

@@ -13,4 +13,6 @@ pub struct Generated {
     pub seed: u64,
     pub items: u32,
     pub programs: u32,
+    /// How many readers ask beside its batches.
+    pub readers: u32,
 }

@@ -91,8 +91,9 @@ fn run_bench<R: Threads + Wait + Sync, K: Sink, G: Gate>(
 ) -> Status
     requires items { (1 ≤ generated.items) × (generated.items ≤ 16384) }
     requires programs { (1 ≤ generated.programs) × (generated.programs ≤ 65536) }
+    requires readers { generated.readers ≤ 8 }
     requires workers { (1 ≤ workers) × (workers ≤ most_workers) }
-    ensures { BenchEndsAs (bench_text generated.seed generated.items generated.programs) result (K.holds sink.old) (K.holds sink.new) (K.faults sink.old) (K.faults sink.new) }
+    ensures { BenchEndsAs (bench_text generated.seed generated.items generated.programs generated.readers) result (K.holds sink.old) (K.holds sink.new) (K.faults sink.old) (K.faults sink.new) }
 {
     let Ok(summary) = summarize(rt, alloc, generated, workers, gate) else {
         return Status::NoMemory;
@@ -117,9 +118,10 @@ pub fn repair_main<R: Threads + Wait + Sync, S: Source, K: Sink, G: Gate>(
     // A run: the bytes written are the report of the bytes read, with marks where they are asked for.
     ensures reported { result ≡ 0 → IfRun (command (map string_bytes words.now)) (λ marks. IsReported marks (S.left source.old) (S.left source.new) (K.holds sink.old) (K.holds sink.new)) }
     ensures faulty { result ≡ 2 → IfRun (command (map string_bytes words.now)) (λ marks. IsFaultReported marks (S.left source.old) (S.left source.new) (K.holds sink.old) (K.holds sink.new)) }
-    // A bench: the bytes written tell what comes of the generated script, its programs run one after another.
-    ensures summed { result ≡ 0 → IfBench (command (map string_bytes words.now)) (λ seed items programs. Appends (K.holds sink.old) (K.holds sink.new) (bench_text seed items programs)) }
-    ensures unread { IfBench (command (map string_bytes words.now)) (λ seed items programs. Keeps (S.left source.old) (S.left source.new)) }
+    // A bench: the bytes written tell what comes of the generated script, its programs run one after another; and of readers beside
+    // them, that each reply was that of the version that it named.
+    ensures summed { result ≡ 0 → IfBench (command (map string_bytes words.now)) (λ seed items programs readers. Appends (K.holds sink.old) (K.holds sink.new) (bench_text seed items programs readers)) }
+    ensures unread { IfBench (command (map string_bytes words.now)) (λ seed items programs readers. Keeps (S.left source.old) (S.left source.new)) }
     // Why it ended otherwise.
     ensures words { (result ≡ 1) ⊎ (result ≡ 4) ⊎ (result ≡ 5) ⊎ IsTrue (is_taken (map string_bytes words.now)) }
     ensures not_taken { result ≡ 1 → is_taken (map string_bytes words.now) ≡ false }
@@ -127,19 +129,19 @@ pub fn repair_main<R: Threads + Wait + Sync, S: Source, K: Sink, G: Gate>(
     ensures read_fault { result ≡ 3 → Rose (S.faults source.old) (S.faults source.new) }
     ensures write_fault { result ≡ 4 → Rose (K.faults sink.old) (K.faults sink.new) }
     ensures too_long { result ≡ 6 → IsTooLong (S.left source.old) (S.left source.new) }
-    ensures bench_ends { IfBench (command (map string_bytes words.now)) (λ seed items programs. (result ≡ 0) ⊎ (result ≡ 4) ⊎ (result ≡ 5)) }
+    ensures bench_ends { IfBench (command (map string_bytes words.now)) (λ seed items programs readers. (result ≡ 0) ⊎ (result ≡ 4) ⊎ (result ≡ 5)) }
     ensures known { result ≤ 6 }
     // What was written until then.
     ensures part { ((result ≡ 3) ⊎ (result ≡ 4) ⊎ (result ≡ 5)) → IfRun (command (map string_bytes words.now)) (λ marks. IsPart marks (S.left source.old) (S.left source.new) (K.holds sink.old) (K.holds sink.new)) }
     ensures long_part { result ≡ 6 → IfRun (command (map string_bytes words.now)) (λ marks. IsLongPart marks (S.left source.old) (S.left source.new) (K.holds sink.old) (K.holds sink.new)) }
-    ensures bench_part { result ≡ 4 → IfBench (command (map string_bytes words.now)) (λ seed items programs. AppendsFront (K.holds sink.old) (K.holds sink.new) (bench_text seed items programs)) }
-    ensures bench_unwritten { result ≡ 5 → IfBench (command (map string_bytes words.now)) (λ seed items programs. Keeps (K.holds sink.old) (K.holds sink.new)) }
+    ensures bench_part { result ≡ 4 → IfBench (command (map string_bytes words.now)) (λ seed items programs readers. AppendsFront (K.holds sink.old) (K.holds sink.new) (bench_text seed items programs readers)) }
+    ensures bench_unwritten { result ≡ 5 → IfBench (command (map string_bytes words.now)) (λ seed items programs readers. Keeps (K.holds sink.old) (K.holds sink.new)) }
     ensures usage_part { result ≡ 4 → is_taken (map string_bytes words.now) ≡ false → AppendsFront (K.holds sink.old) (K.holds sink.new) usage_text }
     ensures usage_unwritten { result ≡ 5 → is_taken (map string_bytes words.now) ≡ false → Keeps (K.holds sink.old) (K.holds sink.new) }
     // Where no read and no write failed and the input is within the limit, it is run, or memory ran out.
     ensures complete { IfRun (command (map string_bytes words.now)) (λ marks. (Rose (S.faults source.old) (S.faults source.new) → ⊥) → (Rose (K.faults sink.old) (K.faults sink.new) → ⊥)
         → IfSome (S.left source.old) (λ bytes. length bytes ≤ limit) → IsSome (S.left source.old) → (result ≡ 0) ⊎ (result ≡ 2) ⊎ (result ≡ 5)) }
-    ensures bench_complete { IfBench (command (map string_bytes words.now)) (λ seed items programs. (Rose (K.faults sink.old) (K.faults sink.new) → ⊥) → (result ≡ 0) ⊎ (result ≡ 5)) }
+    ensures bench_complete { IfBench (command (map string_bytes words.now)) (λ seed items programs readers. (Rose (K.faults sink.old) (K.faults sink.new) → ⊥) → (result ≡ 0) ⊎ (result ≡ 5)) }
 {
     match command_of(alloc, words) {
         Ok(Some(Command::Run { workers, marks })) => {
@@ -153,6 +155,7 @@ pub fn repair_main<R: Threads + Wait + Sync, S: Source, K: Sink, G: Gate>(
                     items,
                     programs,
                     workers,
+                    readers,
                 },
             ),
         ) => {
@@ -160,6 +163,7 @@ pub fn repair_main<R: Threads + Wait + Sync, S: Source, K: Sink, G: Gate>(
                 seed,
                 items,
                 programs,
+                readers,
             };
             code(run_bench(rt, alloc, sink, generated, workers, gate))
         }

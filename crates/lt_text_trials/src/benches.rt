@@ -17,6 +17,14 @@ const SUMMARY: Summary = Summary {
     printed: 340_282_366_920_938_463_463_374_607_431_768_211_455,
     left: -7,
     sold: 4,
+    reads: None,
+    equal: None,
+};
+
+const READ: Summary = Summary {
+    reads: Some(32),
+    equal: Some(31),
+    ..SUMMARY
 };
 
 const TEXT: &str =
@@ -29,9 +37,9 @@ fn count_items(alloc: Global) -> Result<[usize; 2], NoMemory> {
     Ok([one.len(), more.len()])
 }
 
-// Whether a summary was written to a sink with so much room, and what the sink holds then.
-fn write_to(sink: &mut MemSink) -> bool {
-    bench_summary(sink, &SUMMARY).is_ok()
+// Whether the summary was written to the sink.
+fn write_to(sink: &mut MemSink, summary: &Summary) -> bool {
+    bench_summary(sink, summary).is_ok()
 }
 
 #[test]
@@ -42,15 +50,25 @@ fn has_an_item_for_each_batch(rt: HostRuntime) {
 #[test]
 fn writes_six_lines(rt: HostRuntime) -> Result<(), NoMemory> {
     let mut sink = MemSink::new(rt.alloc(), 1000, &[])?;
-    same(&rt, write_to(&mut sink), true);
+    same(&rt, write_to(&mut sink, &SUMMARY), true);
     same(&rt, sink.bytes(), TEXT.as_bytes());
+    Ok(())
+}
+
+#[test]
+fn writes_eight_lines_where_readers_asked(rt: HostRuntime) -> Result<(), NoMemory> {
+    let mut sink = MemSink::new(rt.alloc(), 1000, &[])?;
+    same(&rt, write_to(&mut sink, &READ), true);
+    let lines = sink.bytes();
+    same(&rt, lines.starts_with(TEXT.as_bytes()), true);
+    same(&rt, lines.ends_with(b"sold 4\nreads 32\nequal 31\n"), true);
     Ok(())
 }
 
 #[test]
 fn stops_where_there_is_no_room(rt: HostRuntime) -> Result<(), NoMemory> {
     let mut sink = MemSink::new(rt.alloc(), 15, &[])?;
-    same(&rt, write_to(&mut sink), false);
+    same(&rt, write_to(&mut sink, &SUMMARY), false);
     same(&rt, sink.bytes(), b"programs 3\ndone".as_slice());
     Ok(())
 }

@@ -21,6 +21,8 @@ mod marks;
 #[cfg(test)]
 mod negated;
 #[cfg(test)]
+mod reading;
+#[cfg(test)]
 mod running;
 #[cfg(test)]
 mod scripts;

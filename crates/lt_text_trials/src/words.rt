@@ -19,7 +19,7 @@ pub(crate) fn words_of(alloc: Global, words: &[&str]) -> Result<Vec<String>, All
 }
 
 // Command lines without the program's name, one word between spaces; how many workers they ask for, and whether for marks.
-const LINES: [(&str, Option<(u32, bool)>); 38] = [
+const LINES: [(&str, Option<(u32, bool)>); 39] = [
     ("run", Some((4, false))),
     ("run --workers 1", Some((1, false))),
     ("run --workers 16", Some((16, false))),
@@ -49,6 +49,7 @@ const LINES: [(&str, Option<(u32, bool)>); 38] = [
     ("run --marks true", None),
     ("run --marks --marks", None),
     ("run -- --marks", None),
+    ("run --readers 1", None),
     ("--marks run", None),
     ("--help", None),
     ("help", None),
@@ -60,20 +61,35 @@ const LINES: [(&str, Option<(u32, bool)>); 38] = [
     ("walk", None),
 ];
 
-// Command lines of the bench: the seed, how many items and programs there are, and how many workers.
-const BENCHES: [(&str, Option<(u64, u32, u32, u32)>); 15] = [
+// Command lines of the bench: the seed, how many items and programs there are, how many workers, and how many readers.
+const BENCHES: [(&str, Option<(u64, u32, u32, u32, u32)>); 22] = [
     (
         "bench --seed 1 --items 64 --programs 32",
-        Some((1, 64, 32, 4)),
+        Some((1, 64, 32, 4, 0)),
     ),
     (
         "bench --workers 16 --programs 32 --items 64 --seed 1",
-        Some((1, 64, 32, 16)),
+        Some((1, 64, 32, 16, 0)),
     ),
-    ("bench --seed 0 --items 1 --programs 1", Some((0, 1, 1, 4))),
+    (
+        "bench --seed 0 --items 1 --programs 1",
+        Some((0, 1, 1, 4, 0)),
+    ),
     (
         "bench --seed 18446744073709551615 --items 16384 --programs 65536",
-        Some((18_446_744_073_709_551_615, 16_384, 65_536, 4)),
+        Some((18_446_744_073_709_551_615, 16_384, 65_536, 4, 0)),
+    ),
+    (
+        "bench --seed 1 --items 64 --programs 32 --readers 0",
+        Some((1, 64, 32, 4, 0)),
+    ),
+    (
+        "bench --seed 1 --items 64 --programs 32 --readers 1",
+        Some((1, 64, 32, 4, 1)),
+    ),
+    (
+        "bench --readers=8 --seed 1 --items 64 --programs 32 --workers 2",
+        Some((1, 64, 32, 2, 8)),
     ),
     ("bench", None),
     ("bench --items 64 --programs 32", None),
@@ -89,6 +105,13 @@ const BENCHES: [(&str, Option<(u64, u32, u32, u32)>); 15] = [
     ("bench --seed 1 --items 64 --programs 0", None),
     ("bench --seed 1 --items 64 --programs 65537", None),
     ("bench --seed 1 --items 64 --programs 32 --marks", None),
+    ("bench --seed 1 --items 64 --programs 32 --readers 9", None),
+    ("bench --seed 1 --items 64 --programs 32 --readers -1", None),
+    ("bench --seed 1 --items 64 --programs 32 --readers", None),
+    (
+        "bench --seed 1 --items 64 --programs 32 --readers 1 --readers 1",
+        None,
+    ),
 ];
 
 /// The words of a line, after the program's name.
@@ -120,11 +143,12 @@ fn asks_for_a_bench(rt: HostRuntime) -> Result<(), Fail> {
         let words = line_words(rt.alloc(), line)?;
         let asked = command_of(rt.alloc(), &words)?;
         let expected = match numbers {
-            Some((seed, items, programs, workers)) => Some(Command::Bench {
+            Some((seed, items, programs, workers, readers)) => Some(Command::Bench {
                 seed,
                 items,
                 programs,
                 workers,
+                readers,
             }),
             None => None,
         };

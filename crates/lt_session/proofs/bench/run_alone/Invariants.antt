@@ -1,11 +1,12 @@
 use Rattle.std.proofs.Common.{◌≡◌}
-use Rattle.lt_session.proofs.Summing.{HasRun}
-use Rattle.lt_session.proofs.bench.summarize.Given as goal
+use Rattle.lt_session.specs.World.{ShowsNow}
+use Rattle.lt_session.specs.Coming.{HasRun}
+use Rattle.lt_session.proofs.bench.run_alone.Given as goal
 
 abbrev pub invariant-loop-item : goal.invariant-loop-item
 invariant-loop-item g l = record {
   can_next : (goal.iterator-loop-item g).can_next l.item-iterator;
   is_finite : (goal.iterator-loop-item g).is_finite l.item-iterator;
-  so_far : HasRun l.yielded l.world l.summary;
+  so_far : HasRun ShowsNow l.yielded l.world l.summary;
   programs : l.summary.programs ≡ l.programs;
 }

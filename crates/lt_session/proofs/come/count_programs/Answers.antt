@@ -3,8 +3,8 @@ use Rattle.std.specs.Arc.{arc_value}
 use Rattle.lt_model.specs.Check as model
 use Rattle.lt_session.specs.Batches.{checked_of}
 use Rattle.lt_session.proofs.Counting.{all_counted, answer_left, bad_counted, good_counted, none_counted, room_left}
-use Rattle.lt_session.proofs.bench.count_programs.Goals as goal
-use Rattle.lt_session.proofs.bench.count_programs.Goals.{in-Good, in-Bad}
+use Rattle.lt_session.proofs.come.count_programs.Goals as goal
+use Rattle.lt_session.proofs.come.count_programs.Goals.{in-Good, in-Bad}
 
 pub loop-i-init : goal.loop-i-init
 loop-i-init c = none_counted c.args.programs.now c.args.judgements.now c.args.replies.now c.args.summary.now c.requires.some_replies
