@@ -104,7 +104,7 @@ fn an_opening_waits_for_its_leaves(rt: HostRuntime) -> Result<(), NoMemory> {
     same(&rt, (board.leaves(), board.has_pending()), (2, true));
     holds(&rt, board.next_pending(0) == Some(JobName::Leaf(0)));
     holds(&rt, board.next_pending(1) == Some(JobName::Leaf(0)));
-    holds(&rt, board.next_pending(2) == Some(JobName::Leaf(1)));
+    holds(&rt, board.next_pending(2) == Some(JobName::Leaf(0)));
     holds(&rt, board.next_pending(1) == Some(JobName::Leaf(0)));
     same(&rt, board.in_flight(), 0);
     for (job, pending) in [
