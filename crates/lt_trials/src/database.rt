@@ -6,7 +6,7 @@ ghost use Rattle.lt_base.specs.Tables.{state_of};
 use crate::agree::{holds, same};
 use lt_base::{Database, Rows};
 use lt_delta::{Mark, Marks};
-use lt_face::{Indexes, Items, Key, NoMemory, Perm, Row, RowReads, RowSet};
+use lt_face::{Changes, Indexes, Items, Key, NoMemory, Perm, Row, RowReads, RowSet};
 use std::alloc::Global;
 use std::thread::Threads;
 
@@ -154,6 +154,42 @@ fn takes_marks_in_place<R: Threads + Sync>(rt: &R, alloc: Global) -> Result<bool
 #[test]
 fn each_index_takes_the_marks_in_place(rt: HostRuntime) -> Result<(), NoMemory> {
     let is_so = takes_marks_in_place(&rt, rt.alloc())?;
+    holds(&rt, is_so);
+    Ok(())
+}
+
+/// Rows of the first relation: one that no mark is on, and twice the one that is marked.
+fn named(alloc: Global) -> Result<Changes, NoMemory> {
+    let mut named = Items::new(alloc);
+    for (a, b) in [(7, 3), (3, 7), (3, 7)] {
+        named.push((0, Row::from_cells(alloc, &[a, b])))?;
+    }
+    Ok(named)
+}
+
+/// Whether these are twice the row (3, 7).
+fn are_twice(alloc: Global, changes: &[(u32, Row)]) -> bool {
+    let row = Row::from_cells(alloc, &[3, 7]);
+    match changes {
+        [first, second] => first.1 == row && second.1 == row,
+        _ => false,
+    }
+}
+
+/// Whether of the named rows those that came are told, in their order, and none where nothing came.
+fn tells_what_came<R: Threads + Sync>(rt: &R, alloc: Global) -> Result<bool, NoMemory> {
+    let perm = swapped(alloc)?;
+    let before = indexed(rt, alloc, &perm)?;
+    let after = laid(alloc, &before)?;
+    let named = named(alloc)?;
+    let came = Database::changes(&before, &after, &named)?;
+    let none = Database::changes(&after, &after, &named)?;
+    Ok(are_twice(alloc, came.as_slice()) && none.len() == 0)
+}
+
+#[test]
+fn named_rows_that_changed_are_told(rt: HostRuntime) -> Result<(), NoMemory> {
+    let is_so = tells_what_came(&rt, rt.alloc())?;
     holds(&rt, is_so);
     Ok(())
 }

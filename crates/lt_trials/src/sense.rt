@@ -3,7 +3,7 @@ ghost use Rattle.std.specs.Prelude.{◌≤◌, length};
 
 use crate::agree::{holds, same};
 use crate::rows::{columns, row};
-use lt_face::{END, Gap, Items, Key, NoMemory, Row};
+use lt_face::{END, Gap, Items, Key, Moves, NoMemory, Row};
 use lt_sense::{Changes, Sense, Spot};
 use std::alloc::Global;
 
@@ -184,5 +184,30 @@ fn sealed(alloc: Global) -> Result<(usize, usize, bool), NoMemory> {
 #[test]
 fn a_sealed_sense_has_fewer_gaps(rt: HostRuntime) -> Result<(), NoMemory> {
     same(&rt, sealed(rt.alloc())?, (5, 3, true));
+    Ok(())
+}
+
+/// Whether the sense covers the row of relation 3 with this cell once it is sealed, by the searches that count their steps.
+fn covers_sealed(alloc: Global, cell: Key) -> Result<bool, NoMemory> {
+    let mut sense = unordered(alloc)?;
+    sense.seal()?;
+    let mut steps = Moves::<()>::new();
+    Ok(sense.covers_counted(3, &row(alloc, &[cell]), &mut steps))
+}
+
+#[test]
+fn a_sealed_sense_covers_what_it_did(rt: HostRuntime) -> Result<(), NoMemory> {
+    for (cell, covered) in [
+        (0, false),
+        (1, true),
+        (2, true),
+        (8, true),
+        (9, true),
+        (10, false),
+        (20, true),
+    ] {
+        let is_covered = covers_sealed(rt.alloc(), cell)?;
+        same(&rt, (cell, is_covered), (cell, covered));
+    }
     Ok(())
 }
