@@ -4,7 +4,7 @@ use Rattle.lt_run_trials.specs.Fitting.{FitsBoth}
 use Rattle.lt_batch.proofs.Indexed.{each_item}
 use Rattle.lt_run_trials.proofs.serial.one_after_another.Goals as goal
 
-pub one_run-requires-clause-fits : goal.one_run-requires-clause-fits
-one_run-requires-clause-fits c =
+pub one_run-requires-in-loop-prog-clause-fits : goal.one_run-requires-in-loop-prog-clause-fits
+one_run-requires-in-loop-prog-clause-fits c =
     subst FitsBoth (sym c.deref.ensures)
     (each_item FitsBoth arc_value c.args.progs.now c.loop-prog.prog-index c.prog-item.result c.loop-prog-test.true c.prog-item.is c.requires)
