@@ -11,11 +11,10 @@ ghost use Rattle.lt_delta.specs.IndexEdits.{IsEditsOf};
 ghost use Rattle.lt_delta.specs.Laying.{rows_laid};
 ghost use Rattle.lt_base.specs.Indexed.{IsIndexed, AreEditsIn, index_laid};
 
-use crate::columns::permuted_row;
 use crate::database::Rows;
 use crate::sorting::sort_rows;
 use crate::walk::permuted_rows;
-use lt_delta::{Edits, IndexEdits, Marks};
+use lt_delta::{Columns, Edits, IndexEdits, Marks};
 use lt_face::items::{Items, Perm, RowList};
 use lt_face::memory::NoMemory;
 use lt_face::row_set::{RowReads, RowSet};
@@ -25,38 +24,34 @@ use std::thread::Threads;
 /// Rows with their cells in the order of the columns.
 #[derive(Drop)]
 pub(crate) struct Index {
-    pub(crate) columns: Perm,
+    pub(crate) columns: Columns,
     pub(crate) rows: Rows,
 }
 
-/// The rows with their cells in the order of the columns, ascending.
-fn sorted_by(columns: &Perm, rows: &RowList) -> Result<RowList, NoMemory>
-    requires { (width : ℕ) × IsPermOf width columns.now × (width ≤ most_columns) × AllByRecursion (IsRow width) rows.now }
-    ensures moved { IfOk result (λ list. IsPermutation (map (permuted columns.now) rows.now) list) }
-    ensures sorted { IfOk result (λ list. IsSorted row_cmp list) }
+/// The rows, ascending.
+fn sorted(rows: RowList) -> RowList
+    ensures moved { IsPermutation rows result }
+    ensures sorted { IsSorted row_cmp result }
 {
-    let mut list = Vec::with_capacity(columns.allocator(), rows.len())?;
-    for row in rows.as_slice() {
-        list.push(permuted_row(columns.allocator(), columns.as_slice(), row))?;
-    }
+    let mut list = rows.into_vec();
     list.sort_unstable();
-    Ok(Items::from_vec(list))
+    Items::from_vec(list)
 }
 
 /// The rows that the marks take out of an index on these columns, and those that they put in.
-fn edits_in(columns: &Perm, relation: u32, marks: &Marks) -> Result<Edits, NoMemory>
+fn edits_in(columns: &Columns, relation: u32, marks: &Marks) -> Result<Edits, NoMemory>
     requires { (width : ℕ) × IsPermOf width columns.now × (width ≤ most_columns) × AllByRecursion (λ (m : MarkType). m.relation ≡ relation → IsRow width m.row) marks.now }
     ensures { IfOk result (λ edits. (width : ℕ) → IsPermOf width columns.now → AllByRecursion (λ (m : MarkType). m.relation ≡ relation → IsRow width m.row) marks.now → AreEditsIn width columns.now relation marks.now edits) }
 {
-    let edits = marks.edits(columns.allocator(), relation)?;
-    let gone = sorted_by(columns, &edits.gone)?;
-    let come = sorted_by(columns, &edits.come)?;
+    let edits = marks.edits_by(columns.allocator(), relation, columns.as_slice())?;
+    let gone = sorted(edits.gone);
+    let come = sorted(edits.come);
     Ok(Edits { gone, come })
 }
 
 /// What the marks do to an index of their relation on these columns, as one layer of edits.
 pub(crate) fn index_edits(
-    columns: &Perm,
+    columns: &Columns,
     relation: u32,
     marks: &Marks,
 ) -> Result<IndexEdits, NoMemory>
@@ -66,17 +61,17 @@ pub(crate) fn index_edits(
     ensures edits { IfOk result (IsEditsOf marks.now) }
 {
     let edits = edits_in(columns, relation, marks)?;
-    let columns = columns.copy()?;
+    let columns = columns.copy();
     let layer = Layer::new(columns.len(), edits.gone, edits.come)?;
     let edits = IndexEdits::of_layer(relation, columns, layer)?;
     Ok(edits)
 }
 
-/// The rows of an index on these columns with the marks of its relation laid on them, as layers: those that are kept with the
-/// marks, where they are.
+/// The rows of an index on these columns with the marks of its relation laid on them: as the layers that are kept with the
+/// marks, where they are, else as one more.
 pub(crate) fn rows_with(
     rows: &Rows,
-    columns: &Perm,
+    columns: &Columns,
     relation: u32,
     marks: &Marks,
 ) -> Result<Rows, NoMemory>
@@ -93,8 +88,8 @@ pub(crate) fn rows_with(
             Ok(set)
         }
         None => {
-            let edits = index_edits(columns, relation, marks)?;
-            let set = rows.layered(&edits.layers)?;
+            let edits = edits_in(columns, relation, marks)?;
+            let set = rows.laid(edits.gone, edits.come)?;
             Ok(set)
         }
     }
@@ -108,10 +103,11 @@ impl Index {
         ensures columns { IfOk result (λ index. index.columns ≡ perm.now) }
         ensures indexed { IfOk result (λ index. IsIndexed rows.now.width rows.now.rows index) }
     {
-        let columns = perm.copy()?;
+        let width = rows.width();
+        let columns = Columns::from_slice(perm.allocator(), perm.as_slice());
         let mut list = permuted_rows(perm.allocator(), rows, perm.as_slice())?;
         sort_rows(rt, &mut list);
-        let rows = Rows::from_sorted(rows.width(), Items::from_vec(list))?;
+        let rows = Rows::from_sorted(width, Items::from_vec(list))?;
         Ok(Index { columns, rows })
     }
 
@@ -122,7 +118,7 @@ impl Index {
         ensures { IfOk result (λ index. index ≡ index_laid relation marks.now self.now) }
     {
         let _width = self.rows.width();
-        let columns = self.columns.copy()?;
+        let columns = self.columns.copy();
         let rows = rows_with(&self.rows, &self.columns, relation, marks)?;
         let _width = rows.width();
         Ok(Index { columns, rows })
@@ -145,7 +141,7 @@ impl Index {
     pub(crate) fn folded(&self) -> Result<Index, NoMemory>
         ensures { IfOk result (λ index. index ≡ self.now) }
     {
-        let columns = self.columns.copy()?;
+        let columns = self.columns.copy();
         let rows = self.rows.folded(columns.allocator())?;
         Ok(Index { columns, rows })
     }
@@ -154,7 +150,7 @@ impl Index {
     pub(crate) fn share(&self) -> Result<Index, NoMemory>
         ensures { IfOk result (λ index. index ≡ self.now) }
     {
-        let columns = self.columns.copy()?;
+        let columns = self.columns.copy();
         let rows = self.rows.share()?;
         Ok(Index { columns, rows })
     }

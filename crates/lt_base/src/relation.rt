@@ -16,7 +16,7 @@ ghost use Rattle.lt_base.specs.Indexed.{IsIndexed, index_laid};
 use crate::columns::{is_own_order, is_same_order, own_columns};
 use crate::database::Rows;
 use crate::index::{Index, index_edits, rows_with};
-use lt_delta::{IndexEdits, Marks};
+use lt_delta::{Columns, IndexEdits, Marks};
 use lt_face::items::Perm;
 use lt_face::memory::NoMemory;
 use lt_face::row_set::{RowReads, RowSet};
@@ -74,7 +74,7 @@ fn all_laid(others: &Vec<Index>, relation: u32, marks: &Marks) -> Result<Vec<Ind
 
 /// Puts what the marks do to an index on these columns to the edits of others.
 fn add_edits(
-    columns: &Perm,
+    columns: &Columns,
     relation: u32,
     marks: &Marks,
     edits: &mut Vec<Arc<IndexEdits>>,
@@ -215,7 +215,7 @@ impl Relation {
         requires { AllByRecursion (λ (m : MarkType). m.relation ≡ number → IsRow self.now.width m.row) marks.now }
         ensures { IfOk result (λ relation. relation ≡ record self.now { rows = rows_laid number self.now.rows marks.now }) }
     {
-        let own = own_columns(*self.others.allocator(), self.first.width())?;
+        let own = own_columns(*self.others.allocator(), self.first.width());
         let first = rows_with(&self.first, &own, number, marks)?;
         let _width = first.width();
         let others = all_laid(&self.others, number, marks)?;
@@ -233,7 +233,7 @@ impl Relation {
         requires before { AllByRecursion (IsEditsOf marks.now) (map arc_value edits.old.items) }
         ensures { OnOk result (AllByRecursion (IsEditsOf marks.now) (map arc_value edits.new.items)) }
     {
-        let own = own_columns(*self.others.allocator(), self.first.width())?;
+        let own = own_columns(*self.others.allocator(), self.first.width());
         add_edits(&own, number, marks, edits)?;
         add_all_edits(&self.others, number, marks, edits)?;
         Ok(())

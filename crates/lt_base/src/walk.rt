@@ -3,7 +3,7 @@ ghost use Rattle.std.specs.Prelude.{◌≡◌, ◌≤◌, map, IfOk};
 ghost use Rattle.lt_face.specs.State.{permuted};
 ghost use Rattle.lt_delta.specs.Columns.{IsPermOf};
 
-use crate::columns::permuted_row;
+use lt_delta::permuted_row;
 use lt_face::memory::NoMemory;
 use lt_face::row::Row;
 use lt_face::row_set::RowReads;

@@ -1,5 +1,5 @@
 -- The rows that the marks of a relation put in and take out.
-use Rattle.std.proofs.Common.{◌≡◌, ◌≢◌, ℕ, zero, suc, ◌+◌, ◌<◌, Bool, true, false, not, ◌&&◌, List, [], ◌∷◌, ◌++◌, take, Some, refl, sym, ap, ◌∙◌, arith}
+use Rattle.std.proofs.Common.{◌≡◌, ◌≢◌, ℕ, zero, suc, ◌+◌, ◌<◌, Bool, true, false, not, ◌&&◌, List, [], ◌∷◌, ◌++◌, map, take, Some, refl, sym, ap, ◌∙◌, subst, arith}
 use Rattle.std.specs.Prelude.{◌==◌, if◌then◌else◌}
 use Rattle.std.specs.List.{AllByRecursion, slice_get}
 use Rattle.std.proofs.lemmas.Bool.{eq-eqb, ne_eqb}
@@ -88,3 +88,28 @@ ends relation plus (x ∷ marks) zero m up at lt =
     sym (none_marked relation plus (x ∷ marks) (λ e. absurd (omega (arith, is, lt, e)), later_on relation x marks (omega (arith, is, lt)) up.0))
 ends relation plus (x ∷ marks) (suc i) m up at lt =
     first relation plus x (take i marks) ∙ ap (λ (l : List Row). one_marked relation plus x ++ l) (ends relation plus marks i m up.1 at lt) ∙ sym (first relation plus x marks)
+
+-- the same of lists to whose rows something is done
+pub is_marked_by : (f : Row → Row) (relation : ℕ) (plus : Bool) (marks : Marks) (i : ℕ) (m : Mark) (done new : List Row) (row : Row) → slice_get marks i ≡ Some m → done ≡ map f (marked relation plus (take i marks))
+    → m.relation ≡ relation → m.plus ≡ plus → row ≡ f m.row → new ≡ done ++ row ∷ [] → new ≡ map f (marked relation plus (take (i + 1) marks))
+is_marked_by f relation plus marks i m done new row at before same sign copy is =
+    let old = marked relation plus (take i marks) in
+    is ∙ ap (λ (l : List Row). l ++ row ∷ []) before ∙ ap (λ (r : Row). map f old ++ r ∷ []) copy
+    ∙ sym (map_push f old m.row)
+    ∙ ap (map f) (is_marked relation plus marks i m old (old ++ m.row ∷ []) m.row at refl same sign refl refl)
+  where
+    map_push : (f : Row → Row) (rows : List Row) (row : Row) → map f (rows ++ row ∷ []) ≡ map f rows ++ f row ∷ []
+    map_push f [] row = refl
+    map_push f (r ∷ rows) row = ap (λ (l : List Row). f r ∷ l) (map_push f rows row)
+
+pub not_signed_by : (f : Row → Row) (relation : ℕ) (plus : Bool) (marks : Marks) (i : ℕ) (m : Mark) (done : List Row) → slice_get marks i ≡ Some m → done ≡ map f (marked relation plus (take i marks)) → m.plus ≡ not plus
+    → done ≡ map f (marked relation plus (take (i + 1) marks))
+not_signed_by f relation plus marks i m done at before sign = before ∙ ap (map f) (not_signed relation plus marks i m (marked relation plus (take i marks)) at refl sign)
+
+-- what is so of each mark is so of the one at a place
+pub mark_at : (P : Mark → Type 0) (marks : Marks) (i : ℕ) (m : Mark) → AllByRecursion P marks → slice_get marks i ≡ Some m → P m
+mark_at P [] i m all at = absurd cc
+mark_at P (n ∷ marks) zero m all at =
+    let e : n ≡ m = cc in
+    subst P e all.0
+mark_at P (n ∷ marks) (suc i) m all at = mark_at P marks i m all.1 at

@@ -88,12 +88,27 @@ fn put_each(marks: &mut Vec<Arc<Mark>>, more: Vec<Arc<Mark>>) -> Result<(), NoMe
     Ok(())
 }
 
+/// One more mark at its place, with a second owner. Want of memory leaves the marks as they were.
+fn put_one(marks: &mut Vec<Arc<Mark>>, mark: &Arc<Mark>) -> Result<(), NoMemory>
+    requires { AreMarks (map arc_value marks.old.items) }
+    ensures ok { OnOk result (map arc_value marks.new.items ≡ with_mark (map arc_value marks.old.items) (arc_value mark.now)) }
+    ensures err { OnErr result (marks.new.items ≡ marks.old.items) }
+{
+    let mark = mark.clone()?;
+    put(marks, mark)?;
+    Ok(())
+}
+
 /// More marks, each at its place. The room for them is taken first, so want of memory leaves the marks as they were.
 pub(crate) fn put_all(marks: &mut Vec<Arc<Mark>>, more: &[Arc<Mark>]) -> Result<(), NoMemory>
     requires { AreMarks (map arc_value marks.old.items) }
     ensures ok { OnOk result (map arc_value marks.new.items ≡ and_then (map arc_value marks.old.items) (map arc_value more.now)) }
     ensures err { OnErr result (marks.new.items ≡ marks.old.items) }
 {
+    if more.len() == 1 {
+        put_one(marks, &more[0])?;
+        return Ok(());
+    }
     let more = shared(*marks.allocator(), more)?;
     marks.reserve(more.len())?;
     put_each(marks, more)?;

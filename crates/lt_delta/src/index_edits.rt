@@ -4,8 +4,8 @@ ghost use Rattle.std.specs.Arc.{arc_value};
 ghost use Rattle.lt_model.specs.Marks.{Marks, AreMarks, and_then};
 ghost use Rattle.lt_delta.specs.IndexEdits.{AreLayersOf, AreWide, IsEditsOf};
 
+use crate::columns::Columns;
 use crate::sharing::append;
-use lt_face::items::Perm;
 use lt_face::memory::NoMemory;
 use lt_over::Layer;
 use std::sync::Arc;
@@ -15,13 +15,13 @@ use std::sync::Arc;
 #[derive(Drop)]
 pub struct IndexEdits {
     pub relation: u32,
-    pub columns: Perm,
+    pub columns: Columns,
     pub layers: Vec<Arc<Layer>>,
 }
 
 impl IndexEdits {
     /// The edits of one layer. They are what marks do to the index where the layer is.
-    pub fn of_layer(relation: u32, columns: Perm, layer: Layer) -> Result<IndexEdits, NoMemory>
+    pub fn of_layer(relation: u32, columns: Columns, layer: Layer) -> Result<IndexEdits, NoMemory>
         ensures relation { IfOk result (λ edits. edits.relation ≡ relation) }
         ensures columns { IfOk result (λ edits. edits.columns ≡ columns) }
         ensures layers { IfOk result (λ edits. map arc_value edits.layers.items ≡ layer ∷ []) }
@@ -46,7 +46,7 @@ impl IndexEdits {
         ensures columns { IfOk result (λ edits. edits.columns ≡ first.now.columns) }
         ensures both { IfOk result (λ edits. (a b : Marks) → AreMarks a → IsEditsOf a first.now → IsEditsOf b second.now → IsEditsOf (and_then a b) edits) }
     {
-        let columns = first.columns.copy()?;
+        let columns = first.columns.copy();
         let length = first.layers.len().saturating_add(second.layers.len());
         let mut layers = Vec::with_capacity(columns.allocator(), length)?;
         append(&mut layers, &first.layers)?;
@@ -74,7 +74,7 @@ impl IndexEdits {
         if second.layers.len() != 1 {
             return IndexEdits::listed(first, second);
         }
-        let columns = first.columns.copy()?;
+        let columns = first.columns.copy();
         let layer = Layer::and_then(&first.layers[0], &second.layers[0])?;
         let _width = layer.width();
         let edits = IndexEdits::of_layer(first.relation, columns, layer)?;

@@ -2,6 +2,7 @@
 #![tactic(auto)]
 
 mod adding;
+mod columns;
 mod edits;
 mod finding;
 mod index_edits;
@@ -16,6 +17,7 @@ mod relation_marks;
 mod sharing;
 mod sorting;
 
+pub use columns::{Columns, permuted_row};
 pub use edits::Edits;
 pub use index_edits::IndexEdits;
 pub use lt_model::mark::{Mark, MarkList};

@@ -1,6 +1,7 @@
 //! Keys, rows, and the traits that the layers above them share.
 #![tactic(auto)]
 
+mod cells;
 pub mod count;
 pub mod indexes;
 pub mod items;

@@ -3,33 +3,32 @@ ghost use Rattle.std.specs.Prelude.{◌≡◌, fold, IfOk};
 ghost use Rattle.lt_face.specs.Rows.{IsRowSet, with_row};
 ghost use Rattle.lt_flat.specs.Flat.{kept};
 
-use crate::list::{insert_at, place_from, place_near, remove_at, search};
+use crate::list::{place_from, place_near, search};
 use crate::merging::{remaining, united};
+use crate::shelf::Shelf;
 use lt_face::{Key, Near, NoMemory, Row, RowList, RowReads, RowSet};
 use std::alloc::Global;
 use std::marker::Model;
-use std::sync::Arc;
 
-/// A set of rows: a sorted vector that sets may share. An edit of a set that is its vector's only owner is made in
-/// place, and costs a move of the rows behind it; any other copies the vector first.
+/// A set of rows: a sorted vector that sets may share, or none where there are no rows. An edit of a set that is its
+/// vector's only owner is made in place, and costs a move of the rows behind it; any other copies the vector first.
 #[derive(Drop)]
 pub struct FlatRows {
     width: usize,
-    rows: Arc<Vec<Row>>,
+    rows: Shelf,
 }
 
 impl Model for FlatRows {
     ghost use Rattle.std.specs.Prelude.{◌≤◌};
-    ghost use Rattle.std.specs.Arc.{arc_value};
     ghost use Rattle.lt_face.specs.Limits.{most_columns};
     ghost use Rattle.lt_face.specs.Rows.{IsRowSet};
     ghost use Rattle.lt_face.specs.State.{Relation};
 
     ghost Value = { Relation };
 
-    ghost view = { λ s. record { width = s.width; rows = (arc_value s.rows).items } };
+    ghost view = { λ s. record { width = s.width; rows = s.rows } };
 
-    ghost invariant = { λ s. (s.width ≤ most_columns) × IsRowSet s.width (arc_value s.rows).items };
+    ghost invariant = { λ s. (s.width ≤ most_columns) × IsRowSet s.width s.rows };
 }
 
 impl FlatRows {
@@ -38,7 +37,7 @@ impl FlatRows {
         ensures rows { result.now ≡ self.now.rows }
         ensures is_set { IsRowSet self.now.width self.now.rows }
     {
-        &self.rows
+        self.rows.as_slice()
     }
 
     /// The rows that one of the two has, or both. Where one has none, the other's vector is shared.
@@ -56,9 +55,12 @@ impl FlatRows {
             let same = self.share()?;
             return Ok(same);
         }
-        let alloc = *self.rows.allocator();
-        let rows = united(alloc, &self.rows, &more.rows)?;
-        let rows = Arc::new(alloc, rows)?;
+        let rows = united(
+            self.rows.allocator(),
+            self.rows.as_slice(),
+            more.rows.as_slice(),
+        )?;
+        let rows = Shelf::of(rows)?;
         Ok(FlatRows {
             width: self.width,
             rows,
@@ -74,9 +76,12 @@ impl FlatRows {
             let same = self.share()?;
             return Ok(same);
         }
-        let alloc = *self.rows.allocator();
-        let rows = remaining(alloc, &self.rows, &less.rows)?;
-        let rows = Arc::new(alloc, rows)?;
+        let rows = remaining(
+            self.rows.allocator(),
+            self.rows.as_slice(),
+            less.rows.as_slice(),
+        )?;
+        let rows = Shelf::of(rows)?;
         Ok(FlatRows {
             width: self.width,
             rows,
@@ -94,53 +99,56 @@ impl RowReads for FlatRows {
     }
 
     fn len(&self) -> usize {
-        self.rows.len()
+        self.rows.as_slice().len()
     }
 
     fn has(&self, row: &Row) -> bool {
-        search(&self.rows, row).is_ok()
+        search(self.rows.as_slice(), row).is_ok()
     }
 
     fn row_at_least(&self, from: &Row) -> Option<&Row> {
-        self.rows.get(place_from(&self.rows, from))
+        let rows = self.rows.as_slice();
+        rows.get(place_from(rows, from))
     }
 
     fn row_near(&self, near: &mut Near, prefix: &Row, bound: Key) -> Option<&Row> {
-        if self.rows.is_empty() {
+        let rows = self.rows.as_slice();
+        if rows.is_empty() {
             return None;
         }
-        let place = place_near(&self.rows, near.at, prefix.cells(), bound);
+        let place = place_near(rows, near.at, prefix.cells(), bound);
         near.at = place;
-        self.rows.get(place)
+        rows.get(place)
     }
 }
 
 impl RowSet for FlatRows {
     fn empty(alloc: Global, width: usize) -> Result<FlatRows, NoMemory> {
-        let rows = Arc::new(alloc, Vec::new(alloc))?;
-        Ok(FlatRows { width, rows })
+        Ok(FlatRows {
+            width,
+            rows: Shelf::empty(alloc),
+        })
     }
 
     fn from_sorted(width: usize, rows: RowList) -> Result<FlatRows, NoMemory> {
-        let alloc = rows.allocator();
-        let rows = Arc::new(alloc, rows.into_vec())?;
+        let rows = Shelf::of(rows.into_vec())?;
         Ok(FlatRows { width, rows })
     }
 
     fn insert(&mut self, row: Row) -> Result<bool, NoMemory> {
-        match search(&self.rows, &row) {
+        match search(self.rows.as_slice(), &row) {
             Ok(_) => Ok(false),
             Err(at) => {
-                insert_at(&mut self.rows, at, row)?;
+                self.rows.insert(at, row)?;
                 Ok(true)
             }
         }
     }
 
     fn remove(&mut self, row: &Row) -> Result<bool, NoMemory> {
-        match search(&self.rows, row) {
+        match search(self.rows.as_slice(), row) {
             Ok(at) => {
-                remove_at(&mut self.rows, at)?;
+                self.rows.remove(at)?;
                 Ok(true)
             }
             Err(_) => Ok(false),
@@ -148,7 +156,7 @@ impl RowSet for FlatRows {
     }
 
     fn share(&self) -> Result<FlatRows, NoMemory> {
-        let rows = self.rows.clone()?;
+        let rows = self.rows.share()?;
         Ok(FlatRows {
             width: self.width,
             rows,

@@ -183,12 +183,12 @@ impl<B: RowSet> Stack<B> {
     }
 
     /// The set with more layers laid over it.
-    pub(crate) fn pushed(&self, more: &[Arc<Layer>]) -> Result<Stack<B>, NoMemory>
-        requires { AllByRecursion (λ layer. layer.width ≡ self.now.width) (map arc_value more.now) }
-        ensures rows { IfOk result (λ stack. stack.rows ≡ stacked self.now.rows (map arc_value more.now)) }
-        ensures width { IfOk result (λ stack. stack.width ≡ self.now.width) }
+    pub(crate) fn pushed(self, more: &[Arc<Layer>]) -> Result<Stack<B>, NoMemory>
+        requires { AllByRecursion (λ layer. layer.width ≡ self.width) (map arc_value more.now) }
+        ensures rows { IfOk result (λ stack. stack.rows ≡ stacked self.rows (map arc_value more.now)) }
+        ensures width { IfOk result (λ stack. stack.width ≡ self.width) }
     {
-        let mut stack = self.share()?;
+        let mut stack = self;
         for layer in more {
             let layer = layer.clone()?;
             stack.push(layer)?;

@@ -36,8 +36,8 @@ returns-in-Some g c =
     let is : c.args.row.now ≡ c.pop.new.self ++ c.in-Some.last ∷ [] = sym c.copy_row-prefix.ensures ∙ c.in-Some.ensures.cells in
     c.row_near.ensures ∙ from_above w rows c.args.row.now c.pop.new.self c.in-Some.last set one is
 
-pub returns : goal.returns
-returns g c =
+pub returns-in-None : goal.returns-in-None
+returns-in-None g c =
     let w = g.R.RowReads.width_of c.args.rows.now in
     let rows = g.R.RowReads.rows c.args.rows.now in
     let set = c.width-width.ensures.is_set in

@@ -16,8 +16,8 @@ returns-in-Some g c =
     above_it w (stacked rows layers) (gathered rows layers) c.args.row.now c.pop.new.self c.in-Some.last (option_copied c.candidate_near.result.row) c.candidate_near.result.stays
     (stacked_set w rows layers c.width-width.ensures.is_set c.requires.layers) c.requires.wide is c.candidate_near.ensures
 
-pub returns : goal.returns
-returns g c =
+pub returns-in-None : goal.returns-in-None
+returns-in-None g c =
     let w = g.B.RowReads.width_of c.args.base.now in
     let rows = g.B.RowReads.rows c.args.base.now in
     let layers = map arc_value c.args.layers.now in

@@ -14,7 +14,7 @@ pub add_edits-requires-clause-order : goal.add_edits-requires-clause-order
 add_edits-requires-clause-order c =
     let width = c.self.inside.first.width in
     let fits = subst (λ (t : Table). AllByRecursion (λ (m : Mark). m.relation ≡ c.args.number → IsRow t.width m.row) c.args.marks.now) (sym c.self.view_is) c.requires.fit in
-    (width, own_order width c.in_ok-own.own (c.in_ok-own.ensures ∙ ap (numbers 0) c.width.ensures.value), omega (arith, c.width.ensures.value, c.width.ensures.bound), fits)
+    (width, own_order width c.own_columns-own.result (c.own_columns-own.ensures ∙ ap (numbers 0) c.width.ensures.value), omega (arith, c.width.ensures.value, c.width.ensures.bound), fits)
 
 pub add_all_edits-requires-clause-orders : goal.add_all_edits-requires-clause-orders
 add_all_edits-requires-clause-orders c =

@@ -14,7 +14,7 @@ use Rattle.lt_base.proofs.Kept.{indexes_laid, same_columns}
 use Rattle.lt_base.proofs.relation.Relation.laid.Goals as goal
 
 pub rows_with-requires-clause-perm : goal.rows_with-requires-clause-perm
-rows_with-requires-clause-perm c = own_order c.self.inside.first.width c.in_ok-own.own (c.in_ok-own.ensures ∙ ap (numbers 0) c.width.ensures.value)
+rows_with-requires-clause-perm c = own_order c.self.inside.first.width c.own_columns-own.result (c.own_columns-own.ensures ∙ ap (numbers 0) c.width.ensures.value)
 
 pub rows_with-requires-clause-fit : goal.rows_with-requires-clause-fit
 rows_with-requires-clause-fit c = subst (λ (t : Table). AllByRecursion (λ (m : Mark). m.relation ≡ c.args.number → IsRow t.width m.row) c.args.marks.now) (sym c.self.view_is) c.requires
@@ -36,18 +36,18 @@ invariant_of-result c =
     let width = c.self.inside.first.width in
     let fits = subst (λ (t : Table). AllByRecursion (λ (m : Mark). m.relation ≡ c.args.number → IsRow t.width m.row) c.args.marks.now) (sym c.self.view_is) c.requires in
     let kept = indexes_laid width c.args.number c.self.inside.first.rows c.args.marks.now c.self.inside.others.items c.self.invariant.1 c.width.ensures.is_set.each fits in
-    let own : c.in_ok-own.own ≡ numbers 0 width = c.in_ok-own.ensures ∙ ap (numbers 0) c.width.ensures.value in
+    let own : c.own_columns-own.result ≡ numbers 0 width = c.own_columns-own.ensures ∙ ap (numbers 0) c.width.ensures.value in
     let rows : c.in_ok-first.first.rows ≡ rows_laid c.args.number c.self.inside.first.rows c.args.marks.now =
-    own_exact width c.args.number c.in_ok-own.own c.args.marks.now c.self.inside.first.rows c.in_ok-first.first.rows own c.width.ensures.is_set fits c.width-width.ensures.is_set.rises
-    (c.in_ok-first.ensures.rows c.self.inside.first.rows c.width.ensures.is_set (own_permuted width c.in_ok-own.own c.self.inside.first.rows own c.width.ensures.is_set.each)) in
+    own_exact width c.args.number c.own_columns-own.result c.args.marks.now c.self.inside.first.rows c.in_ok-first.first.rows own c.width.ensures.is_set fits c.width-width.ensures.is_set.rises
+    (c.in_ok-first.ensures.rows c.self.inside.first.rows c.width.ensures.is_set (own_permuted width c.own_columns-own.result c.self.inside.first.rows own c.width.ensures.is_set.each)) in
     rw (c.in_ok-first.ensures.width, rows, c.in_ok-others.ensures) (c.self.invariant.0, kept)
 
 pub returns : goal.returns
 returns c =
     let width = c.self.inside.first.width in
     let fits = subst (λ (t : Table). AllByRecursion (λ (m : Mark). m.relation ≡ c.args.number → IsRow t.width m.row) c.args.marks.now) (sym c.self.view_is) c.requires in
-    let own : c.in_ok-own.own ≡ numbers 0 width = c.in_ok-own.ensures ∙ ap (numbers 0) c.width.ensures.value in
+    let own : c.own_columns-own.result ≡ numbers 0 width = c.own_columns-own.ensures ∙ ap (numbers 0) c.width.ensures.value in
     let rows : c.in_ok-first.first.rows ≡ rows_laid c.args.number c.self.inside.first.rows c.args.marks.now =
-    own_exact width c.args.number c.in_ok-own.own c.args.marks.now c.self.inside.first.rows c.in_ok-first.first.rows own c.width.ensures.is_set fits c.width-width.ensures.is_set.rises
-    (c.in_ok-first.ensures.rows c.self.inside.first.rows c.width.ensures.is_set (own_permuted width c.in_ok-own.own c.self.inside.first.rows own c.width.ensures.is_set.each)) in
+    own_exact width c.args.number c.own_columns-own.result c.args.marks.now c.self.inside.first.rows c.in_ok-first.first.rows own c.width.ensures.is_set fits c.width-width.ensures.is_set.rises
+    (c.in_ok-first.ensures.rows c.self.inside.first.rows c.width.ensures.is_set (own_permuted width c.own_columns-own.result c.self.inside.first.rows own c.width.ensures.is_set.each)) in
     rw (← c.self.view_is, c.in_ok-first.ensures.width, rows, c.in_ok-others.ensures, same_columns c.args.number c.args.marks.now c.self.inside.others.items) refl

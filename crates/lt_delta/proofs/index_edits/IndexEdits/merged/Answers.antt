@@ -14,7 +14,7 @@ returns-clause-both c = λ a b are of_a of_b.
     let is_second = sole arc_value second.layers.items c.index-2.result.now other c.index-2.ensures in
     let width : c.in_ok-layer.layer.width ≡ length first.columns = c.in_ok-layer.ensures.width ∙ ap (λ (l : Edits). l.width) c.deref.ensures ∙ sole_wide (length first.columns) _ _ is_first c.requires.first in
     let wide : IsLayer (length first.columns) c.in_ok-layer.layer = subst (λ n. IsLayer n c.in_ok-layer.layer) width c.width-width.ensures.is_layer in
-    renamed first.relation _ first.columns _ _ _ (sym c.in_ok-edits.ensures.relation) (sym (c.in_ok-edits.ensures.columns ∙ c.in_ok-columns.ensures))
+    renamed first.relation _ first.columns _ _ _ (sym c.in_ok-edits.ensures.relation) (sym (c.in_ok-edits.ensures.columns ∙ c.copy-columns.ensures))
     (merged first.relation first.columns a b _ _ _ (arc_value c.index.result.now) (arc_value c.index-2.result.now) c.in_ok-layer.layer is_first is_second c.in_ok-edits.ensures.layers wide
     (λ rows up. c.in_ok-layer.ensures.rows rows up ∙ ap (λ (l : Edits). under (under rows l) c.deref-2.result.now) c.deref.ensures ∙ ap (λ (l : Edits). under (under rows (arc_value c.index.result.now)) l) c.deref-2.ensures) are of_a
     (renamed second.relation first.relation second.columns first.columns b _ c.requires.relation c.requires.columns of_b))

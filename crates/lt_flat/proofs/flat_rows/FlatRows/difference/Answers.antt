@@ -1,5 +1,4 @@
 use Rattle.std.proofs.Common.{◌≡◌, List, sym, ap, ◌∙◌, subst}
-use Rattle.std.specs.Arc.{arc_value}
 use Rattle.lt_face.specs.Rows.{IsRowSet}
 use Rattle.lt_face.specs.State.{Row}
 use Rattle.lt_flat.specs.Flat.{kept}
@@ -12,8 +11,8 @@ returns-then-len-eq0-clause-rows c =
 
 pub invariant_of-result : goal.invariant_of-result
 invariant_of-result c =
-    let first : c.deref-3.result.now ≡ (arc_value c.self.inside.rows).items = c.deref-3.ensures.value ∙ ap (λ v. v.items) c.deref-2.ensures in
-    let second : c.deref-5.result.now ≡ (arc_value c.less.inside.rows).items = c.deref-5.ensures.value ∙ ap (λ v. v.items) c.deref-4.ensures in
-    let left : (arc_value c.in_ok-rows-2.rows).items ≡ kept (arc_value c.self.inside.rows).items (arc_value c.less.inside.rows).items =
-    ap (λ v. v.items) c.in_ok-rows-2.ensures.ok ∙ c.in_ok-rows.ensures ∙ ap (λ (l : List Row). kept l c.deref-5.result.now) first ∙ ap (λ (l : List Row). kept (arc_value c.self.inside.rows).items l) second in
-    (c.self.invariant.0, subst (λ (l : List Row). IsRowSet c.self.inside.width l) (sym left) (IsRowSet-difference c.self.inside.width (arc_value c.self.inside.rows).items (arc_value c.less.inside.rows).items c.self.invariant.1))
+    let mine = c.self.inside.rows in
+    let its = c.less.inside.rows in
+    let left : c.in_ok-rows-2.rows ≡ kept mine its =
+    c.in_ok-rows-2.ensures ∙ c.in_ok-rows.ensures ∙ ap (λ (l : List Row). kept l c.as_slice-2.result.now) c.as_slice.ensures ∙ ap (λ (l : List Row). kept mine l) c.as_slice-2.ensures in
+    (c.self.invariant.0, subst (λ (l : List Row). IsRowSet c.self.inside.width l) (sym left) (IsRowSet-difference c.self.inside.width mine its c.self.invariant.1))

@@ -1,6 +1,6 @@
 use Rattle.std.proofs.lemmas.Grind.{common_steps}
 use Rattle.std.proofs.Common.{arith}
-use Rattle.lt_base.proofs.columns.permuted_row.Goals as goal
+use Rattle.lt_delta.proofs.columns.permuted_row.Goals as goal
 
 pub loop-column-preserved : goal.loop-column-preserved
 loop-column-preserved c = grind (arith, common_steps)
