@@ -159,7 +159,7 @@ agree_first a levels key e zero lt = sym e
 agree_first a levels key e (suc m) lt = absurd (omega arith)
 
 -- what a walk below a key of the first level found is the key's slice
-pub is_slice : (body : Body) (plan : Plan) (terms : List Term) (state : State) (begun found : Found) (key : ℕ) (rows : List Row) → IsPlanOf body plan → 0 < length plan.levels → AreTestsBound body → are_bound body terms ≡ true → IsTight found.sense state → begun.rows ≡ [] → AreFoundUnder terms body plan state (key ∷ []) begun found → IsExploredBelow body plan terms found (key ∷ []) → rows ≡ ascending found.rows
+pub is_slice : {S N : Type 0} → (body : Body) (plan : Plan) (terms : List Term) (state : State) (begun found : Found S N) (key : ℕ) (rows : List Row) → IsPlanOf body plan → 0 < length plan.levels → AreTestsBound body → are_bound body terms ≡ true → IsTight found.sense state → begun.rows ≡ [] → AreFoundUnder terms body plan state (key ∷ []) begun found → IsExploredBelow body plan terms found (key ∷ []) → rows ≡ ascending found.rows
     → IsSliceOf terms body (term_at plan.levels 0) state (record { key = key; rows = rows; sense = found.sense })
 is_slice body plan terms state begun found key rows of_body some whole heads tight none under explored sorted =
     let term : Term = term_at plan.levels 0 in

@@ -30,14 +30,14 @@ first_witness sense body state [] lt h = absurd (omega arith)
 first_witness sense body state (row ∷ rows) lt h = (h.0.0, h.0.1, h.0.2, h.0.4)
 
 -- it stopped at an answer
-pub told_true : (body : Body) (state : State) (found : Found) → AreTestsBound body → IsRight body [] state found → 0 < length found.rows → (true ≡ some_answer body state) × Vouches found.sense body state
+pub told_true : {S N : Type 0} → (body : Body) (state : State) (found : Found S N) → AreTestsBound body → IsRight body [] state found → 0 < length found.rows → (true ≡ some_answer body state) × Vouches found.sense body state
 told_true body state found whole right lt =
     let w = first_witness found.sense body state found.rows lt right.answers in
     let there = some_answer-from_witness found.sense body state whole w in
     (sym there, record { when_true = λ e. w; when_false = λ e. absurd (true≢false (sym there ∙ e)) })
 
 -- it found none anywhere
-pub told_false : (body : Body) (plan : Plan) (state : State) (found : Found) → IsPlanOf body plan → AreTestsBound body → IsRight body [] state found → found.rows ≡ [] → IsExploredBelow body plan [] found [] → (false ≡ some_answer body state) × Vouches found.sense body state
+pub told_false : {S N : Type 0} → (body : Body) (plan : Plan) (state : State) (found : Found S N) → IsPlanOf body plan → AreTestsBound body → IsRight body [] state found → found.rows ≡ [] → IsExploredBelow body plan [] found [] → (false ≡ some_answer body state) × Vouches found.sense body state
 told_false body plan state found of_body whole right none explored =
     let all = found_all body plan [] state found of_body whole refl right explored in
     let never : some_answer body state ≡ true → ⊥ = λ h.
@@ -48,7 +48,7 @@ told_false body plan state found of_body whole right none explored =
     ]
 
 -- what the walk answers
-pub told : (body : Body) (plan : Plan) (state : State) (found : Found) (terms : List Term) (keys : List ℕ) (truth : Bool) → terms ≡ [] → keys ≡ [] → IsPlanOf body plan → AreTestsBound body → IsRight body terms state found → (truth ≡ true → 0 < length found.rows) → (truth ≡ false → found.rows ≡ []) → (truth ≡ false → IsExploredBelow body plan terms found keys) → (truth ≡ some_answer body state) × Vouches found.sense body state
+pub told : {S N : Type 0} → (body : Body) (plan : Plan) (state : State) (found : Found S N) (terms : List Term) (keys : List ℕ) (truth : Bool) → terms ≡ [] → keys ≡ [] → IsPlanOf body plan → AreTestsBound body → IsRight body terms state found → (truth ≡ true → 0 < length found.rows) → (truth ≡ false → found.rows ≡ []) → (truth ≡ false → IsExploredBelow body plan terms found keys) → (truth ≡ some_answer body state) × Vouches found.sense body state
 told body plan state found terms keys true no_terms no_keys of_body whole right some none explored =
     told_true body state found whole (subst (λ ts. IsRight body ts state found) no_terms right) (some refl)
 told body plan state found terms keys false no_terms no_keys of_body whole right some none explored =

@@ -18,25 +18,24 @@ ghost use Rattle.lt_join.specs.Holders.{IsPrepared};
 use crate::Found;
 use crate::ascending::ascending;
 use crate::looking_up::look_ups_of;
-use crate::noted::NotedGaps;
 use crate::walk::{descend, roots_of};
 use lt_face::indexes::Indexes;
 use lt_face::items::{Items, RowList};
 use lt_face::memory::NoMemory;
 use lt_face::moves::Moves;
 use lt_query::{Body, Plan, TermList};
-use lt_sense::Sense;
+use lt_sense::{NoSense, Noting, Sense, Sensed, Senses};
 use std::alloc::Global;
 
-/// As `answers_unsealed`, of a body and a plan that can be walked, however many literals there are.
-pub(crate) fn answers_prepared<I: Indexes, L>(
+/// As `answers_unsealed`, of a body and a plan that can be walked, however many literals there are, with what took the gaps and hits.
+pub(crate) fn answers_prepared<I: Indexes, S: Senses, L>(
     alloc: Global,
     body: &Body,
     plan: &Plan,
     terms: &TermList,
     indexes: &I,
     moves: &mut Moves<L>,
-) -> Result<(RowList, Sense), NoMemory>
+) -> Result<(RowList, S), NoMemory>
     requires of_body { IsPlanOf body.now plan.now }
     requires prepared { IsPrepared body.now plan.now terms.now }
     requires has_indexes { AllByRecursion (λ guide. I.has_index indexes.now guide.relation guide.columns ≡ true) plan.now.guides }
@@ -44,20 +43,20 @@ pub(crate) fn answers_prepared<I: Indexes, L>(
     requires tests { AreTestsBound body.now }
     requires are_bound { IsTrue (are_bound body.now terms.now) }
     ensures rows { IfOk result (λ found. found.0 ≡ answers_of terms.now body.now (I.state indexes.now)) }
-    ensures certified { IfOk result (λ found. Certifies found.1 body.now (I.state indexes.now)) }
-    ensures tight { IfOk result (λ found. IsTight found.1 (I.state indexes.now)) }
-    ensures gaps { IfOk result (λ found. moves.old + length found.1.gaps ≤ moves.new) }
-    ensures hits { IfOk result (λ found. moves.old + length found.1.hits ≤ moves.new) }
+    ensures certified { IfOk result (λ found. Certifies (S.seen found.1) body.now (I.state indexes.now)) }
+    ensures tight { IfOk result (λ found. IsTight (S.seen found.1) (I.state indexes.now)) }
+    ensures gaps { IfOk result (λ found. moves.old + length (S.seen found.1).gaps ≤ moves.new) }
+    ensures hits { IfOk result (λ found. moves.old + length (S.seen found.1).hits ≤ moves.new) }
     // also where memory is refused
     ensures cost { moves.new ≤ moves.old + bound body.now plan.now (I.state indexes.now) }
     ensures moves { moves.old ≤ moves.new }
 {
     let mut keys = Items::new(alloc);
-    let mut noted = NotedGaps::new(alloc);
+    let mut noted = Noting::new(alloc);
     let mut iters = roots_of(alloc, indexes, plan)?;
     let look_ups = look_ups_of(alloc, indexes, body)?;
     let mut found = Found {
-        sense: Sense::new(alloc),
+        sense: Sensed::none(alloc),
         rows: Items::new(alloc),
     };
     descend(
@@ -65,7 +64,7 @@ pub(crate) fn answers_prepared<I: Indexes, L>(
         &mut found, moves, false,
     )?;
     let rows = ascending(found.rows.into_vec())?;
-    Ok((rows, found.sense))
+    Ok((rows, found.sense.into_senses()))
 }
 
 /// As `answers`, with the sense in the order in which it was gathered.
@@ -129,6 +128,71 @@ pub fn answers<I: Indexes, L>(
     Ok((rows, sense))
 }
 
+/// The answers of a body, ascending and each once, as of `answers`. Nothing is kept of what they were sensitive to.
+pub fn answers_alone<I: Indexes, L>(
+    alloc: Global,
+    body: &Body,
+    plan: &Plan,
+    terms: &TermList,
+    indexes: &I,
+    moves: &mut Moves<L>,
+) -> Result<RowList, NoMemory>
+    requires of_body { IsPlanOf body.now plan.now }
+    requires runnable { IsRunnable body.now plan.now }
+    requires fits { IsBodyOf (I.state indexes.now) body.now }
+    requires has_indexes { AllByRecursion (λ guide. I.has_index indexes.now guide.relation guide.columns ≡ true) plan.now.guides }
+    requires has_firsts { AllByRecursion (λ atom. I.has_index indexes.now atom.relation (below (length atom.terms)) ≡ true) body.now.absents }
+    requires are_bound { IsTrue (are_bound body.now terms.now) }
+    requires narrow { length terms.now ≤ most_columns }
+    ensures rows { IfOk result (λ rows. rows ≡ answers_of terms.now body.now (I.state indexes.now)) }
+    // also where memory is refused
+    ensures cost { moves.new ≤ moves.old + bound body.now plan.now (I.state indexes.now) }
+    ensures moves { moves.old ≤ moves.new }
+{
+    let (rows, _sense): (RowList, NoSense) = answers_prepared(
+        alloc, body, plan, terms, indexes, moves,
+    )?;
+    Ok(rows)
+}
+
+/// As `some_unsealed`, with what took the gaps and hits.
+fn some_sensed<I: Indexes, S: Senses, L>(
+    alloc: Global,
+    body: &Body,
+    plan: &Plan,
+    indexes: &I,
+    moves: &mut Moves<L>,
+) -> Result<(bool, S), NoMemory>
+    requires of_body { IsPlanOf body.now plan.now }
+    requires runnable { IsRunnable body.now plan.now }
+    requires fits { IsBodyOf (I.state indexes.now) body.now }
+    requires has_indexes { AllByRecursion (λ guide. I.has_index indexes.now guide.relation guide.columns ≡ true) plan.now.guides }
+    requires has_firsts { AllByRecursion (λ atom. I.has_index indexes.now atom.relation (below (length atom.terms)) ≡ true) body.now.absents }
+    ensures truth { IfOk result (λ found. found.0 ≡ some_answer body.now (I.state indexes.now)) }
+    ensures vouched { IfOk result (λ found. Vouches (S.seen found.1) body.now (I.state indexes.now)) }
+    ensures tight { IfOk result (λ found. IsTight (S.seen found.1) (I.state indexes.now)) }
+    ensures gaps { IfOk result (λ found. moves.old + length (S.seen found.1).gaps ≤ moves.new) }
+    ensures hits { IfOk result (λ found. moves.old + length (S.seen found.1).hits ≤ moves.new) }
+    // also where memory is refused
+    ensures cost { moves.new ≤ moves.old + bound body.now plan.now (I.state indexes.now) }
+    ensures moves { moves.old ≤ moves.new }
+{
+    let mut keys = Items::new(alloc);
+    let mut noted = Noting::new(alloc);
+    let mut iters = roots_of(alloc, indexes, plan)?;
+    let look_ups = look_ups_of(alloc, indexes, body)?;
+    let terms = Items::new(alloc);
+    let mut found = Found {
+        sense: Sensed::none(alloc),
+        rows: Items::new(alloc),
+    };
+    let truth = descend(
+        alloc, indexes, &mut iters, &look_ups, body, plan, &terms, &mut keys, &mut noted,
+        &mut found, moves, true,
+    )?;
+    Ok((truth, found.sense.into_senses()))
+}
+
 /// As `some`, with the sense in the order in which it was gathered.
 pub fn some_unsealed<I: Indexes, L>(
     alloc: Global,
@@ -151,20 +215,8 @@ pub fn some_unsealed<I: Indexes, L>(
     ensures cost { moves.new ≤ moves.old + bound body.now plan.now (I.state indexes.now) }
     ensures moves { moves.old ≤ moves.new }
 {
-    let mut keys = Items::new(alloc);
-    let mut noted = NotedGaps::new(alloc);
-    let mut iters = roots_of(alloc, indexes, plan)?;
-    let look_ups = look_ups_of(alloc, indexes, body)?;
-    let terms = Items::new(alloc);
-    let mut found = Found {
-        sense: Sense::new(alloc),
-        rows: Items::new(alloc),
-    };
-    let truth = descend(
-        alloc, indexes, &mut iters, &look_ups, body, plan, &terms, &mut keys, &mut noted,
-        &mut found, moves, true,
-    )?;
-    Ok((truth, found.sense))
+    let found = some_sensed(alloc, body, plan, indexes, moves)?;
+    Ok(found)
 }
 
 /// Whether the body has an answer, and what that was sensitive to, sealed. It stops at the first.
@@ -193,4 +245,26 @@ pub fn some<I: Indexes, L>(
     let (truth, mut sense) = some_unsealed(alloc, body, plan, indexes, moves)?;
     sense.seal()?;
     Ok((truth, sense))
+}
+
+/// Whether the body has an answer. It stops at the first, and keeps nothing of what that was sensitive to.
+pub fn some_alone<I: Indexes, L>(
+    alloc: Global,
+    body: &Body,
+    plan: &Plan,
+    indexes: &I,
+    moves: &mut Moves<L>,
+) -> Result<bool, NoMemory>
+    requires of_body { IsPlanOf body.now plan.now }
+    requires runnable { IsRunnable body.now plan.now }
+    requires fits { IsBodyOf (I.state indexes.now) body.now }
+    requires has_indexes { AllByRecursion (λ guide. I.has_index indexes.now guide.relation guide.columns ≡ true) plan.now.guides }
+    requires has_firsts { AllByRecursion (λ atom. I.has_index indexes.now atom.relation (below (length atom.terms)) ≡ true) body.now.absents }
+    ensures truth { IfOk result (λ told. told ≡ some_answer body.now (I.state indexes.now)) }
+    // also where memory is refused
+    ensures cost { moves.new ≤ moves.old + bound body.now plan.now (I.state indexes.now) }
+    ensures moves { moves.old ≤ moves.new }
+{
+    let (truth, _sense): (bool, NoSense) = some_sensed(alloc, body, plan, indexes, moves)?;
+    Ok(truth)
 }

@@ -7,36 +7,35 @@ ghost use Rattle.lt_join.specs.Walked.{at};
 ghost use Rattle.lt_join.specs.Holders.{IsSeatOf, AreKept, holders_at};
 ghost use Rattle.lt_join.specs.Seat.{seat_keys};
 
-use crate::noted::NotedGaps;
 use crate::seat::Seat;
 use lt_face::indexes::Indexes;
 use lt_face::items::Items;
-use lt_face::key::Key;
+use lt_face::key::{Gap, Key};
 use lt_face::memory::NoMemory;
 use lt_leap::Leap;
 use lt_query::{Level, Plan};
-use lt_sense::Sense;
+use lt_sense::{Noting, Sensed, Senses};
 
 /// So many gaps are kept one by one, and more by their iterators.
 const FEW: usize = 4;
 
 /// Keeps the gaps one after another.
-fn keep_each<'a, I: Indexes>(
+fn keep_each<'a, I: Indexes, S: Senses>(
     _tables: &'a I,
     leap: &Leap<Seat<'a, I::Rows>>,
-    noted: &NotedGaps,
+    noted: &[(u32, Gap)],
     plan: &Plan,
     _level: &Level,
     _keys: &Items<Key>,
-    sense: &mut Sense,
+    sense: &mut Sensed<S>,
 ) -> Result<(), NoMemory>
     requires seats { AllZip (IsSeatOf plan.now (I.state _tables.now) (length _keys.now) (at _keys.now)) (holders_at plan.now.guides _level.now (length _keys.now) (at _keys.now)) leap.now.iters }
-    requires gaps { AllByRecursion (IsGapOf (map seat_keys leap.now.iters)) noted.now.gaps.items }
+    requires gaps { AllByRecursion (IsGapOf (map seat_keys leap.now.iters)) noted.now }
     requires tight { IsTight sense.old (I.state _tables.now) }
-    ensures { OnOk result (AreKept plan.now (I.state _tables.now) _keys.now _level.now sense.old sense.new noted.now.gaps.items) }
+    ensures { OnOk result (AreKept plan.now (I.state _tables.now) _keys.now _level.now sense.old sense.new noted.now) }
 {
     let guides = plan.guides.as_slice();
-    for item in &noted.gaps {
+    for item in noted {
         let (place, passed) = *item;
         match leap.iter(place as usize) {
             Seat::Walks(walk) => {
@@ -56,19 +55,19 @@ fn keep_each<'a, I: Indexes>(
 }
 
 /// Keeps the gaps iterator by iterator, so that each one's prefix is looked for once.
-fn keep_by_seat<'a, I: Indexes>(
+fn keep_by_seat<'a, I: Indexes, S: Senses>(
     _tables: &'a I,
     leap: &Leap<Seat<'a, I::Rows>>,
-    noted: &NotedGaps,
+    noted: &Noting<S::Noted>,
     plan: &Plan,
     _level: &Level,
     _keys: &Items<Key>,
-    sense: &mut Sense,
+    sense: &mut Sensed<S>,
 ) -> Result<(), NoMemory>
     requires seats { AllZip (IsSeatOf plan.now (I.state _tables.now) (length _keys.now) (at _keys.now)) (holders_at plan.now.guides _level.now (length _keys.now) (at _keys.now)) leap.now.iters }
-    requires gaps { AllByRecursion (IsGapOf (map seat_keys leap.now.iters)) noted.now.gaps.items }
+    requires gaps { AllByRecursion (IsGapOf (map seat_keys leap.now.iters)) noted.now }
     requires tight { IsTight sense.old (I.state _tables.now) }
-    ensures { OnOk result (AreKept plan.now (I.state _tables.now) _keys.now _level.now sense.old sense.new noted.now.gaps.items) }
+    ensures { OnOk result (AreKept plan.now (I.state _tables.now) _keys.now _level.now sense.old sense.new noted.now) }
 {
     let guides = plan.guides.as_slice();
     for seat in 0..leap.len() {
@@ -80,7 +79,7 @@ fn keep_by_seat<'a, I: Indexes>(
                     &guide.columns,
                     walk.trie.prefix(),
                     seat,
-                    &noted.gaps,
+                    noted,
                 )?;
             }
             Seat::Single(_) => {}
@@ -90,23 +89,28 @@ fn keep_by_seat<'a, I: Indexes>(
 }
 
 /// Keeps the gaps that the atoms' iterators of a level noted.
-pub(crate) fn keep_gaps<'a, I: Indexes>(
+pub(crate) fn keep_gaps<'a, I: Indexes, S: Senses>(
     _tables: &'a I,
     leap: &Leap<Seat<'a, I::Rows>>,
-    noted: &NotedGaps,
+    noted: &Noting<S::Noted>,
     plan: &Plan,
     _level: &Level,
     _keys: &Items<Key>,
-    sense: &mut Sense,
+    sense: &mut Sensed<S>,
 ) -> Result<(), NoMemory>
     requires seats { AllZip (IsSeatOf plan.now (I.state _tables.now) (length _keys.now) (at _keys.now)) (holders_at plan.now.guides _level.now (length _keys.now) (at _keys.now)) leap.now.iters }
-    requires gaps { AllByRecursion (IsGapOf (map seat_keys leap.now.iters)) noted.now.gaps.items }
+    requires gaps { AllByRecursion (IsGapOf (map seat_keys leap.now.iters)) noted.now }
     requires tight { IsTight sense.old (I.state _tables.now) }
-    ensures { OnOk result (AreKept plan.now (I.state _tables.now) _keys.now _level.now sense.old sense.new noted.now.gaps.items) }
+    ensures { OnOk result (AreKept plan.now (I.state _tables.now) _keys.now _level.now sense.old sense.new noted.now) }
 {
-    if noted.gaps.len() <= FEW {
-        keep_each(_tables, leap, noted, plan, _level, _keys, sense)?;
-        return Ok(());
+    match noted.told() {
+        Some(gaps) => {
+            if gaps.len() <= FEW {
+                keep_each(_tables, leap, gaps, plan, _level, _keys, sense)?;
+                return Ok(());
+            }
+        }
+        None => {}
     }
     keep_by_seat(_tables, leap, noted, plan, _level, _keys, sense)?;
     Ok(())

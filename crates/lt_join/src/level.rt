@@ -10,7 +10,6 @@ ghost use Rattle.lt_join.specs.Walked.{at};
 ghost use Rattle.lt_join.specs.Holders.{IsUsable, IsOpen, IsJoined, left_of, IsWalkable, IsTrieOf, AreUnder, AreOpened, atoms_at, alone};
 
 use crate::keeping::keep_gaps;
-use crate::noted::NotedGaps;
 use crate::seat::{LoneKey, Seat, Walk};
 use lt_face::indexes::Indexes;
 use lt_face::items::Items;
@@ -20,7 +19,7 @@ use lt_face::moves::Moves;
 use lt_face::row_set::RowReads;
 use lt_leap::Leap;
 use lt_query::{Guide, Level, Plan};
-use lt_sense::Sense;
+use lt_sense::{Noting, Sensed, Senses};
 use lt_trie::TrieIter;
 use std::alloc::Global;
 
@@ -32,13 +31,13 @@ pub(crate) fn holds(guide: &Guide, level: usize) -> bool
 }
 
 /// Opens the iterators of the atoms that hold the level below the keys, each at its first key, and keeps the gaps of these moves.
-pub(crate) fn open_walks<'a, I: Indexes, L>(
+pub(crate) fn open_walks<'a, I: Indexes, S: Senses, L>(
     alloc: Global,
     _tables: &'a I,
     iters: &[TrieIter<'a, I::Rows>],
     plan: &Plan,
     keys: &Items<Key>,
-    sense: &mut Sense,
+    sense: &mut Sensed<S>,
     moves: &mut Moves<L>,
 ) -> Result<Vec<Seat<'a, I::Rows>>, NoMemory>
     requires walkable { AllByRecursion IsWalkable plan.now.guides }
@@ -99,15 +98,15 @@ pub(crate) struct Joined<'a, R: RowReads> {
 }
 
 /// Opens the level below the keys.
-pub(crate) fn open_level<'a, I: Indexes, L>(
+pub(crate) fn open_level<'a, I: Indexes, S: Senses, L>(
     alloc: Global,
     tables: &'a I,
     iters: &[TrieIter<'a, I::Rows>],
     plan: &Plan,
     level: &Level,
     keys: &Items<Key>,
-    noted: &mut NotedGaps,
-    sense: &mut Sense,
+    noted: &mut Noting<S::Noted>,
+    sense: &mut Sensed<S>,
     moves: &mut Moves<L>,
 ) -> Result<Joined<'a, I::Rows>, NoMemory>
     requires walkable { AllByRecursion IsWalkable plan.now.guides }
@@ -132,14 +131,14 @@ pub(crate) fn open_level<'a, I: Indexes, L>(
 }
 
 /// Goes to the level's next key. Where a pin or a tie sits, none can follow.
-pub(crate) fn next_key<'a, I: Indexes, L>(
+pub(crate) fn next_key<'a, I: Indexes, S: Senses, L>(
     tables: &'a I,
     joined: &mut Joined<'a, I::Rows>,
     plan: &Plan,
     level: &Level,
     keys: &Items<Key>,
-    noted: &mut NotedGaps,
-    sense: &mut Sense,
+    noted: &mut Noting<S::Noted>,
+    sense: &mut Sensed<S>,
     moves: &mut Moves<L>,
 ) -> Result<(), NoMemory>
     requires is_open { IsOpen plan.now (I.state tables.now) keys.now level.now joined.old.leap joined.old.key }

@@ -17,16 +17,15 @@ mod mending_plan;
 mod mending_read;
 mod mending_shared;
 mod mending_touched;
-mod noted;
 mod seat;
 mod slicing;
 pub mod values;
 mod walk;
 
-pub use answer::{answers, answers_unsealed, some, some_unsealed};
+pub use answer::{answers, answers_alone, answers_unsealed, some, some_alone, some_unsealed};
 pub use covering::agreeing_states_answer_alike;
 use lt_face::items::RowList;
-use lt_sense::Sense;
+use lt_sense::{Sensed, Senses};
 pub use mending::{mended_slices_are_slices, slices_stay};
 pub use mending_join::mend;
 pub use mending_plan::pinned_plans_are_plans;
@@ -36,9 +35,9 @@ pub use mending_touched::touched_keys;
 pub use seat::{LoneKey, Seat, Walk};
 pub use slicing::{Slice, slices, slices_make_the_whole, slices_unsealed};
 
-/// What a walk has found so far: the sense, and rows that are answers.
+/// What a walk has found so far: what it sensed, and rows that are answers.
 #[derive(Drop)]
-pub struct Found {
-    pub sense: Sense,
+pub struct Found<S: Senses> {
+    pub sense: Sensed<S>,
     pub rows: RowList,
 }

@@ -28,7 +28,7 @@ use lt_face::moves::Moves;
 use lt_face::row::Row;
 use lt_face::row_set::RowReads;
 use lt_query::{Atom, Body, Plan, own_columns};
-use lt_sense::Sense;
+use lt_sense::{Sensed, Senses};
 use std::alloc::Global;
 use std::marker::Model;
 
@@ -96,12 +96,12 @@ pub(crate) fn look_ups_of<'a, I: Indexes>(
 }
 
 /// Keeps the gap of the row's last cell, under its other cells. The state lacks the row.
-fn keep_lack<'a, I: Indexes>(
+fn keep_lack<'a, I: Indexes, S: Senses>(
     _tables: &'a I,
     columns: &Perm,
     relation: u32,
     row: Row,
-    sense: &mut Sense,
+    sense: &mut Sensed<S>,
 ) -> Result<(), NoMemory>
     requires columns { columns.now ≡ below (length row) }
     requires some { 0 < length row }
@@ -126,12 +126,12 @@ fn keep_lack<'a, I: Indexes>(
 
 /// Looks a row up, by one move, and answers whether it is there. A row that is there becomes a hit; of one that isn't the gap
 /// of its last cell is kept, under its other cells.
-fn look_up<'a, I: Indexes, L>(
+fn look_up<'a, I: Indexes, S: Senses, L>(
     tables: &'a I,
     look_up: &LookUp<'a, I::Rows>,
     relation: u32,
     row: Row,
-    sense: &mut Sense,
+    sense: &mut Sensed<S>,
     moves: &mut Moves<L>,
 ) -> Result<bool, NoMemory>
     requires is { IsLookUpFor (I.state tables.now) relation (length row) look_up.now }
@@ -158,13 +158,13 @@ fn look_up<'a, I: Indexes, L>(
 
 /// Whether the state has none of the rows that these atoms name. They are looked up in text order, up to the first that is
 /// there.
-fn lacks_each<'a, I: Indexes, L>(
+fn lacks_each<'a, I: Indexes, S: Senses, L>(
     alloc: Global,
     tables: &'a I,
     look_ups: &[LookUp<'a, I::Rows>],
     absents: &[Atom],
     values: &Values,
-    sense: &mut Sense,
+    sense: &mut Sensed<S>,
     moves: &mut Moves<L>,
 ) -> Result<bool, NoMemory>
     requires wide { AreAtomsWide absents.now }
@@ -191,14 +191,14 @@ fn lacks_each<'a, I: Indexes, L>(
 }
 
 /// Whether the state has none of the rows that the negated atoms name under the keys of all levels.
-pub(crate) fn lacks_rows<'a, I: Indexes, L>(
+pub(crate) fn lacks_rows<'a, I: Indexes, S: Senses, L>(
     alloc: Global,
     tables: &'a I,
     look_ups: &[LookUp<'a, I::Rows>],
     body: &Body,
     plan: &Plan,
     keys: &Items<Key>,
-    sense: &mut Sense,
+    sense: &mut Sensed<S>,
     moves: &mut Moves<L>,
 ) -> Result<bool, NoMemory>
     requires full { length keys.now ≡ length plan.now.levels }

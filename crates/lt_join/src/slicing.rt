@@ -1,5 +1,5 @@
 //! The answers of a body, key by key of its first variable.
-ghost use Rattle.std.specs.Prelude.{◌≡◌, ◌≤◌, ◌<◌, ◌+◌, ◌-◌, ◌^◌, ◌∷◌, [], ℕ, List, true, length, slice_get, drop, Some, IfOk, OnOk, IsTrue};
+ghost use Rattle.std.specs.Prelude.{◌≡◌, ◌≤◌, ◌<◌, ◌+◌, ◌-◌, ◌^◌, ◌∷◌, [], ℕ, List, true, length, slice_get, drop, Some, IfOk, IsTrue};
 ghost use Rattle.std.specs.List.{AllByRecursion, AllZip};
 ghost use Rattle.lt_face.specs.Limits.{most_columns};
 ghost use Rattle.lt_face.specs.Lists.{IsIn};
@@ -31,7 +31,6 @@ use crate::ascending::ascending;
 use crate::level::{Joined, next_key, open_level};
 use crate::looking_up::{LookUp, look_ups_of};
 use crate::mending_shared::{SharedSlice, SharedSlices};
-use crate::noted::NotedGaps;
 use crate::walk::{add_hits, descend, enter, leave, roots_of};
 use lt_face::indexes::Indexes;
 use lt_face::items::{Items, RowList};
@@ -39,7 +38,7 @@ use lt_face::key::{END, Key};
 use lt_face::memory::NoMemory;
 use lt_face::moves::Moves;
 use lt_query::{Body, Level, Plan, TermList};
-use lt_sense::Sense;
+use lt_sense::{NotedGaps, Noting, Sense, Sensed};
 use lt_trie::TrieIter;
 use std::alloc::Global;
 
@@ -59,20 +58,21 @@ pub fn slices_make_the_whole()
     ensures answers { (root : SenseView) (slices : List SliceView) (terms : List TermView) (term : TermView) (body : BodyView) (state : State) → AreTestsBound body → are_bound body terms ≡ true → IsIn term (terms_of body.atoms) → CertifiesBut (slice_keys slices) term root body state → AllByRecursion (IsSliceOf terms body term state) slices → answers_of terms body state ≡ ascending_rows (sliced_rows slices) }
 {}
 
-/// Puts the sense in order, where that is asked for.
-fn seal_if(sense: &mut Sense, sealing: bool) -> Result<(), NoMemory>
-    ensures sealed { OnOk result (sealing ≡ true → IsSealed sense.new) }
-    ensures cells { OnOk result (HaveSameCells sense.old.gaps sense.new.gaps) }
-    ensures covers { OnOk result ((relation : ℕ) (row : RowView) → covers sense.new relation row ≡ covers sense.old relation row) }
-    ensures gaps { OnOk result (length sense.new.gaps ≤ length sense.old.gaps) }
-    ensures hits { OnOk result (length sense.new.hits ≤ length sense.old.hits) }
-    ensures tight { OnOk result ((state : State) → IsTight sense.old state → IsTight sense.new state) }
+/// What was sensed, put in order where that is asked for.
+fn sealed_if(sensed: Sensed<Sense>, sealing: bool) -> Result<Sense, NoMemory>
+    ensures sealed { IfOk result (λ sense. sealing ≡ true → IsSealed sense) }
+    ensures cells { IfOk result (λ sense. HaveSameCells sensed.gaps sense.gaps) }
+    ensures covers { IfOk result (λ sense. (relation : ℕ) (row : RowView) → covers sense relation row ≡ covers sensed relation row) }
+    ensures gaps { IfOk result (λ sense. length sense.gaps ≤ length sensed.gaps) }
+    ensures hits { IfOk result (λ sense. length sense.hits ≤ length sensed.hits) }
+    ensures tight { IfOk result (λ sense. (state : State) → IsTight sensed state → IsTight sense state) }
 {
+    let mut sense = sensed.into_senses();
     if !sealing {
-        return Ok(());
+        return Ok(sense);
     }
     sense.seal()?;
-    Ok(())
+    Ok(sense)
 }
 
 /// The slice of the key where the first level stands.
@@ -87,7 +87,7 @@ fn slice_at<'a, I: Indexes, L>(
     level: &Level,
     terms: &TermList,
     keys: &mut Items<Key>,
-    noted: &mut NotedGaps,
+    noted: &mut Noting<NotedGaps>,
     moves: &mut Moves<L>,
     sealing: bool,
 ) -> Result<Slice, NoMemory>
@@ -114,8 +114,8 @@ fn slice_at<'a, I: Indexes, L>(
     ensures hits { IfOk result (λ slice. length slice.sense.hits + moves.old ≤ moves.new + length (atoms_at plan.now.guides 0)) }
 {
     let empty = Items::new(alloc);
-    let mut found = Found {
-        sense: Sense::new(alloc),
+    let mut found: Found<Sense> = Found {
+        sense: Sensed::none(alloc),
         rows: empty,
     };
     enter(tables, iters, joined, plan, level, keys);
@@ -127,8 +127,7 @@ fn slice_at<'a, I: Indexes, L>(
     keys.pop();
     leave(tables, iters, plan, keys, joined.key);
     let rows = ascending(found.rows.into_vec())?;
-    let mut sense = found.sense;
-    seal_if(&mut sense, sealing)?;
+    let sense = sealed_if(found.sense, sealing)?;
     Ok(Slice {
         key: joined.key,
         rows,
@@ -171,10 +170,10 @@ fn gather_slices<I: Indexes, L>(
     ensures sealed { IfOk result (λ found. sealing ≡ true → AreSealed found.0 found.1) }
 {
     let mut keys = Items::new(alloc);
-    let mut noted = NotedGaps::new(alloc);
+    let mut noted = Noting::new(alloc);
     let mut iters = roots_of(alloc, indexes, plan)?;
     let look_ups = look_ups_of(alloc, indexes, body)?;
-    let mut root = Sense::new(alloc);
+    let mut root: Sensed<Sense> = Sensed::none(alloc);
     let mut slices = Items::new(alloc);
     let level = &plan.levels.as_slice()[0];
     let mut joined = open_level(
@@ -198,7 +197,7 @@ fn gather_slices<I: Indexes, L>(
             moves,
         )?;
     }
-    seal_if(&mut root, sealing)?;
+    let root = sealed_if(root, sealing)?;
     Ok((root, slices))
 }
 

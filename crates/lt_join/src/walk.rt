@@ -13,7 +13,6 @@ use crate::Found;
 use crate::leaf::leaf_answer;
 use crate::level::{Joined, holds, next_key, open_level};
 use crate::looking_up::{LookUp, lacks_rows};
-use crate::noted::NotedGaps;
 use crate::seat::Seat;
 use lt_face::indexes::Indexes;
 use lt_face::items::Items;
@@ -22,7 +21,7 @@ use lt_face::memory::NoMemory;
 use lt_face::moves::Moves;
 use lt_face::row::Row;
 use lt_query::{Body, Guide, Level, Plan, Term};
-use lt_sense::Sense;
+use lt_sense::{Noting, Sensed, Senses};
 use lt_trie::TrieIter;
 use std::alloc::Global;
 
@@ -90,13 +89,13 @@ fn row_of(alloc: Global, guide: &Guide, keys: &Items<Key>) -> Row
 }
 
 /// Makes hits of the rows of the atoms that end at the last key.
-pub(crate) fn add_hits<'a, I: Indexes>(
+pub(crate) fn add_hits<'a, I: Indexes, S: Senses>(
     alloc: Global,
     _tables: &'a I,
     iters: &[TrieIter<'a, I::Rows>],
     plan: &Plan,
     keys: &Items<Key>,
-    sense: &mut Sense,
+    sense: &mut Sensed<S>,
 ) -> Result<(), NoMemory>
     requires some { 0 < length keys.now }
     requires walkable { AllByRecursion IsWalkable plan.now.guides }
@@ -140,7 +139,7 @@ pub(crate) fn roots_of<'a, I: Indexes>(
 }
 
 /// Adds the answer that the keys of all levels give, where they give one, and answers whether the walk stops there.
-fn at_leaf<'a, I: Indexes, L>(
+fn at_leaf<'a, I: Indexes, S: Senses, L>(
     alloc: Global,
     tables: &'a I,
     look_ups: &[LookUp<'a, I::Rows>],
@@ -148,7 +147,7 @@ fn at_leaf<'a, I: Indexes, L>(
     plan: &Plan,
     terms: &Items<Term>,
     keys: &Items<Key>,
-    found: &mut Found,
+    found: &mut Found<S>,
     moves: &mut Moves<L>,
     first: bool,
 ) -> Result<bool, NoMemory>
@@ -191,7 +190,7 @@ fn at_leaf<'a, I: Indexes, L>(
 }
 
 /// Explores the levels below the keys. Where the first answer suffices, it stops there.
-pub(crate) fn descend<'a, I: Indexes, L>(
+pub(crate) fn descend<'a, I: Indexes, S: Senses, L>(
     alloc: Global,
     tables: &'a I,
     iters: &mut Vec<TrieIter<'a, I::Rows>>,
@@ -200,8 +199,8 @@ pub(crate) fn descend<'a, I: Indexes, L>(
     plan: &Plan,
     terms: &Items<Term>,
     keys: &mut Items<Key>,
-    noted: &mut NotedGaps,
-    found: &mut Found,
+    noted: &mut Noting<S::Noted>,
+    found: &mut Found<S>,
     moves: &mut Moves<L>,
     first: bool,
 ) -> Result<bool, NoMemory>

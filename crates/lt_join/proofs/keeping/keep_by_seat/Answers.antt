@@ -5,7 +5,7 @@ use Rattle.lt_join.proofs.keeping.keep_by_seat.Goals as goal
 use Rattle.lt_join.proofs.keeping.keep_by_seat.Goals.{in-Walks+in_ok-add_gaps-in-Walks, in-Single}
 
 pub loop-seat-init : goal.loop-seat-init
-loop-seat-init g c = kept_below_none c.args.plan.now (g.I.Indexes.state c.args._tables.now) c.args._keys.now c.args._level.now c.args.leap.now.iters c.requires.seats c.args.sense.now c.args.noted.now.gaps.items c.requires.tight
+loop-seat-init g c = kept_below_none c.args.plan.now (g.I.Indexes.state c.args._tables.now) c.args._keys.now c.args._level.now c.args.leap.now.iters c.requires.seats c.args.sense.now c.args.noted.now c.requires.tight
 
 pub offset_bounds-guides-walk : goal.offset_bounds-guides-walk
 offset_bounds-guides-walk g c =
@@ -27,17 +27,16 @@ pub loop-seat-preserved : goal.loop-seat-preserved
 loop-seat-preserved g c =
     let plan = c.args.plan.now in
     let state = g.I.Indexes.state c.args._tables.now in
-    let noted = c.args.noted.now.gaps.items in
+    let noted = c.args.noted.now in
     elim c.match-iter.branch [
       | in-Walks+in_ok-add_gaps-in-Walks w ↦
-          let value = w.deref.ensures.value in
           rw w.sense-is (kept_seat plan state c.args._keys.now c.args._level.now c.args.leap.now.iters c.requires.seats c.loop-seat.seat c.args.sense.now c.loop-seat.sense w.add_gaps.new.self noted c.iter.result.now w.in-Walks.walk w.index-guides-walk.result
           c.loop-seat.invariant c.requires.gaps c.iter.ensures.item w.in-Walks.is (rw c.as_slice-guides.ensures at w.index-guides-walk.is)
-          (rw (w.prefix.ensures, value) at w.in_ok-add_gaps-in-Walks.ensures.kept) w.in_ok-add_gaps-in-Walks.ensures.hits)
+          (rw w.prefix.ensures at w.in_ok-add_gaps-in-Walks.ensures.kept) w.in_ok-add_gaps-in-Walks.ensures.hits)
       | in-Single w ↦ rw w.sense-is (kept_lone plan state c.args._keys.now c.args._level.now c.args.leap.now.iters c.requires.seats c.loop-seat.seat c.args.sense.now c.loop-seat.sense noted c.iter.result.now w.in-Single.field-0 c.loop-seat.invariant c.requires.gaps c.iter.ensures.item w.in-Single.is)
     ]
 
 pub returns : goal.returns
 returns g c =
     let n = c.len-seat-end.ensures in
-    kept_all c.args.plan.now (g.I.Indexes.state c.args._tables.now) c.args._keys.now c.args._level.now c.args.leap.now.iters c.requires.seats c.loop-seat.seat c.args.sense.now c.loop-seat.sense c.args.noted.now.gaps.items c.requires.gaps (omega arith) c.loop-seat.invariant
+    kept_all c.args.plan.now (g.I.Indexes.state c.args._tables.now) c.args._keys.now c.args._level.now c.args.leap.now.iters c.requires.seats c.loop-seat.seat c.args.sense.now c.loop-seat.sense c.args.noted.now c.requires.gaps (omega arith) c.loop-seat.invariant

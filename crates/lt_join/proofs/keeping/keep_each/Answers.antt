@@ -27,12 +27,10 @@ pub loop-item-preserved : goal.loop-item-preserved
 loop-item-preserved g c =
     let plan = c.args.plan.now in
     let state = g.I.Indexes.state c.args._tables.now in
-    let items = c.args.noted.now.gaps.items in
-    let item = get_or c.deref-item-items.result.now c.loop-item.item-index (0, record { lo = 0; hi = 0 }) in
-    let lt = c.loop-item-test.true in
-    let value = c.deref-item-items.ensures.value in
-    let within : c.loop-item.item-index < length items = subst (λ (xs : List (ℕ × Gap)). c.loop-item.item-index < length xs) value lt in
-    let item_is : item ≡ get_or items c.loop-item.item-index item = get_default c.deref-item-items.result.now c.loop-item.item-index (0, record { lo = 0; hi = 0 }) item lt ∙ ap (λ (xs : List (ℕ × Gap)). get_or xs c.loop-item.item-index item) value in
+    let items = c.args.noted.now in
+    let item = get_or items c.loop-item.item-index (0, record { lo = 0; hi = 0 }) in
+    let within : c.loop-item.item-index < length items = c.loop-item-test.true in
+    let item_is : item ≡ get_or items c.loop-item.item-index item = get_default items c.loop-item.item-index (0, record { lo = 0; hi = 0 }) item within in
     let free = all_get (IsGapOf (map seat_keys c.args.leap.now.iters)) items c.loop-item.item-index item c.requires.gaps within item_is in
     rw (take_more items c.loop-item.item-index item within item_is) (elim c.match-iter.branch [
       | in-Walks+in_ok-add_gap-in-Walks w ↦

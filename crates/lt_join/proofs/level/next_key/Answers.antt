@@ -22,14 +22,14 @@ pub returns-clause-stands : goal.returns-clause-stands
 returns-clause-stands g c =
     let e = c.in_ok-next.ensures in
     let goes : c.args.joined.now.key ≢ end_key = λ e. omega (arith, c.requires.at_key) in
-    (joined_next _ c.args.plan.now (g.I.Indexes.state c.args.tables.now) c.args.keys.now c.args.level.now c.args.sense.now c.keep_gaps.new.sense c.args.moves.now c.next.new.moves _ c.clear.new.self.gaps.items c.next.new.notes.gaps.items c.args.joined.now.leap c.next.new.self c.args.joined.now.key c.key-joined.result
+    (joined_next _ c.args.plan.now (g.I.Indexes.state c.args.tables.now) c.args.keys.now c.args.level.now c.args.sense.now c.keep_gaps.new.sense c.args.moves.now c.next.new.moves _ c.clear.new.self c.next.new.notes c.args.joined.now.leap c.next.new.self c.args.joined.now.key c.key-joined.result
     c.requires.usable.held c.requires.is_open goes e.keys e.still c.clear.ensures e.here e.notes c.next.ensures.potential c.in_ok-keep_gaps.ensures c.key-joined.ensures.value c.key-joined.ensures.found).0
 
 pub returns-clause-rises : goal.returns-clause-rises
 returns-clause-rises g c =
     let e = c.in_ok-next.ensures in
     let goes : c.args.joined.now.key ≢ end_key = λ e. omega (arith, c.requires.at_key) in
-    (joined_next _ c.args.plan.now (g.I.Indexes.state c.args.tables.now) c.args.keys.now c.args.level.now c.args.sense.now c.keep_gaps.new.sense c.args.moves.now c.next.new.moves _ c.clear.new.self.gaps.items c.next.new.notes.gaps.items c.args.joined.now.leap c.next.new.self c.args.joined.now.key c.key-joined.result
+    (joined_next _ c.args.plan.now (g.I.Indexes.state c.args.tables.now) c.args.keys.now c.args.level.now c.args.sense.now c.keep_gaps.new.sense c.args.moves.now c.next.new.moves _ c.clear.new.self c.next.new.notes c.args.joined.now.leap c.next.new.self c.args.joined.now.key c.key-joined.result
     c.requires.usable.held c.requires.is_open goes e.keys e.still c.clear.ensures e.here e.notes c.next.ensures.potential c.in_ok-keep_gaps.ensures c.key-joined.ensures.value c.key-joined.ensures.found).1
 
 pub returns-then-len-gt0-clause-gains : goal.returns-then-len-gt0-clause-gains
@@ -38,7 +38,7 @@ returns-then-len-gt0-clause-gains g c = gains_ended (length (atoms_at c.args.pla
 pub returns-clause-gains : goal.returns-clause-gains
 returns-clause-gains g c =
     let e = c.in_ok-next.ensures in
-    gains_next _ c.args.plan.now (g.I.Indexes.state c.args.tables.now) c.args.keys.now c.args.level.now c.args.sense.now c.keep_gaps.new.sense c.args.moves.now c.next.new.moves _ _ _ c.clear.new.self.gaps.items c.next.new.notes.gaps.items c.args.joined.now.leap c.next.new.self c.args.joined.now.key c.key-joined.result
+    gains_next _ c.args.plan.now (g.I.Indexes.state c.args.tables.now) c.args.keys.now c.args.level.now c.args.sense.now c.keep_gaps.new.sense c.args.moves.now c.next.new.moves _ _ _ c.clear.new.self c.next.new.notes c.args.joined.now.leap c.next.new.self c.args.joined.now.key c.key-joined.result
     c.requires.is_open c.clear.ensures e.notes c.next.ensures.moves c.in_ok-keep_gaps.ensures c.key-joined.ensures.value e.at_least
 
 pub returns-then-len-gt0-clause-under : goal.returns-then-len-gt0-clause-under

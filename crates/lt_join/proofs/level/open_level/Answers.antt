@@ -33,13 +33,13 @@ keep_gaps-requires-clause-seats g c =
 pub returns-clause-stands : goal.returns-clause-stands
 returns-clause-stands g c =
     let e = c.in_ok-leap.ensures in
-    joined_begun _ c.args.plan.now (g.I.Indexes.state c.args.tables.now) c.args.keys.now c.args.level.now c.args.sense.now c.open_walks.new.sense c.keep_gaps.new.sense c.in_ok-seats.seats.items c.add_keys.new.seats.items c.args.moves.now c.open_walks.new.moves c.init.new.moves _ c.clear.new.self.gaps.items c.init.new.notes.gaps.items c.in_ok-leap.leap c.key-key.result
+    joined_begun _ c.args.plan.now (g.I.Indexes.state c.args.tables.now) c.args.keys.now c.args.level.now c.args.sense.now c.open_walks.new.sense c.keep_gaps.new.sense c.in_ok-seats.seats.items c.add_keys.new.seats.items c.args.moves.now c.open_walks.new.moves c.init.new.moves _ c.clear.new.self c.init.new.notes c.in_ok-leap.leap c.key-key.result
     c.requires.usable.held c.in_ok-seats.ensures.opened c.in_ok-add_keys.ensures e.keys e.still c.clear.ensures e.notes e.potential c.in_ok-keep_gaps.ensures c.key-key.ensures.value c.key-key.ensures.found
 
 pub returns-clause-gains : goal.returns-clause-gains
 returns-clause-gains g c =
     let e = c.in_ok-leap.ensures in
-    gains_begun _ c.args.plan.now (g.I.Indexes.state c.args.tables.now) c.args.keys.now c.args.level.now c.args.sense.now c.open_walks.new.sense c.keep_gaps.new.sense c.in_ok-seats.seats.items c.args.moves.now c.open_walks.new.moves c.init.new.moves _ _ _ c.clear.new.self.gaps.items c.init.new.notes.gaps.items c.key-key.result
+    gains_begun _ c.args.plan.now (g.I.Indexes.state c.args.tables.now) c.args.keys.now c.args.level.now c.args.sense.now c.open_walks.new.sense c.keep_gaps.new.sense c.in_ok-seats.seats.items c.args.moves.now c.open_walks.new.moves c.init.new.moves _ _ _ c.clear.new.self c.init.new.notes c.key-key.result
     c.in_ok-seats.ensures.opened c.clear.ensures e.notes.2 c.init.ensures.moves c.in_ok-keep_gaps.ensures
 
 pub returns-in_err-seats-clause-within : goal.returns-in_err-seats-clause-within

@@ -28,7 +28,7 @@ open_level-requires-clause-usable g c =
     let here : slice_get c.args.plan.now.levels 0 ≡ Some level = slice_get_is c.args.plan.now.levels 0 level c.requires.has_levels (rw c.as_slice.ensures at c.index-as_slice-0.is) in
     let prepared = IsPrepared-from (g.I.Indexes.state c.args.indexes.now) c.args.body.now c.args.plan.now c.args.terms.now c.requires.fits c.requires.runnable c.requires.narrow in
     subst (IsUsable c.args.plan.now.guides level) (sym c.new-keys.ensures)
-    (usable_at c.args.body.now c.args.plan.now c.args.terms.now c.new-root.result [] level c.requires.of_body prepared (IsReached-none c.args.plan.now c.new-root.result (has_columns c.args.plan.now.guides c.requires.runnable.widths)) here c.requires.has_levels)
+    (usable_at c.args.body.now c.args.plan.now c.args.terms.now c.none-root.result [] level c.requires.of_body prepared (IsReached-none c.args.plan.now c.none-root.result (has_columns c.args.plan.now.guides c.requires.runnable.widths)) here c.requires.has_levels)
 
 pub loop-joined-init : goal.loop-joined-init
 loop-joined-init g c =
@@ -36,14 +36,14 @@ loop-joined-init g c =
     let state = g.I.Indexes.state c.args.indexes.now in
     let level = c.index-as_slice-0.result in
     let key = c.in_ok-joined.joined.key in
-    let stands = subst (λ (ks : List ℕ). IsJoined plan state c.new-root.result c.open_level.new.sense ks level 0 (c.args.moves.now + join_cost (iterators_at state plan.guides level (length ks) (at ks))) c.open_level.new.moves c.in_ok-joined.joined.leap key) c.new-keys.ensures c.in_ok-joined.ensures.stands in
-    let gains = subst (λ (ks : List ℕ). LevelGains (length (atoms_at plan.guides (length ks))) c.new-root.result c.open_level.new.sense c.args.moves.now c.open_level.new.moves key) c.new-keys.ensures c.in_ok-joined.ensures.gains in
-    let under = subst (λ (ks : List ℕ). AreUnder ks c.new-root.result c.open_level.new.sense) c.new-keys.ensures c.in_ok-joined.ensures.under in
+    let stands = subst (λ (ks : List ℕ). IsJoined plan state c.none-root.result c.open_level.new.sense ks level 0 (c.args.moves.now + join_cost (iterators_at state plan.guides level (length ks) (at ks))) c.open_level.new.moves c.in_ok-joined.joined.leap key) c.new-keys.ensures c.in_ok-joined.ensures.stands in
+    let gains = subst (λ (ks : List ℕ). LevelGains (length (atoms_at plan.guides (length ks))) c.none-root.result c.open_level.new.sense c.args.moves.now c.open_level.new.moves key) c.new-keys.ensures c.in_ok-joined.ensures.gains in
+    let under = subst (λ (ks : List ℕ). AreUnder ks c.none-root.result c.open_level.new.sense) c.new-keys.ensures c.in_ok-joined.ensures.under in
     record {
       at_root = c.new-keys.ensures;
-      sliced = AreSliced-begun c.args.body.now plan c.args.terms.now state level c.new-root.result c.open_level.new.sense c.new-slices.result key c.new-slices.ensures c.new-root.ensures gains.hits under stands.stands;
+      sliced = AreSliced-begun c.args.body.now plan c.args.terms.now state level c.none-root.result c.open_level.new.sense c.new-slices.result key c.new-slices.ensures c.none-root.ensures gains.hits under stands.stands;
       paid = IsPaid-begun (length c.args.body.now.absents) plan state [] level c.args.moves.now c.open_level.new.moves (left_of c.in_ok-joined.joined.leap) key stands.cost;
-      credited = credited_begun (length (atoms_at plan.guides 0)) c.new-root.result c.open_level.new.sense c.new-slices.result c.args.moves.now c.open_level.new.moves key c.new-slices.ensures c.new-root.ensures gains;
+      credited = credited_begun (length (atoms_at plan.guides 0)) c.none-root.result c.open_level.new.sense c.new-slices.result c.args.moves.now c.open_level.new.moves key c.new-slices.ensures c.none-root.ensures gains;
       rises = c.open_level.ensures.moves;
       sealed = λ asked. subst (AllByRecursion (λ (slice : Slice). IsSealed slice.sense)) (sym c.new-slices.ensures) tt;
       is_open = c.in_ok-joined.ensures.stands.is_open;
@@ -74,7 +74,7 @@ next_key-requires-clause-usable g c =
     let here : slice_get c.args.plan.now.levels 0 ≡ Some level = slice_get_is c.args.plan.now.levels 0 level c.requires.has_levels (rw c.as_slice.ensures at c.index-as_slice-0.is) in
     let prepared = IsPrepared-from (g.I.Indexes.state c.args.indexes.now) c.args.body.now c.args.plan.now c.args.terms.now c.requires.fits c.requires.runnable c.requires.narrow in
     subst (IsUsable c.args.plan.now.guides level) (sym (c.in_ok-slice.ensures.back ∙ c.loop-joined.invariant.at_root))
-    (usable_at c.args.body.now c.args.plan.now c.args.terms.now c.new-root.result [] level c.requires.of_body prepared (IsReached-none c.args.plan.now c.new-root.result (has_columns c.args.plan.now.guides c.requires.runnable.widths)) here c.requires.has_levels)
+    (usable_at c.args.body.now c.args.plan.now c.args.terms.now c.none-root.result [] level c.requires.of_body prepared (IsReached-none c.args.plan.now c.none-root.result (has_columns c.args.plan.now.guides c.requires.runnable.widths)) here c.requires.has_levels)
 
 pub next_key-requires-clause-tight : goal.next_key-requires-clause-tight
 next_key-requires-clause-tight g c = c.loop-joined.invariant.sliced.tight
@@ -119,14 +119,14 @@ returns-clause-found g c =
 pub returns-clause-rooted : goal.returns-clause-rooted
 returns-clause-rooted g c =
     let here = slice_get_is c.args.plan.now.levels 0 c.index-as_slice-0.result c.requires.has_levels (rw c.as_slice.ensures at c.index-as_slice-0.is) in
-    rooted_alike c.args.plan.now c.loop-joined.root c.seal_if.new.sense (slice_keys c.loop-joined.slices) c.in_ok-seal_if.ensures.cells
+    rooted_alike c.args.plan.now c.loop-joined.root c.in_ok-root.root (slice_keys c.loop-joined.slices) c.in_ok-root.ensures.cells
     (rooted_all c.args.body.now c.args.plan.now c.args.terms.now (g.I.Indexes.state c.args.indexes.now) c.index-as_slice-0.result c.loop-joined.root c.loop-joined.slices c.loop-joined.joined.key here (omega arith) c.loop-joined.invariant.sliced)
 
 pub returns-clause-root_gaps : goal.returns-clause-root_gaps
-returns-clause-root_gaps g c = root_gaps_alike c.loop-joined.root c.seal_if.new.sense c.in_ok-seal_if.ensures.cells c.loop-joined.invariant.sliced.gaps
+returns-clause-root_gaps g c = root_gaps_alike c.loop-joined.root c.in_ok-root.root c.in_ok-root.ensures.cells c.loop-joined.invariant.sliced.gaps
 
 pub returns-clause-root_hits : goal.returns-clause-root_hits
-returns-clause-root_hits g c = no_hits_alike c.loop-joined.root c.seal_if.new.sense c.in_ok-seal_if.ensures.hits c.loop-joined.invariant.sliced.hits
+returns-clause-root_hits g c = no_hits_alike c.loop-joined.root c.in_ok-root.root c.in_ok-root.ensures.hits c.loop-joined.invariant.sliced.hits
 
 pub returns-clause-rows : goal.returns-clause-rows
 returns-clause-rows g c =
@@ -135,43 +135,43 @@ returns-clause-rows g c =
 
 pub returns-clause-certified : goal.returns-clause-certified
 returns-clause-certified g c =
-    certified_of c.args.terms.now c.args.body.now c.args.plan.now (g.I.Indexes.state c.args.indexes.now) c.seal_if.new.sense c.loop-joined.slices c.requires.of_body c.requires.has_levels (record {
+    certified_of c.args.terms.now c.args.body.now c.args.plan.now (g.I.Indexes.state c.args.indexes.now) c.in_ok-root.root c.loop-joined.slices c.requires.of_body c.requires.has_levels (record {
       ascending = c.loop-joined.invariant.sliced.rising;
       each = c.loop-joined.invariant.sliced.each;
       rooted = returns-clause-rooted g c;
-      tight = c.in_ok-seal_if.ensures.tight (g.I.Indexes.state c.args.indexes.now) c.loop-joined.invariant.sliced.tight;
+      tight = c.in_ok-root.ensures.tight (g.I.Indexes.state c.args.indexes.now) c.loop-joined.invariant.sliced.tight;
       root_hits = returns-clause-root_hits g c;
       root_gaps = returns-clause-root_gaps g c;
     })
 
 pub returns-clause-tight : goal.returns-clause-tight
 returns-clause-tight g c =
-    tight_of c.args.terms.now c.args.body.now c.args.plan.now (g.I.Indexes.state c.args.indexes.now) c.seal_if.new.sense c.loop-joined.slices (record {
+    tight_of c.args.terms.now c.args.body.now c.args.plan.now (g.I.Indexes.state c.args.indexes.now) c.in_ok-root.root c.loop-joined.slices (record {
       ascending = c.loop-joined.invariant.sliced.rising;
       each = c.loop-joined.invariant.sliced.each;
       rooted = returns-clause-rooted g c;
-      tight = c.in_ok-seal_if.ensures.tight (g.I.Indexes.state c.args.indexes.now) c.loop-joined.invariant.sliced.tight;
+      tight = c.in_ok-root.ensures.tight (g.I.Indexes.state c.args.indexes.now) c.loop-joined.invariant.sliced.tight;
       root_hits = returns-clause-root_hits g c;
       root_gaps = returns-clause-root_gaps g c;
     })
 
 pub returns-clause-sealed : goal.returns-clause-sealed
-returns-clause-sealed g c = λ asked. (c.in_ok-seal_if.ensures.sealed asked, c.loop-joined.invariant.sealed asked)
+returns-clause-sealed g c = λ asked. (c.in_ok-root.ensures.sealed asked, c.loop-joined.invariant.sealed asked)
 
 pub returns-clause-gaps : goal.returns-clause-gaps
 returns-clause-gaps g c =
     let a = c.loop-joined.invariant.credited.gains.gaps in
-    let b = united_gaps_fewer c.loop-joined.root c.seal_if.new.sense c.loop-joined.slices c.in_ok-seal_if.ensures.gaps in
+    let b = united_gaps_fewer c.loop-joined.root c.in_ok-root.root c.loop-joined.slices c.in_ok-root.ensures.gaps in
     omega arith
 
 pub returns-clause-hits : goal.returns-clause-hits
 returns-clause-hits g c =
     let a = c.loop-joined.invariant.credited.gains.hits in
-    let b = united_hits_fewer c.loop-joined.root c.seal_if.new.sense c.loop-joined.slices c.in_ok-seal_if.ensures.hits in
+    let b = united_hits_fewer c.loop-joined.root c.in_ok-root.root c.loop-joined.slices c.in_ok-root.ensures.hits in
     omega arith
 
-pub returns-in_err-seal_if-clause-cost : goal.returns-in_err-seal_if-clause-cost
-returns-in_err-seal_if-clause-cost g c =
+pub returns-in_err-root-clause-cost : goal.returns-in_err-root-clause-cost
+returns-in_err-root-clause-cost g c =
     let here = slice_get_is c.args.plan.now.levels 0 c.index-as_slice-0.result c.requires.has_levels (rw c.as_slice.ensures at c.index-as_slice-0.is) in
     cost-all (length c.args.body.now.absents) c.args.plan.now (g.I.Indexes.state c.args.indexes.now) [] c.index-as_slice-0.result c.args.moves.now c.loop-joined.moves (left_of c.loop-joined.joined.leap) c.loop-joined.joined.key here c.loop-joined.invariant.paid
 

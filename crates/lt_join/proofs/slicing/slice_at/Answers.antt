@@ -2,6 +2,7 @@ use Rattle.std.proofs.Common.{◌≡◌, ◌+◌, ◌-◌, ◌<◌, ◌≤◌, �
 use Rattle.std.specs.List.{AllZip}
 use Rattle.lt_model.specs.Answers.{ascending}
 use Rattle.lt_sense.specs.Kept.{Sense}
+use Rattle.lt_sense.specs.declared.noted.NotedGaps.{NotedGaps}
 use Rattle.lt_join.specs.declared.Found.{Found}
 use Rattle.lt_join.specs.Explored.{Fits}
 use Rattle.lt_join.specs.Walked.{at, HitsAbove, IsReached, IsExploredBelow, AreFoundUnder}
@@ -31,8 +32,8 @@ add_hits-requires-clause-iters g c =
 
 pub add_hits-requires-clause-hits : goal.add_hits-requires-clause-hits
 add_hits-requires-clause-hits g c =
-    let none : HitsAbove c.new.result c.args.plan.now.guides c.args.keys.now = rw c.requires.at_root (no_hits c.new.result c.args.plan.now.guides (has_columns c.args.plan.now.guides c.requires.prepared.runnable.widths)) in
-    hits_before c.new.result c.new.result (Grows-none c.new.result) c.args.plan.now.guides c.args.keys.now c.push.new.self c.args.joined.now.key c.in_ok-push.ensures.ok none
+    let none : HitsAbove c.none.result c.args.plan.now.guides c.args.keys.now = rw c.requires.at_root (no_hits c.none.result c.args.plan.now.guides (has_columns c.args.plan.now.guides c.requires.prepared.runnable.widths)) in
+    hits_before c.none.result c.none.result (Grows-none c.none.result) c.args.plan.now.guides c.args.keys.now c.push.new.self c.args.joined.now.key c.in_ok-push.ensures.ok none
 
 pub descend-requires-clause-iters : goal.descend-requires-clause-iters
 descend-requires-clause-iters g c =
@@ -44,7 +45,7 @@ descend-requires-clause-reached g c =
     let columns = has_columns c.args.plan.now.guides c.requires.prepared.runnable.widths in
     let fits : Fits c.args.level.now (at []) c.args.joined.now.key = subst (λ (ks : List ℕ). Fits c.args.level.now (at ks) c.args.joined.now.key) c.requires.at_root c.requires.stands.1 in
     subst (IsReached c.args.plan.now c.add_hits.new.sense) (sym alone)
-    (IsReached-child c.args.body.now c.args.plan.now c.new.result c.add_hits.new.sense [] c.args.joined.now.key c.args.level.now c.requires.of_body (IsReached-none c.args.plan.now c.new.result columns) c.requires.first
+    (IsReached-child c.args.body.now c.args.plan.now c.none.result c.add_hits.new.sense [] c.args.joined.now.key c.args.level.now c.requires.of_body (IsReached-none c.args.plan.now c.none.result columns) c.requires.first
     (slice_get_below c.args.plan.now.levels 0 c.args.level.now c.requires.first) c.requires.stands.0 fits (subst (HitsAbove c.add_hits.new.sense c.args.plan.now.guides) alone c.in_ok-add_hits.ensures.hits))
 
 pub leave-requires-clause-iters : goal.leave-requires-clause-iters
@@ -67,8 +68,8 @@ returns-in_err-rows-clause-cost g c =
     let alone : c.push.new.self ≡ c.args.joined.now.key ∷ [] = c.in_ok-push.ensures.ok ∙ ap (λ ks. ks ++ c.args.joined.now.key ∷ []) c.requires.at_root in
     cost_under (length c.args.body.now.absents) (g.I.Indexes.state c.args.tables.now) c.args.plan.now.guides c.args.plan.now.levels c.push.new.self c.args.joined.now.key c.args.moves.now c.descend.new.moves alone c.descend.ensures.cost
 
-pub returns-in_err-seal_if-clause-cost : goal.returns-in_err-seal_if-clause-cost
-returns-in_err-seal_if-clause-cost g c =
+pub returns-in_err-sense-clause-cost : goal.returns-in_err-sense-clause-cost
+returns-in_err-sense-clause-cost g c =
     let alone : c.push.new.self ≡ c.args.joined.now.key ∷ [] = c.in_ok-push.ensures.ok ∙ ap (λ ks. ks ++ c.args.joined.now.key ∷ []) c.requires.at_root in
     cost_under (length c.args.body.now.absents) (g.I.Indexes.state c.args.tables.now) c.args.plan.now.guides c.args.plan.now.levels c.push.new.self c.args.joined.now.key c.args.moves.now c.descend.new.moves alone c.descend.ensures.cost
 
@@ -83,28 +84,28 @@ returns-clause-iters g c =
 pub returns-clause-slice : goal.returns-clause-slice
 returns-clause-slice g c =
     let alone : c.push.new.self ≡ c.args.joined.now.key ∷ [] = c.in_ok-push.ensures.ok ∙ ap (λ ks. ks ++ c.args.joined.now.key ∷ []) c.requires.at_root in
-    let begun : Found = record { sense = c.add_hits.new.sense; rows = c.new-empty.result } in
+    let begun : Found Sense NotedGaps = record { sense = c.add_hits.new.sense; rows = c.new-empty.result } in
     let under = subst (λ (ks : List ℕ). AreFoundUnder c.args.terms.now c.args.body.now c.args.plan.now (g.I.Indexes.state c.args.tables.now) ks begun c.descend.new.found) alone c.in_ok-descend.ensures.under in
     let explored : IsExploredBelow c.args.body.now c.args.plan.now c.args.terms.now c.descend.new.found (c.args.joined.now.key ∷ []) = subst (IsExploredBelow c.args.body.now c.args.plan.now c.args.terms.now c.descend.new.found) alone (c.in_ok-descend.ensures.explored (stays_false _ c.in_ok-descend.ensures.asked)) in
     let state = g.I.Indexes.state c.args.tables.now in
-    slice_alike c.args.terms.now c.args.body.now (term_at c.args.plan.now.levels 0) state c.args.joined.now.key c.in_ok-rows.rows c.descend.new.found.sense c.seal_if.new.sense c.in_ok-seal_if.ensures.covers (c.in_ok-seal_if.ensures.tight state c.in_ok-descend.ensures.right.tight)
+    slice_alike c.args.terms.now c.args.body.now (term_at c.args.plan.now.levels 0) state c.args.joined.now.key c.in_ok-rows.rows c.descend.new.found.sense c.in_ok-sense.sense c.in_ok-sense.ensures.covers (c.in_ok-sense.ensures.tight state c.in_ok-descend.ensures.right.tight)
     (is_slice c.args.body.now c.args.plan.now c.args.terms.now (g.I.Indexes.state c.args.tables.now) begun c.descend.new.found c.args.joined.now.key c.in_ok-rows.rows c.requires.of_body
     (slice_get_below c.args.plan.now.levels 0 c.args.level.now c.requires.first) c.requires.tests c.requires.heads c.in_ok-descend.ensures.right.tight c.new-empty.ensures under explored (c.in_ok-rows.ensures ∙ ap ascending c.into_vec.ensures))
 
 pub returns-clause-gaps : goal.returns-clause-gaps
 returns-clause-gaps g c =
-    let none : length c.new.result.gaps ≡ 0 = ap (λ (s : Sense). length s.gaps) c.new.ensures in
+    let none : length c.none.result.gaps ≡ 0 = ap (λ (s : Sense). length s.gaps) c.none.ensures in
     let same = ap length c.in_ok-add_hits.ensures.gaps in
     let gains = c.in_ok-descend.ensures.gains.gaps in
-    let fewer = c.in_ok-seal_if.ensures.gaps in
+    let fewer = c.in_ok-sense.ensures.gaps in
     omega arith
 
 pub returns-clause-hits : goal.returns-clause-hits
 returns-clause-hits g c =
     let alone : c.push.new.self ≡ c.args.joined.now.key ∷ [] = c.in_ok-push.ensures.ok ∙ ap (λ ks. ks ++ c.args.joined.now.key ∷ []) c.requires.at_root in
-    let none : length c.new.result.hits ≡ 0 = ap (λ (s : Sense). length s.hits) c.new.ensures in
+    let none : length c.none.result.hits ≡ 0 = ap (λ (s : Sense). length s.hits) c.none.ensures in
     let last : length c.push.new.self - 1 ≡ 0 = ap (λ (ks : List ℕ). length ks - 1) alone in
-    let few = subst (λ n. length c.add_hits.new.sense.hits ≤ length c.new.result.hits + length (atoms_at c.args.plan.now.guides n)) last c.in_ok-add_hits.ensures.few in
+    let few = subst (λ n. length c.add_hits.new.sense.hits ≤ length c.none.result.hits + length (atoms_at c.args.plan.now.guides n)) last c.in_ok-add_hits.ensures.few in
     let gains = c.in_ok-descend.ensures.gains.hits in
-    let fewer = c.in_ok-seal_if.ensures.hits in
+    let fewer = c.in_ok-sense.ensures.hits in
     omega arith

@@ -188,18 +188,24 @@ descend-requires g t c =
         (
           lives.1.0,
           (
-            lives.1.1,
+            lives.1.1.0,
             (
-              c.requires.of_body,
+              lives.1.1.1.0,
               (
-                c.requires.prepared,
+                lives.1.1.1.1,
                 (
-                  iters,
+                  c.requires.of_body,
                   (
-                    c.requires.look_ups,
+                    c.requires.prepared,
                     (
-                      subst (IsReached c.args.plan.now c.add_hits.new.sense) (sym pushed) (IsReached-child c.args.body.now c.args.plan.now c.args.found.now.sense c.add_hits.new.sense c.args.keys.now c.loop-joined.joined.key c.index-as_slice-depth.result c.requires.of_body c.requires.reached here deeper key.0 key.1 (subst (HitsAbove c.add_hits.new.sense c.args.plan.now.guides) pushed c.in_ok-add_hits.ensures.hits)),
-                      record { tight = c.in_ok-add_hits.ensures.tight; answers = witnesses_grow c.loop-joined.found.sense c.add_hits.new.sense c.in_ok-add_hits.ensures.grows c.args.terms.now c.args.body.now (g.I.Indexes.state c.args.tables.now) c.loop-joined.found.rows c.loop-joined.invariant.way.right.answers },
+                      iters,
+                      (
+                        c.requires.look_ups,
+                        (
+                          subst (IsReached c.args.plan.now c.add_hits.new.sense) (sym pushed) (IsReached-child c.args.body.now c.args.plan.now c.args.found.now.sense c.add_hits.new.sense c.args.keys.now c.loop-joined.joined.key c.index-as_slice-depth.result c.requires.of_body c.requires.reached here deeper key.0 key.1 (subst (HitsAbove c.add_hits.new.sense c.args.plan.now.guides) pushed c.in_ok-add_hits.ensures.hits)),
+                          record { tight = c.in_ok-add_hits.ensures.tight; answers = witnesses_grow c.loop-joined.found.sense c.add_hits.new.sense c.in_ok-add_hits.ensures.grows c.args.terms.now c.args.body.now (g.I.Indexes.state c.args.tables.now) c.loop-joined.found.rows c.loop-joined.invariant.way.right.answers },
+                        ),
+                      ),
                     ),
                   ),
                 ),
