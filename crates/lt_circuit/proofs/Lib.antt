@@ -18,3 +18,9 @@ pub mod OnWay
 pub mod SweepParts
 pub mod OnRounds
 pub mod Hands
+pub mod Segments
+pub mod RowTables
+pub mod RowOpening
+pub mod RowReads
+pub mod LineTables
+pub mod Fronts

@@ -1,5 +1,5 @@
 -- What the queries of a circuit stand on.
-use Rattle.std.proofs.Common.{◌≡◌, ◌≢◌, ℕ, zero, suc, ◌<◌, ◌↔◌, Bool, true, false, not, List, [], Option, Some, None, get_or, refl, sym, ap, ◌∙◌, subst, arith}
+use Rattle.std.proofs.Common.{◌≡◌, ◌≢◌, ℕ, zero, suc, ◌<◌, ◌↔◌, Bool, true, false, not, List, [], map, Option, Some, None, get_or, refl, sym, ap, ◌∙◌, subst, arith}
 use Rattle.std.specs.Option.{option_map}
 use Rattle.std.specs.Bool.{IsTrue}
 use Rattle.lt_model.specs.declared.mark.Mark.{Mark}
@@ -9,10 +9,12 @@ use Rattle.lt_net.specs.declared.job.JobState.TheVariants.{Clean, Pending, Runni
 use Rattle.lt_net.specs.declared.job.JobName.TheVariants.{Leaf}
 use Rattle.lt_net.specs.Kept.{IsKept}
 use Rattle.lt_net.specs.Net.{Net, IsSettled, is_held}
-use Rattle.lt_net.specs.Tree.{IsSerial, leaf_value, then_all}
+use Rattle.lt_net.specs.Tree.{IsSerial, circuit_net, leaf_value, then_all, tree_of}
 use Rattle.lt_net.specs.Codes.{code_of}
 use Rattle.lt_circuit.specs.Board.{BoardView, state_of, claim_from, standing}
+use Rattle.lt_net.proofs.Kept.{reached_bare}
 use Rattle.lt_net.proofs.Serial.{serial_of}
+use Rattle.lt_circuit.specs.Entry.{event_of}
 use Rattle.lt_circuit.proofs.Standing.{none_at, some_at}
 use Rattle.lt_circuit.specs.declared.entry.Entry.{Entry}
 use Rattle.lt_circuit.specs.declared.task.Prior.{Prior}
@@ -58,6 +60,7 @@ module _ {T : Type 0} (does : ℕ → List Mark → List Mark) (stands_for : T �
   pub circuit_serial : IsSerial does board.leaves (state_of board)
   circuit_serial =
       serial_of does board.leaves (state_of board) (kept does stands_for fits has board journal tallies used capacity h)
+      (reached_bare (circuit_net does (tree_of board.leaves)) (map event_of journal) (state_of board) h.replayed)
       (λ x. marks ((state_of board).value x) ((all_fit does stands_for fits has board journal tallies used capacity h none both gives).cells x)) settled
 
   module _ (i : ℕ) (lt : i < board.leaves) where

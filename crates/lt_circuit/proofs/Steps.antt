@@ -29,9 +29,9 @@ use Rattle.lt_circuit.specs.declared.task.Done.{Done}
 use Rattle.lt_circuit.specs.declared.task.Done.TheVariants.{Leaf as LeafDone, Merge as MergeDone, Correct as CorrectDone}
 use Rattle.lt_circuit.specs.declared.entry.Event.TheVariants.{Claim as ClaimEvent, Finish as FinishEvent, Abandon as AbandonEvent}
 use Rattle.lt_circuit.specs.Entry.{event_of}
-use Rattle.lt_circuit.specs.Circuit.{IsReplay, IsCircuit, AreTallies}
+use Rattle.lt_circuit.specs.Circuit.{IsReplay, IsCircuit, AreTallies, leaf_code}
 use Rattle.lt_circuit.specs.Job.{task_name, task_inputs, task_prior, prior_correction, tallies_left, tallies_back, tallies_done, done_name, done_inputs, done_prior, IsTask, IsPrior, IsOutput}
-use Rattle.lt_circuit.proofs.Tallies.{claim_tallies, abandon_tallies, finish_tallies}
+use Rattle.lt_circuit.proofs.Tallies.{tree_codes, claim_tallies, abandon_tallies, finish_tallies}
 
 abbrev pub claim_of_task : {T : Type 0} → Task T → Claim
 claim_of_task task = record { job = code_of (task_name task); inputs = task_inputs task; prior = prior_correction (task_prior task) }
@@ -110,8 +110,8 @@ module _ {T : Type 0} (does : ℕ → List Mark → List Mark) (stands_for : T �
           few = omega (arith, same, h.few);
           leaves_there = λ i lt. h.leaves_there i (omega (arith, same));
           tallies_long = long name ∙ h.tallies_long ∙ sym same;
-          are_tallies = subst (λ s. AreTallies stands_for fits s (tallies_left name tallies)) (sym st)
-              (claim_tallies stands_for fits (state_of board) tallies h.are_tallies w net name (leaf_there name pending_busy));
+          are_tallies = subst (λ s. AreTallies leaf_code stands_for fits s (tallies_left name tallies)) (sym st)
+              (claim_tallies code_of tree_codes stands_for fits (state_of board) tallies h.are_tallies w net name (leaf_there name pending_busy));
           room = omega (arith, ap standing claims, at_most_one_more board.claims w held, le);
         }
       where
@@ -168,8 +168,8 @@ module _ {T : Type 0} (does : ℕ → List Mark → List Mark) (stands_for : T �
         few = omega (arith, same, h.few);
         leaves_there = λ i lt. h.leaves_there i (omega (arith, same));
         tallies_long = back_long task ∙ h.tallies_long ∙ sym same;
-        are_tallies = subst (λ s. AreTallies stands_for fits s (tallies_back task tallies)) (sym st)
-            (abandon_tallies stands_for fits (state_of board) tallies h.are_tallies w task (claim_of_task task) refl (kept.captured w (claim_of_task task) cl)
+        are_tallies = subst (λ s. AreTallies leaf_code stands_for fits s (tallies_back task tallies)) (sym st)
+            (abandon_tallies code_of tree_codes stands_for fits (state_of board) tallies h.are_tallies w task (claim_of_task task) refl (kept.captured w (claim_of_task task) cl)
             (λ l f. (leaf_there (task_name task) (task_busy w task cl) l f, task_prior_fits task ok l f)));
         room = room_left w (claim_of_task task) cl board' fewer;
       }
@@ -191,8 +191,8 @@ module _ {T : Type 0} (does : ℕ → List Mark → List Mark) (stands_for : T �
         few = omega (arith, same, h.few);
         leaves_there = λ i lt. h.leaves_there i (omega (arith, same));
         tallies_long = done_long did ∙ h.tallies_long ∙ sym same;
-        are_tallies = subst (λ s. AreTallies stands_for fits s (tallies_done did tallies)) (sym st)
-            (finish_tallies stands_for fits (state_of board) tallies h.are_tallies w net (claim_of_done did) did refl refl ok.has_tally
+        are_tallies = subst (λ s. AreTallies leaf_code stands_for fits s (tallies_done did tallies)) (sym st)
+            (finish_tallies code_of tree_codes stands_for fits (state_of board) tallies h.are_tallies w net (claim_of_done did) did refl refl ok.has_tally
             (λ l f. (leaf_there (done_name did) busy l f, leaf_is_leaf (done_name did) l busy f)));
         room = room_left w (claim_of_done did) cl board' fewer;
       }

@@ -22,26 +22,38 @@ prior_is : {T : Type 0} (o : Option (Prior T)) (c : List Mark) → prior_correct
 prior_is None c e = cc
 prior_is (Some p) c e = (p, refl)
 
-module _ {T : Type 0} (stands_for : T → ℕ → List Mark → Type 0) (fits : List Mark → Type 0) where
+-- a leaf has a code of its own
+pub record AreCodes (codes : JobName → ℕ) : Type 0 where
+  pub leaf : (i l : ℕ) → codes (Leaf i) ≡ codes (Leaf l) → i ≡ l
+  pub merge : (v i : ℕ) → codes (Merge v) ≢ codes (Leaf i)
+  pub correct : (v i : ℕ) → codes (Correct v) ≢ codes (Leaf i)
+
+pub tree_codes : AreCodes code_of
+tree_codes = record { leaf = same_leaf; merge = merge_no_leaf; correct = correct_no_leaf }
+
+module _ {T : Type 0} (codes : JobName → ℕ) (laws : AreCodes codes) (stands_for : T → ℕ → List Mark → Type 0) (fits : List Mark → Type 0) where
+  abbrev of_leaf : ℕ → ℕ
+  of_leaf i = codes (Leaf i)
+
   -- what an event leaves of one leaf's tally
   pub record IsOwn (t : State) (tallies : List (Option (Prior T))) (i : ℕ) : Type 0 where
-    each : (p : Prior T) → get_or tallies i None ≡ Some p → IsTally stands_for fits t i p
-    there : (c : List Mark) → t.done (code_of (Leaf i)) ≡ Some c → is_held (t.status (code_of (Leaf i))) ≡ false → (p : Prior T) × (get_or tallies i None ≡ Some p)
+    each : (p : Prior T) → get_or tallies i None ≡ Some p → IsTally of_leaf stands_for fits t i p
+    there : (c : List Mark) → t.done (codes (Leaf i)) ≡ Some c → is_held (t.status (codes (Leaf i))) ≡ false → (p : Prior T) × (get_or tallies i None ≡ Some p)
 
   -- an event of the job j changes nothing of the other leaves
-  module _ (s t : State) (before after : List (Option (Prior T))) (j : ℕ) (a : AreTallies stands_for fits s before)
+  module _ (s t : State) (before after : List (Option (Prior T))) (j : ℕ) (a : AreTallies of_leaf stands_for fits s before)
       (done_other : (k : ℕ) → k ≢ j → t.done k ≡ s.done k) (held_other : (k : ℕ) → k ≢ j → is_held (t.status k) ≡ is_held (s.status k))
-      (place_other : (i : ℕ) → code_of (Leaf i) ≢ j → get_or after i None ≡ get_or before i None) (own : (i : ℕ) → code_of (Leaf i) ≡ j → IsOwn t after i) where
-    tallies_step : AreTallies stands_for fits t after
+      (place_other : (i : ℕ) → codes (Leaf i) ≢ j → get_or after i None ≡ get_or before i None) (own : (i : ℕ) → codes (Leaf i) ≡ j → IsOwn t after i) where
+    tallies_step : AreTallies of_leaf stands_for fits t after
     tallies_step = record {
-      each = λ i p e. elim (eqb_tells (code_of (Leaf i)) j) [
+      each = λ i p e. elim (eqb_tells (codes (Leaf i)) j) [
         | inl h ↦ (own i h.1).each p e
-        | inr h ↦ let k = a.each i p (sym (place_other i h.1) ∙ e) in record { last = done_other (code_of (Leaf i)) h.1 ∙ k.last; fit = k.fit; stands = k.stands }
+        | inr h ↦ let k = a.each i p (sym (place_other i h.1) ∙ e) in record { last = done_other (codes (Leaf i)) h.1 ∙ k.last; fit = k.fit; stands = k.stands }
       ];
-      there = λ i c d e. elim (eqb_tells (code_of (Leaf i)) j) [
+      there = λ i c d e. elim (eqb_tells (codes (Leaf i)) j) [
         | inl h ↦ (own i h.1).there c d e
         | inr h ↦
-            let k = a.there i c (sym (done_other (code_of (Leaf i)) h.1) ∙ d) (sym (held_other (code_of (Leaf i)) h.1) ∙ e) in
+            let k = a.there i c (sym (done_other (codes (Leaf i)) h.1) ∙ d) (sym (held_other (codes (Leaf i)) h.1) ∙ e) in
             (k.0, place_other i h.1 ∙ k.1)
       ];
     }
@@ -49,54 +61,54 @@ module _ {T : Type 0} (stands_for : T → ℕ → List Mark → Type 0) (fits : 
   update_other : {X : Type 0} (f : ℕ → X) (j : ℕ) (v : X) (k : ℕ) → k ≢ j → update f j v k ≡ f k
   update_other f j v k ne = elim (at_update f j v k) [ inl h ↦ absurd (ne h.0) | inr h ↦ h.1 ]
 
-  set_other : (xs : List (Option (Prior T))) (l i : ℕ) (x : Option (Prior T)) → code_of (Leaf i) ≢ code_of (Leaf l) → get_or (set xs l x) i None ≡ get_or xs i None
-  set_other xs l i x ne = get_or-set_other xs l i x None (λ e. ne (ap (λ n. code_of (Leaf n)) e))
+  set_other : (xs : List (Option (Prior T))) (l i : ℕ) (x : Option (Prior T)) → codes (Leaf i) ≢ codes (Leaf l) → get_or (set xs l x) i None ≡ get_or xs i None
+  set_other xs l i x ne = get_or-set_other xs l i x None (λ e. ne (ap (λ n. codes (Leaf n)) e))
 
-  set_own : (xs : List (Option (Prior T))) (l i : ℕ) (x : Option (Prior T)) → l < length xs → code_of (Leaf i) ≡ code_of (Leaf l) → get_or (set xs l x) i None ≡ x
-  set_own xs l i x h e = ap (λ n. get_or (set xs l x) n None) (same_leaf i l e) ∙ get_or-set_same xs l x None h
+  set_own : (xs : List (Option (Prior T))) (l i : ℕ) (x : Option (Prior T)) → l < length xs → codes (Leaf i) ≡ codes (Leaf l) → get_or (set xs l x) i None ≡ x
+  set_own xs l i x h e = ap (λ n. get_or (set xs l x) n None) (laws.leaf i l e) ∙ get_or-set_same xs l x None h
 
-  module _ (s : State) (tallies : List (Option (Prior T))) (a : AreTallies stands_for fits s tallies) (w : ℕ) where
+  module _ (s : State) (tallies : List (Option (Prior T))) (a : AreTallies of_leaf stands_for fits s tallies) (w : ℕ) where
     -- ---- a claim
-    pub claim_tallies : (net : Net) (name : JobName) → ((l : ℕ) → name ≡ Leaf l → l < length tallies) → AreTallies stands_for fits (claimed net s w (code_of name)) (tallies_left name tallies)
+    pub claim_tallies : (net : Net) (name : JobName) → ((l : ℕ) → name ≡ Leaf l → l < length tallies) → AreTallies of_leaf stands_for fits (claimed net s w (codes name)) (tallies_left name tallies)
     claim_tallies net name inside =
-        tallies_step s (claimed net s w (code_of name)) tallies (tallies_left name tallies) (code_of name) a
-        (λ k ne. refl) (λ k ne. ap is_held (update_other s.status (code_of name) Running k ne)) (others name) (own name inside)
+        tallies_step s (claimed net s w (codes name)) tallies (tallies_left name tallies) (codes name) a
+        (λ k ne. refl) (λ k ne. ap is_held (update_other s.status (codes name) Running k ne)) (others name) (own name inside)
       where
-        others : (name : JobName) (i : ℕ) → code_of (Leaf i) ≢ code_of name → get_or (tallies_left name tallies) i None ≡ get_or tallies i None
+        others : (name : JobName) (i : ℕ) → codes (Leaf i) ≢ codes name → get_or (tallies_left name tallies) i None ≡ get_or tallies i None
         others (Leaf l) i ne = set_other tallies l i None ne
         others (Merge v) i ne = refl
         others (Correct v) i ne = refl
 
-        own : (name : JobName) → ((l : ℕ) → name ≡ Leaf l → l < length tallies) → (i : ℕ) → code_of (Leaf i) ≡ code_of name → IsOwn (claimed net s w (code_of name)) (tallies_left name tallies) i
+        own : (name : JobName) → ((l : ℕ) → name ≡ Leaf l → l < length tallies) → (i : ℕ) → codes (Leaf i) ≡ codes name → IsOwn (claimed net s w (codes name)) (tallies_left name tallies) i
         own (Leaf l) inside i e =
             let gone : get_or (set tallies l None) i None ≡ None = set_own tallies l i None (inside l refl) e in
-            let runs : update s.status (code_of (Leaf l)) Running (code_of (Leaf i)) ≡ Running = ap (update s.status (code_of (Leaf l)) Running) e ∙ update_same s.status (code_of (Leaf l)) Running in
+            let runs : update s.status (codes (Leaf l)) Running (codes (Leaf i)) ≡ Running = ap (update s.status (codes (Leaf l)) Running) e ∙ update_same s.status (codes (Leaf l)) Running in
             record {
               each = λ p f. absurd (let g : None ≡ Some p = sym gone ∙ f in cc);
               there = λ c d f. absurd (let g : true ≡ false = sym (ap is_held runs) ∙ f in cc);
             }
-        own (Merge v) inside i e = absurd (merge_no_leaf v i (sym e))
-        own (Correct v) inside i e = absurd (correct_no_leaf v i (sym e))
+        own (Merge v) inside i e = absurd (laws.merge v i (sym e))
+        own (Correct v) inside i e = absurd (laws.correct v i (sym e))
 
     -- ---- an abandoned claim
-    pub abandon_tallies : (task : Task T) (c : Claim) → c.job ≡ code_of (task_name task) → prior_correction (task_prior task) ≡ s.done (code_of (task_name task))
+    pub abandon_tallies : (task : Task T) (c : Claim) → c.job ≡ codes (task_name task) → prior_correction (task_prior task) ≡ s.done (codes (task_name task))
         → ((l : ℕ) → task_name task ≡ Leaf l → l < length tallies × IsPrior stands_for fits l (task_prior task))
-        → AreTallies stands_for fits (abandoned s w c) (tallies_back task tallies)
+        → AreTallies of_leaf stands_for fits (abandoned s w c) (tallies_back task tallies)
     abandon_tallies task c job captured inside =
         tallies_step s (abandoned s w c) tallies (tallies_back task tallies) c.job a
         (λ k ne. refl) (λ k ne. ap is_held (update_other s.status c.job Pending k ne)) (others task job) (own task job captured inside)
       where
-        others : (task : Task T) → c.job ≡ code_of (task_name task) → (i : ℕ) → code_of (Leaf i) ≢ c.job → get_or (tallies_back task tallies) i None ≡ get_or tallies i None
+        others : (task : Task T) → c.job ≡ codes (task_name task) → (i : ℕ) → codes (Leaf i) ≢ c.job → get_or (tallies_back task tallies) i None ≡ get_or tallies i None
         others (LeafTask l correction prior) job i ne = set_other tallies l i prior (λ e. ne (e ∙ sym job))
         others (MergeTask v left right) job i ne = refl
         others (CorrectTask v correction left) job i ne = refl
 
-        own : (task : Task T) → c.job ≡ code_of (task_name task) → prior_correction (task_prior task) ≡ s.done (code_of (task_name task))
+        own : (task : Task T) → c.job ≡ codes (task_name task) → prior_correction (task_prior task) ≡ s.done (codes (task_name task))
             → ((l : ℕ) → task_name task ≡ Leaf l → l < length tallies × IsPrior stands_for fits l (task_prior task))
-            → (i : ℕ) → code_of (Leaf i) ≡ c.job → IsOwn (abandoned s w c) (tallies_back task tallies) i
+            → (i : ℕ) → codes (Leaf i) ≡ c.job → IsOwn (abandoned s w c) (tallies_back task tallies) i
         own (LeafTask l correction prior) job captured inside i e =
-            let at : code_of (Leaf i) ≡ code_of (Leaf l) = e ∙ job in
-            let same = same_leaf i l at in
+            let at : codes (Leaf i) ≡ codes (Leaf l) = e ∙ job in
+            let same = laws.leaf i l at in
             let back : get_or (set tallies l prior) i None ≡ prior = set_own tallies l i prior (inside l refl).0 at in
             record {
               each = λ p f.
@@ -111,8 +123,8 @@ module _ {T : Type 0} (stands_for : T → ℕ → List Mark → Type 0) (fits : 
                   let k = prior_is prior m (captured ∙ sym (ap s.done at) ∙ d) in
                   (k.0, back ∙ k.1);
             }
-        own (MergeTask v left right) job captured inside i e = absurd (merge_no_leaf v i (sym (e ∙ job)))
-        own (CorrectTask v correction left) job captured inside i e = absurd (correct_no_leaf v i (sym (e ∙ job)))
+        own (MergeTask v left right) job captured inside i e = absurd (laws.merge v i (sym (e ∙ job)))
+        own (CorrectTask v correction left) job captured inside i e = absurd (laws.correct v i (sym (e ∙ job)))
 
     -- ---- a finished claim
     module _ (net : Net) (c : Claim) where
@@ -125,36 +137,36 @@ module _ {T : Type 0} (stands_for : T → ℕ → List Mark → Type 0) (fits : 
           still_held (same_at s.value (value_after net s c) (net.inputs k)) (status_ended s c k)
           ∙ ap is_held (update_other s.status c.job (ended (s.status c.job)) k ne)
 
-      pub finish_tallies : (did : Done T) → c.job ≡ code_of (done_name did) → c.inputs ≡ done_inputs did → HasTally stands_for fits did
+      pub finish_tallies : (did : Done T) → c.job ≡ codes (done_name did) → c.inputs ≡ done_inputs did → HasTally stands_for fits did
           → ((l : ℕ) → done_name did ≡ Leaf l → l < length tallies × (net.is_leaf c.job ≡ true))
-          → AreTallies stands_for fits (finished net s w c) (tallies_done did tallies)
+          → AreTallies of_leaf stands_for fits (finished net s w c) (tallies_done did tallies)
       finish_tallies did job ins ok inside =
           tallies_step s (finished net s w c) tallies (tallies_done did tallies) c.job a
           (done_other (net.is_leaf c.job)) held_other (others did job) (own did job ins ok inside)
         where
-          others : (did : Done T) → c.job ≡ code_of (done_name did) → (i : ℕ) → code_of (Leaf i) ≢ c.job → get_or (tallies_done did tallies) i None ≡ get_or tallies i None
+          others : (did : Done T) → c.job ≡ codes (done_name did) → (i : ℕ) → codes (Leaf i) ≢ c.job → get_or (tallies_done did tallies) i None ≡ get_or tallies i None
           others (LeafDone l tally kept prior effect) job i ne = set_other tallies l i (Some tally) (λ e. ne (e ∙ sym job))
           others (MergeDone v left right effect) job i ne = refl
           others (CorrectDone v correction left to_right) job i ne = refl
 
-          own : (did : Done T) → c.job ≡ code_of (done_name did) → c.inputs ≡ done_inputs did → HasTally stands_for fits did
+          own : (did : Done T) → c.job ≡ codes (done_name did) → c.inputs ≡ done_inputs did → HasTally stands_for fits did
               → ((l : ℕ) → done_name did ≡ Leaf l → l < length tallies × (net.is_leaf c.job ≡ true))
-              → (i : ℕ) → code_of (Leaf i) ≡ c.job → IsOwn (finished net s w c) (tallies_done did tallies) i
+              → (i : ℕ) → codes (Leaf i) ≡ c.job → IsOwn (finished net s w c) (tallies_done did tallies) i
           own (LeafDone l tally kept prior effect) job ins ok inside i e =
-              let at : code_of (Leaf i) ≡ code_of (Leaf l) = e ∙ job in
-              let same = same_leaf i l at in
+              let at : codes (Leaf i) ≡ codes (Leaf l) = e ∙ job in
+              let same = laws.leaf i l at in
               let new : get_or (set tallies l (Some tally)) i None ≡ Some tally = set_own tallies l i (Some tally) (inside l refl).0 at in
               let leaf : net.is_leaf c.job ≡ true = (inside l refl).1 in
-              let last : (finished net s w c).done (code_of (Leaf i)) ≡ Some tally.correction =
-              ap (λ b. (if b then update s.done c.job (Some (first_of c.inputs)) else s.done) (code_of (Leaf i))) leaf
+              let last : (finished net s w c).done (codes (Leaf i)) ≡ Some tally.correction =
+              ap (λ b. (if b then update s.done c.job (Some (first_of c.inputs)) else s.done) (codes (Leaf i))) leaf
               ∙ ap (update s.done c.job (Some (first_of c.inputs))) e ∙ update_same s.done c.job (Some (first_of c.inputs)) ∙ ap (λ xs. Some (first_of xs)) ins in
               record {
                 each = λ p f.
                     let g : Some tally ≡ Some p = sym new ∙ f in
                     let q : tally ≡ p = cc in
-                    subst (IsTally stands_for fits (finished net s w c) i) q
+                    subst (IsTally of_leaf stands_for fits (finished net s w c) i) q
                     (record { last = last; fit = ok.0; stands = subst (λ n. stands_for tally.tally n tally.correction) (sym same) ok.1 });
                 there = λ m d f. (tally, new);
               }
-          own (MergeDone v left right effect) job ins ok inside i e = absurd (merge_no_leaf v i (sym (e ∙ job)))
-          own (CorrectDone v correction left to_right) job ins ok inside i e = absurd (correct_no_leaf v i (sym (e ∙ job)))
+          own (MergeDone v left right effect) job ins ok inside i e = absurd (laws.merge v i (sym (e ∙ job)))
+          own (CorrectDone v correction left to_right) job ins ok inside i e = absurd (laws.correct v i (sym (e ∙ job)))

@@ -16,7 +16,7 @@ use Rattle.lt_net.proofs.Kept.{update_same}
 use Rattle.lt_net.proofs.Codes.{job_of-code}
 use Rattle.lt_circuit.specs.declared.task.Prior.{Prior}
 use Rattle.lt_circuit.specs.declared.task.Task.{Task}
-use Rattle.lt_circuit.specs.Circuit.{AreTallies}
+use Rattle.lt_circuit.specs.Circuit.{AreTallies, leaf_code}
 use Rattle.lt_circuit.specs.Job.{arity, task_from, task_name, task_inputs, task_prior, prior_correction, prior_of, tallies_left, IsTask, IsPrior}
 use Rattle.lt_circuit.specs.declared.entry.Event.TheVariants.{Claim as ClaimEvent}
 use Rattle.lt_circuit.specs.declared.entry.Entry.{Entry}
@@ -57,7 +57,7 @@ module _ {T : Type 0} (tallies : List (Option (Prior T))) where
   from_inputs (Correct v) (One a) h = absurd (omega arith)
   from_inputs (Correct v) (Two a b) h = refl
 
-  module _ (stands_for : T → ℕ → List Mark → Type 0) (fits : List Mark → Type 0) (b : BoardView) (a : AreTallies stands_for fits (state_of b) tallies) where
+  module _ (stands_for : T → ℕ → List Mark → Type 0) (fits : List Mark → Type 0) (b : BoardView) (a : AreTallies leaf_code stands_for fits (state_of b) tallies) where
     -- a leaf's tally is of the correction that it last finished with
     leaf_prior : (i : ℕ) (o : Option (Prior T)) (d : Option (List Mark)) → get_or tallies i None ≡ o → (state_of b).done (code_of (Leaf i)) ≡ d → is_held ((state_of b).status (code_of (Leaf i))) ≡ false → prior_correction o ≡ d
     leaf_prior i None None e f free = refl
@@ -98,7 +98,7 @@ module _ {T : Type 0} (tallies : List (Option (Prior T))) where
 -- ---- what a claim answers
 
 module _ {W T : Type 0} (stands_for : T → ℕ → List Mark → Type 0) (fits : List Mark → Type 0) (does : ℕ → List Mark → List Mark) (work second : W) (b after : BoardView)
-    (journal longer : List Entry) (tallies : List (Option (Prior T))) (a : AreTallies stands_for fits (state_of b) tallies) (w : ℕ) (name : JobName) (inputs : Inputs) (task : Task T) (left : List (Option (Prior T))) where
+    (journal longer : List Entry) (tallies : List (Option (Prior T))) (a : AreTallies leaf_code stands_for fits (state_of b) tallies) (w : ℕ) (name : JobName) (inputs : Inputs) (task : Task T) (left : List (Option (Prior T))) where
   pub is_claimed : second ≡ work → task ≡ task_from name inputs tallies → after.leaves ≡ b.leaves → (state_of b).status (code_of name) ≡ Pending
       → length (inputs_list inputs) ≡ arity name → inputs_list inputs ≡ read (state_of b).value (inputs_of (tree_of b.leaves) name)
       → state_of after ≡ claimed (circuit_net does (tree_of b.leaves)) (state_of b) w (code_of name) → longer ≡ journal ++ record { worker = w; job = name; event = ClaimEvent } ∷ []

@@ -15,7 +15,7 @@ use Rattle.lt_circuit.specs.Store.{with_value, stored, readers_of, has_code}
 use Rattle.lt_circuit.specs.Board.{BoardView, state_of, board_state, value_in, bare_node, waked, waked_all}
 use Rattle.lt_net.proofs.Codes.{code_of-job}
 use Rattle.lt_net.proofs.Jobs.{cell_same}
-use Rattle.lt_net.proofs.Inside.{job_inside}
+use Rattle.lt_net.proofs.Inside.{job_inside, none_reads}
 use Rattle.lt_circuit.proofs.Readers.{readers, node_at}
 use Rattle.lt_net.proofs.Shape.{eq_true, eq_false, tree_leaves}
 
@@ -229,6 +229,19 @@ store_there does b x m e = store_same does b x m b.nodes (λ y. by_case y (same_
     by_case : (y : Cell) (t : Bool) → same_cell y x ≡ t → value_in b.nodes y ≡ (if t then m else value_in b.nodes y)
     by_case y true f = ap (value_in b.nodes) (cell_same y x f) ∙ e
     by_case y false f = refl
+
+-- without leaves no job reads the root's correction
+pub root_unread : (does : ℕ → List Mark → List Mark) (b : BoardView) (m : List Mark) → b.leaves ≡ 0 → length b.nodes ≡ max (nodes_over b.leaves) 1
+    → state_of (record b { nodes = set b.nodes 0 (record (get_or b.nodes 0 bare_node) { correction = m }) }) ≡ stored (circuit_net does (tree_of b.leaves)) (state_of b) (Correction 0) m
+root_unread does b m none there =
+    let value = correction_written b.nodes 0 m (record (get_or b.nodes 0 bare_node) { correction = m }) (omega (arith, there, none)) refl in
+    let unread : (j : ℕ) → (circuit_net does (tree_of b.leaves)).inputs j ≡ [] = λ j. ap (λ n. inputs_of (tree_of n) (job_of j)) none ∙ none_reads (job_of j) in
+    λ i. record {
+      value = λ y. value y i;
+      status = λ j. ap (λ cs. if same_at (value_in b.nodes) (with_value (value_in b.nodes) (Correction 0) m) cs then (state_of b).status j else woken ((state_of b).status j)) (sym (unread j)) i;
+      done = (state_of b).done;
+      claim = (state_of b).claim;
+    }
 
 -- after a store at one of two cells both have the marks, where the other had them
 pub both_have : (net : Net) (s : State) (v : ℕ) (m : List Mark) → m ≡ s.value (Correction v)

@@ -26,16 +26,20 @@ abbrev pub IsReplay : (ℕ → List Mark → List Mark) → BoardView → List E
 IsReplay does board journal =
     replay (circuit_net does (tree_of board.leaves)) (Some (opening (circuit_net does (tree_of board.leaves)))) (map event_of journal) ≡ Some (state_of board)
 
--- the tally at a place stands for the leaf on the correction that it last finished with
-pub record IsTally {T : Type 0} (stands_for : T → ℕ → List Mark → Type 0) (fits : List Mark → Type 0) (s : State) (leaf : ℕ) (p : Prior T) : Type 0 where
-  pub last : s.done (code_of (Leaf leaf)) ≡ Some p.correction
+-- The tally at a place stands for the leaf on the correction that it last finished with. `code` is the code of a leaf's job.
+pub record IsTally {T : Type 0} (code : ℕ → ℕ) (stands_for : T → ℕ → List Mark → Type 0) (fits : List Mark → Type 0) (s : State) (leaf : ℕ) (p : Prior T) : Type 0 where
+  pub last : s.done (code leaf) ≡ Some p.correction
   pub fit : fits p.correction
   pub stands : stands_for p.tally leaf p.correction
 
 -- Each tally is its leaf's, and a leaf that has finished and isn't held has one. A leaf that is held has its tally with its worker.
-pub record AreTallies {T : Type 0} (stands_for : T → ℕ → List Mark → Type 0) (fits : List Mark → Type 0) (s : State) (tallies : List (Option (Prior T))) : Type 0 where
-  pub each : (i : ℕ) (p : Prior T) → slice_index_or tallies i None ≡ Some p → IsTally stands_for fits s i p
-  pub there : (i : ℕ) (c : List Mark) → s.done (code_of (Leaf i)) ≡ Some c → is_held (s.status (code_of (Leaf i))) ≡ false → (p : Prior T) × (slice_index_or tallies i None ≡ Some p)
+pub record AreTallies {T : Type 0} (code : ℕ → ℕ) (stands_for : T → ℕ → List Mark → Type 0) (fits : List Mark → Type 0) (s : State) (tallies : List (Option (Prior T))) : Type 0 where
+  pub each : (i : ℕ) (p : Prior T) → slice_index_or tallies i None ≡ Some p → IsTally code stands_for fits s i p
+  pub there : (i : ℕ) (c : List Mark) → s.done (code i) ≡ Some c → is_held (s.status (code i)) ≡ false → (p : Prior T) × (slice_index_or tallies i None ≡ Some p)
+
+-- the code of a leaf's job in a circuit
+abbrev pub leaf_code : ℕ → ℕ
+leaf_code i = code_of (Leaf i)
 
 -- What holds of a circuit's fields.
 pub record IsCircuit {T : Type 0} (does : ℕ → List Mark → List Mark) (stands_for : T → ℕ → List Mark → Type 0) (fits : List Mark → Type 0) (has : ℕ → Type 0)
@@ -44,6 +48,6 @@ pub record IsCircuit {T : Type 0} (does : ℕ → List Mark → List Mark) (stan
   pub few : board.leaves ≤ most_programs
   pub leaves_there : (i : ℕ) → i < board.leaves → has i
   pub tallies_long : length tallies ≡ board.leaves
-  pub are_tallies : AreTallies stands_for fits (state_of board) tallies
+  pub are_tallies : AreTallies leaf_code stands_for fits (state_of board) tallies
   -- the journal has room for the end of each claim
   pub room : used + standing board.claims ≤ capacity

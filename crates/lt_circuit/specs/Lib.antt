@@ -9,3 +9,6 @@ pub mod Circuit
 pub mod Claiming
 pub mod Shape
 pub mod Hands
+pub mod Segment
+pub mod Row
+pub mod Line

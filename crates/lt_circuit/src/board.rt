@@ -34,4 +34,4 @@ mod hold;
 mod inputs;
 mod look;
 mod opening;
-mod store;
+pub(crate) mod store;

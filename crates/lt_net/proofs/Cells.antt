@@ -6,14 +6,14 @@ use Rattle.lt_net.specs.Net.{Cell, same_cell, has_cell, same_at}
 use Rattle.lt_net.proofs.Equal.{marks_decides}
 use Rattle.lt_net.proofs.Jobs.{same_itself}
 
-first_has : (c : Cell) (cs : List Cell) → has_cell c (c ∷ cs) ≡ true
+pub first_has : (c : Cell) (cs : List Cell) → has_cell c (c ∷ cs) ≡ true
 first_has c cs = rw (same_itself c)
 
 or_right : (a b : Bool) → b ≡ true → (a || b) ≡ true
 or_right true b e = refl
 or_right false b e = e
 
-later_has : (x c : Cell) (cs : List Cell) → has_cell x cs ≡ true → has_cell x (c ∷ cs) ≡ true
+pub later_has : (x c : Cell) (cs : List Cell) → has_cell x cs ≡ true → has_cell x (c ∷ cs) ≡ true
 later_has x c cs e = or_right (same_cell x c) (has_cell x cs) e
 
 and_both : (a b : Bool) → a ≡ true → b ≡ true → (a && b) ≡ true

@@ -68,7 +68,7 @@ two_or_none j false = omega arith
 pub run_length : (net : Net) (s : State) (j : ℕ) → length (run_events net s j) ≤ 2
 run_length net s j = two_or_none j (is_pending (s.status j))
 
-no_events : (net : Net) (s : State) (j : ℕ) → s.status j ≡ Clean → length (run_events net s j) ≡ 0
+pub no_events : (net : Net) (s : State) (j : ℕ) → s.status j ≡ Clean → length (run_events net s j) ≡ 0
 no_events net s j e = rw e
 
 inner_length : (net : Net) (s : State) (j : ℕ) (o : Option ℕ) → (o ≡ None → s.status j ≡ Clean) → length (run_events net s j) ≤ 2 * one_if o

@@ -30,7 +30,7 @@ module _ (P : List Mark → Type 0) where
   all_read value (c ∷ cs) h = (h c, all_read value cs h)
 
   module _ (net : Net) (closed : IsClosed net) where
-    opening_fits : AllFit (opening net)
+    pub opening_fits : AllFit (opening net)
     opening_fits = record { cells = λ x. closed.empty; captured = λ w c e. cc }
 
     module _ (s : State) (fit : AllFit s) where
@@ -120,7 +120,7 @@ module _ (P : List Mark → Type 0) where
   inside (suc n) = tree_leaves (suc n) (omega arith)
 
   module _ (effect : ℕ → List Mark → List Mark) (n : ℕ) (none : P []) (both : (a b : List Mark) → P a → P b → P (and_then a b)) (does : (i : ℕ) (c : List Mark) → i < n → P c → P (effect i c)) where
-    name_gives : (name : JobName) (ins : List (List Mark)) (x : Cell) → has_cell x (outputs_of (tree_of n) name) ≡ true → AllByRecursion P ins → P (gives_of effect name ins x)
+    pub name_gives : (name : JobName) (ins : List (List Mark)) (x : Cell) → has_cell x (outputs_of (tree_of n) name) ≡ true → AllByRecursion P ins → P (gives_of effect name ins x)
     name_gives (Leaf i) ins x e h = elim (lt_tells i (leaves_in (tree_of n))) [
       | inl k ↦ does i (first_of ins) (omega (arith, k.1, inside n)) (first_fits none ins h)
       | inr k ↦ absurd (let f : has_cell x [] ≡ true = rw k.0 at e in cc)

@@ -25,7 +25,7 @@ pub same_itself : (x : Cell) → same_cell x x ≡ true
 same_itself (Correction v) = eq_true v
 same_itself (Effect v) = eq_true v
 
-one_of : (a b : Bool) → (a || b) ≡ true → (a ≡ true) ⊎ (b ≡ true)
+pub one_of : (a b : Bool) → (a || b) ≡ true → (a ≡ true) ⊎ (b ≡ true)
 one_of true b e = inl refl
 one_of false b e = inr e
 
@@ -68,18 +68,21 @@ writes t (Leaf i) x e = elim (lt_tells i (leaves t)) [
 writes t (Merge v) x e = merge_writes t v (right_of t v) x refl e
 writes t (Correct v) x e = correct_writes t v (right_of t v) x refl e
 
-writes_none : (name : JobName) (x : Cell) → has_cell x (outputs_of None name) ≡ true → ⊥
+pub writes_none : (name : JobName) (x : Cell) → has_cell x (outputs_of None name) ≡ true → ⊥
 writes_none (Leaf i) x e = let f : has_cell x [] ≡ true = rw (lt_false i 0 (omega arith)) at e in cc
 writes_none (Merge v) x e = cc
 writes_none (Correct v) x e = cc
 
+pub same_writer : (t : Option Tree) (x : Cell) (a b : JobName) → has_cell x (outputs_of t a) ≡ true → has_cell x (outputs_of t b) ≡ true → a ≡ b
+same_writer None x a b p q = absurd (writes_none a x p)
+same_writer (Some t) x a b p q = writes t a x p ∙ sym (writes t b x q)
+
 one_writer : (t : Option Tree) (x : Cell) (j k : ℕ) → has_cell x (outputs_of t (job_of j)) ≡ true → has_cell x (outputs_of t (job_of k)) ≡ true → j ≡ k
-one_writer None x j k p q = absurd (writes_none (job_of j) x p)
-one_writer (Some t) x j k p q = same_code j k (writes t (job_of j) x p ∙ sym (writes t (job_of k) x q))
+one_writer t x j k p q = same_code j k (same_writer t x (job_of j) (job_of k) p q)
 
 module _ (effect : ℕ → List Mark → List Mark) where
   -- an inner job gives empty marks of empty marks
-  quiet : (t : Option Tree) (name : JobName) (x : Cell) → is_leaf_job t name ≡ false → has_cell x (outputs_of t name) ≡ true
+  pub quiet : (t : Option Tree) (name : JobName) (x : Cell) → is_leaf_job t name ≡ false → has_cell x (outputs_of t name) ≡ true
       → gives_of effect name (read (λ y. []) (inputs_of t name)) x ≡ []
   quiet t (Leaf i) x p e = absurd (let f : has_cell x [] ≡ true = rw p at e in cc)
   quiet t (Merge v) x p e = empties (right_in t v)
@@ -96,7 +99,7 @@ module _ (effect : ℕ → List Mark → List Mark) where
       empties false None = refl
       empties false (Some y) = refl
 
-  unread : (t : Option Tree) (name : JobName) → inputs_of t name ≡ [] → is_leaf_job t name ≡ false
+  pub unread : (t : Option Tree) (name : JobName) → inputs_of t name ≡ [] → is_leaf_job t name ≡ false
   unread t (Leaf i) e = leaf_case (nat_lt i (leaves_in t)) e
     where
       leaf_case : (b : Bool) → (if b then Correction (node_in t i) ∷ [] else []) ≡ [] → b ≡ false

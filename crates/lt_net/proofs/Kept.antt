@@ -5,7 +5,7 @@ use Rattle.std.proofs.lemmas.Bool.Decides.{eqb_tells}
 use Rattle.lt_model.specs.declared.mark.Mark.{Mark}
 use Rattle.lt_net.specs.Same.{same_marks}
 use Rattle.lt_net.proofs.Equal.{marks_decides}
-use Rattle.lt_net.specs.Kept.{IsDone, IsKept}
+use Rattle.lt_net.specs.Kept.{IsDone, IsKept, IsBare}
 use Rattle.lt_net.specs.declared.job.JobState.{JobState}
 use Rattle.lt_net.specs.declared.job.JobState.TheVariants.{Clean, Pending, Running, Dirty}
 use Rattle.lt_net.specs.Net.{Cell, Net, State, Claim, Event, Claims, Finishes, Abandons, has_cell, update, read, first_of, same_at, woken, ended, is_held, is_pending, value_after, status_ended, claimed, finished, abandoned, claim_of, claim_step, finish_step, abandon_step, step, replay, opening, IsSettled}
@@ -136,7 +136,6 @@ module _ (net : Net) (s : State) (k : IsKept net s) where
           | inl h ↦ absurd (let a : Pending ≡ Clean = sym pending ∙ ap s.status (sym h.0) ∙ k.idle i e in cc)
           | inr h ↦ h.1 ∙ k.idle i e
         ];
-        bare = k.bare;
       }
 
   -- a worker's claim ends
@@ -183,7 +182,6 @@ module _ (net : Net) (s : State) (k : IsKept net s) where
         | inl h ↦ absurd (not_idle (ap s.status (sym h.0) ∙ k.idle i e))
         | inr h ↦ h.1 ∙ k.idle i e
       ];
-      bare = k.bare;
     }
 
     value_other : (x : Cell) → has_cell x (net.outputs c.job) ≡ false → value_after net s c x ≡ s.value x
@@ -267,7 +265,6 @@ module _ (net : Net) (s : State) (k : IsKept net s) where
             | inl h ↦ absurd (not_idle (ap s.status (sym h.0) ∙ k.idle i e))
             | inr h ↦ h.1 ∙ k.idle i e
           ]);
-      bare = λ x nobody. value_other x (nobody c.job) ∙ k.bare x nobody;
     }
 
 -- ---- whole runs
@@ -284,7 +281,6 @@ opening_kept net n = record {
   single = λ v w b c e f g. cc;
   holder = λ j e. absurd (none_held (net.starts j) e);
   idle = λ j e. rw (n.unread j e);
-  bare = λ x nobody. refl;
 }
   where
     starts_not : (b : Bool) → (if b then Pending else Clean) ≡ Clean → b ≡ false
@@ -307,7 +303,7 @@ module _ (net : Net) (n : IsNet net) where
   claim_kept s k w j (Some c) t e h = cc
 
   -- the claim that an event ends is the worker's
-  claim_is : (o : Option Claim) (j : ℕ) (c : Claim) → claim_of o j ≡ Some c → (o ≡ Some c) × (c.job ≡ j)
+  pub claim_is : (o : Option Claim) (j : ℕ) (c : Claim) → claim_of o j ≡ Some c → (o ≡ Some c) × (c.job ≡ j)
   claim_is None j c e = cc
   claim_is (Some d) j c e = elim (eqb_tells d.job j) [
     | inl h ↦ let f : Some d ≡ Some c = rw h.0 at e in let g : d ≡ c = cc in (f, sym (ap (λ (b : Claim). b.job) g) ∙ h.1)
@@ -343,5 +339,42 @@ module _ (net : Net) (n : IsNet net) where
   pub settled_done : (es : List Event) (t : State) → replay net (Some (opening net)) es ≡ Some t → IsSettled t → (j : ℕ) → IsDone net t j
   settled_done es t h settled j = (replay_kept es (opening net) t (opening_kept net n) h).clean j (settled j)
 
-  pub settled_bare : (es : List Event) (t : State) → replay net (Some (opening net)) es ≡ Some t → (x : Cell) → ((j : ℕ) → has_cell x (net.outputs j) ≡ false) → t.value x ≡ []
-  settled_bare es t h = (replay_kept es (opening net) t (opening_kept net n) h).bare
+-- ---- what no job gives
+
+module _ (net : Net) where
+  claim_bare : (s : State) → IsBare net s → (w j : ℕ) (o : Option Claim) (t : State) → claim_step net s w j o ≡ Some t → IsBare net t
+  claim_bare s b w j None t h = pending_case (s.status j) h
+    where
+      pending_case : (st : JobState) → (if is_pending st then Some (claimed net s w j) else None) ≡ Some t → IsBare net t
+      pending_case Clean g = cc
+      pending_case Pending g = let f : claimed net s w j ≡ t = cc in subst (IsBare net) f b
+      pending_case Running g = cc
+      pending_case Dirty g = cc
+  claim_bare s b w j (Some c) t h = cc
+
+  finish_bare : (s : State) → IsBare net s → (w : ℕ) (o : Option Claim) (t : State) → finish_step net s w o ≡ Some t → IsBare net t
+  finish_bare s b w None t h = cc
+  finish_bare s b w (Some c) t h =
+      let f : finished net s w c ≡ t = cc in
+      let after : IsBare net (finished net s w c) = λ x nobody. ap (λ own. if own then net.gives c.job c.inputs x else s.value x) (nobody c.job) ∙ b x nobody in
+      subst (IsBare net) f after
+
+  abandon_bare : (s : State) → IsBare net s → (w : ℕ) (o : Option Claim) (t : State) → abandon_step s w o ≡ Some t → IsBare net t
+  abandon_bare s b w None t h = cc
+  abandon_bare s b w (Some c) t h = let f : abandoned s w c ≡ t = cc in subst (IsBare net) f b
+
+  step_bare : (s t : State) (ev : Event) → IsBare net s → step net s ev ≡ Some t → IsBare net t
+  step_bare s t (Claims w j) b h = claim_bare s b w j (s.claim w) t h
+  step_bare s t (Finishes w j) b h = finish_bare s b w (claim_of (s.claim w) j) t h
+  step_bare s t (Abandons w j) b h = abandon_bare s b w (claim_of (s.claim w) j) t h
+
+  pub replay_bare : (es : List Event) (s t : State) → IsBare net s → replay net (Some s) es ≡ Some t → IsBare net t
+  replay_bare [] s t b h = let f : s ≡ t = cc in subst (IsBare net) f b
+  replay_bare (ev ∷ es) s t b h = next (step net s ev) refl (λ u. replay_bare es u t) h
+    where
+      next : (o : Option State) → step net s ev ≡ o → ((u : State) → IsBare net u → replay net (Some u) es ≡ Some t → IsBare net t) → replay net o es ≡ Some t → IsBare net t
+      next None e later g = cc
+      next (Some u) e later g = later u (step_bare s u ev b e) g
+
+  pub reached_bare : (es : List Event) (t : State) → replay net (Some (opening net)) es ≡ Some t → IsBare net t
+  reached_bare es t h = replay_bare es (opening net) t (λ x nobody. refl) h

@@ -16,5 +16,11 @@ pub mod Sweeps
 pub mod Rounds
 pub mod Counts
 pub mod Reached
+pub mod Past
+pub mod Lines
+pub mod Rows
 pub mod Example
 pub mod AloneExample
+pub mod LineExample
+pub mod LineRuns
+pub mod LineSettles

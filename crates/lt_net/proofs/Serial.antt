@@ -4,22 +4,22 @@ use Rattle.std.specs.Prelude.{if◌then◌else◌, nat_lt}
 use Rattle.std.specs.Option.{option_map}
 use Rattle.lt_model.specs.declared.mark.Mark.{Mark}
 use Rattle.lt_model.specs.Marks.{AreMarks, and_then}
-use Rattle.lt_delta.proofs.Merges.{after_none}
 use Rattle.lt_net.specs.declared.job.JobName.{JobName}
 use Rattle.lt_net.specs.declared.job.JobName.TheVariants.{Leaf, Merge, Correct}
 use Rattle.lt_net.specs.Net.{Cell, Correction, Effect, State, Event, same_cell, has_cell, read, first_of, replay, opening, IsSettled}
 use Rattle.lt_net.specs.Tree.{Tree, Tip, Fork, leaves, right_of, node_of, right_in, node_in, leaves_in, if_inner, inputs_of, outputs_of, gives_of, is_leaf_job, circuit_net, before, then_all, leaf_value, IsSerial, GiveMarks, halved, tree_of}
 use Rattle.lt_net.specs.Codes.{code_of, job_of}
-use Rattle.lt_net.specs.Kept.{IsDone, IsKept}
-use Rattle.lt_net.proofs.Kept.{replay_kept, opening_kept}
+use Rattle.lt_net.specs.Kept.{IsDone, IsKept, IsBare}
+use Rattle.lt_net.proofs.Kept.{replay_kept, opening_kept, reached_bare}
 use Rattle.lt_net.proofs.Fitting.{marks_of}
 use Rattle.lt_net.proofs.Shape.{lt_true, lt_false, eq_false, right_is, right_left, right_right, node_left, node_right, some_leaf, halved_leaves}
-use Rattle.lt_net.proofs.Solve.{IsInnerDone, AreDone, solved, leaf_solved}
+use Rattle.lt_net.specs.Line.{IsSerialFrom}
+use Rattle.lt_net.proofs.Solve.{IsInnerDone, AreDone, solved, leaf_solved, merged}
 use Rattle.lt_net.proofs.Solve as S
 use Rattle.lt_net.proofs.Codes.{job_of-code}
 use Rattle.lt_net.proofs.Jobs.{circuit_is_net, same_itself}
 
-module _ (effect : ℕ → List Mark → List Mark) (t : Tree) (s : State) (done : (j : ℕ) → IsDone (circuit_net effect (Some t)) s j) where
+module _ (effect : ℕ → List Mark → List Mark) (start : List Mark) (t : Tree) (s : State) (done : (j : ℕ) → IsDone (circuit_net effect (Some t)) s j) where
   -- what a job that is done gave, by the job's name
   gave : (name : JobName) (x : Cell) → has_cell x (outputs_of (Some t) name) ≡ true
       → s.value x ≡ gives_of effect name (read s.value (inputs_of (Some t) name)) x
@@ -31,7 +31,7 @@ module _ (effect : ℕ → List Mark → List Mark) (t : Tree) (s : State) (done
       let here : has_cell (Effect (node_of t i)) (outputs_of (Some t) (Leaf i)) ≡ true = rw (lt_true i (leaves t) h, same_itself (Effect (node_of t i))) in
       rw (lt_true i (leaves t) h) at (gave (Leaf i) (Effect (node_of t i)) here)
 
-  inner_gave : (v y : ℕ) → right_of t v ≡ Some y → IsInnerDone effect [] s.value v (v + 1) y
+  inner_gave : (v y : ℕ) → right_of t v ≡ Some y → IsInnerDone effect start s.value v (v + 1) y
   inner_gave v y e =
       let merge = rw e at (gave (Merge v)) in
       let correct = rw e at (gave (Correct v)) in
@@ -78,7 +78,7 @@ module _ (effect : ℕ → List Mark → List Mark) (t : Tree) (s : State) (done
       inside = omega (arith, h.inside);
     }
 
-  all_done : (part : Tree) (v i : ℕ) → Sits part v i → AreDone effect [] s.value part v i
+  all_done : (part : Tree) (v i : ℕ) → Sits part v i → AreDone effect start s.value part v i
   all_done Tip v i h =
       let p : node_of t i ≡ v = ap (node_of t) (sym (zero-add i)) ∙ h.nodes 0 (omega arith) ∙ zero-add v in
       subst (λ n. s.value (Effect n) ≡ effect i (s.value (Correction n))) p (leaf_gave i (omega (arith, h.inside)))
@@ -105,28 +105,33 @@ module _ (effect : ℕ → List Mark → List Mark) (t : Tree) (s : State) (done
       (job_of-code (Leaf i)) (done (code_of (Leaf i))).last in
       rw (lt_true i (leaves t) h) at (last (lt_true i (leaves t) h))
 
-  module _ (marks : (x : Cell) → AreMarks (s.value x)) (bare : s.value (Correction 0) ≡ []) where
-    parts : AreDone effect [] s.value t 0 0
+  module _ (marks : (x : Cell) → AreMarks (s.value x)) (first : s.value (Correction 0) ≡ start) where
+    parts : AreDone effect start s.value t 0 0
     parts = all_done t 0 0 whole_sits
 
-    root_is : s.value (Effect 0) ≡ before effect [] (leaves t)
-    root_is = sym (after_none (s.value (Effect 0)) (marks (Effect 0))) ∙ sym (ap (λ c. and_then c (s.value (Effect 0))) bare) ∙ solved effect [] s.value marks t 0 0 parts bare ∙ ap (before effect []) (zero-add (leaves t))
+    -- the tree passes on what stood before it and what its root gives
+    pub passed_is : and_then start (s.value (Effect 0)) ≡ before effect start (leaves t)
+    passed_is = sym (ap (λ c. and_then c (s.value (Effect 0))) first) ∙ solved effect start s.value marks t 0 0 parts first ∙ ap (before effect start) (zero-add (leaves t))
 
-    leaf_is_serial : (i : ℕ) → i < leaves t → S.IsSerial effect [] s.value (node_of t i) i
-    leaf_is_serial i h = subst (λ n. S.IsSerial effect [] s.value n i) (zero-add (node_of t i))
-        (subst (S.IsSerial effect [] s.value (0 + node_of t i)) (zero-add i) (leaf_solved effect [] s.value marks t 0 0 parts bare i h))
+    -- and the root gives the effects of all leaves, one after another
+    pub root_is : s.value (Effect 0) ≡ then_all (λ k. s.value (Effect (node_of t k))) [] (leaves t)
+    root_is = merged effect start s.value marks t 0 0 parts ∙ ap (λ g. then_all g [] (leaves t)) (λ d k. s.value (Effect (zero-add (node_of t k) d)))
 
-    all_before : (i : ℕ) → i ≤ leaves t → then_all (λ k. s.value (Effect (node_of t k))) [] i ≡ before effect [] i
+    pub leaf_is_serial : (i : ℕ) → i < leaves t → S.IsSerial effect start s.value (node_of t i) i
+    leaf_is_serial i h = subst (λ n. S.IsSerial effect start s.value n i) (zero-add (node_of t i))
+        (subst (S.IsSerial effect start s.value (0 + node_of t i)) (zero-add i) (leaf_solved effect start s.value marks t 0 0 parts first i h))
+
+    pub all_before : (i : ℕ) → i ≤ leaves t → then_all (λ k. s.value (Effect (node_of t k))) start i ≡ before effect start i
     all_before zero h = refl
     all_before (suc i) h =
-        let p : then_all (λ k. s.value (Effect (node_of t k))) [] i ≡ before effect [] i = all_before i (omega arith) in
-        let q : s.value (Effect (node_of t i)) ≡ effect i (before effect [] i) = (leaf_is_serial i (omega arith)).did in
+        let p : then_all (λ k. s.value (Effect (node_of t k))) start i ≡ before effect start i = all_before i (omega arith) in
+        let q : s.value (Effect (node_of t i)) ≡ effect i (before effect start i) = (leaf_is_serial i (omega arith)).did in
         rw (p, q)
 
 -- ---- the tree over n leaves
 
 -- no job gives the root's correction
-root_free : (t : Option Tree) (name : JobName) → has_cell (Correction 0) (outputs_of t name) ≡ false
+pub root_free : (t : Option Tree) (name : JobName) → has_cell (Correction 0) (outputs_of t name) ≡ false
 root_free t (Leaf i) = leaf_case (nat_lt i (leaves_in t))
   where
     leaf_case : (b : Bool) → has_cell (Correction 0) (if b then Effect (node_in t i) ∷ [] else []) ≡ false
@@ -145,44 +150,54 @@ root_free (Some t) (Correct v) = correct_case (right_of t v) refl
     correct_case (Some y) e = rw (eq_false 0 (v + 1) (omega arith), eq_false 0 y (omega (arith, (right_is t v y e).after)))
 
 -- without a tree no job gives anything
-none_free : (name : JobName) (x : Cell) → has_cell x (outputs_of None name) ≡ false
+pub none_free : (name : JobName) (x : Cell) → has_cell x (outputs_of None name) ≡ false
 none_free (Leaf i) x = rw (lt_false i 0 (omega arith))
 none_free (Merge v) x = refl
 none_free (Correct v) x = refl
 
--- a settled state of a tree with each job done
-tree_serial : (effect : ℕ → List Mark → List Mark) (n : ℕ) (t : Tree) (s : State) → tree_of n ≡ Some t → leaves t ≡ n
-    → ((j : ℕ) → IsDone (circuit_net effect (Some t)) s j) → ((x : Cell) → AreMarks (s.value x)) → s.value (Correction 0) ≡ [] → IsSerial effect n s
-tree_serial effect n t s e len done marks bare =
+-- a state of a tree with each job done
+tree_serial : (effect : ℕ → List Mark → List Mark) (start : List Mark) (n : ℕ) (t : Tree) (s : State) → tree_of n ≡ Some t → leaves t ≡ n
+    → ((j : ℕ) → IsDone (circuit_net effect (Some t)) s j) → ((x : Cell) → AreMarks (s.value x)) → s.value (Correction 0) ≡ start
+    → IsSerialFrom effect start n s
+tree_serial effect start n t s e len done marks first =
     let node : (i : ℕ) → node_in (tree_of n) i ≡ node_of t i = λ i. ap (λ o. node_in o i) e in
     let values : leaf_value n s ≡ (λ k. s.value (Effect (node_of t k))) = λ d k. s.value (Effect (node k d)) in
     let inside : (i : ℕ) → i < n → i < leaves t = λ i h. omega arith in
-    let sofar : (i : ℕ) → i ≤ n → then_all (leaf_value n s) [] i ≡ before effect [] i = λ i h.
-    ap (λ f. then_all f [] i) values ∙ all_before effect t s done marks bare i (omega arith) in
+    let sofar : (i : ℕ) → i ≤ n → then_all (leaf_value n s) start i ≡ before effect start i = λ i h.
+    ap (λ f. then_all f start i) values ∙ all_before effect start t s done marks first i (omega arith) in
     record {
-      did = λ i h. let l = leaf_is_serial effect t s done marks bare i (inside i h) in
+      did = λ i h. let l = leaf_is_serial effect start t s done marks first i (inside i h) in
           ap (λ f. f i) values ∙ l.did ∙ ap (effect i) (sym (sofar i (omega arith)));
-      stands_for = λ i h. let l = leaf_is_serial effect t s done marks bare i (inside i h) in
-          leaf_last effect t s done i (inside i h) ∙ ap Some (l.corrected ∙ sym (sofar i (omega arith)));
-      whole = root_is effect t s done marks bare ∙ ap (before effect []) len ∙ sym (sofar n (omega arith));
+      stands_for = λ i h. let l = leaf_is_serial effect start t s done marks first i (inside i h) in
+          leaf_last effect start t s done i (inside i h) ∙ ap Some (l.corrected ∙ sym (sofar i (omega arith)));
+      whole = root_is effect start t s done marks first ∙ ap (then_all (λ k. s.value (Effect (node_of t k))) []) len
+          ∙ ap (λ f. then_all f [] n) (sym values);
     }
+
+-- with each job done, whatever correction the root has. Without leaves the root has no effect
+pub serial_from : (effect : ℕ → List Mark → List Mark) (start : List Mark) (n : ℕ) (s : State)
+    → ((j : ℕ) → IsDone (circuit_net effect (tree_of n)) s j) → ((x : Cell) → AreMarks (s.value x)) → s.value (Correction 0) ≡ start
+    → (n ≡ 0 → s.value (Effect 0) ≡ []) → IsSerialFrom effect start n s
+serial_from effect start zero s done marks first none = record {
+  did = λ i k. absurd (omega arith);
+  stands_for = λ i k. absurd (omega arith);
+  whole = none refl;
+}
+serial_from effect start (suc n) s done marks first none =
+    let t = halved (suc n) (suc n) in
+    tree_serial effect start (suc n) t s refl (halved_leaves (suc n) (suc n) (omega arith) (omega arith)) done marks first
 
 -- no job gives the root's correction, and without leaves none gives the root's effect
 pub root_free_of : (effect : ℕ → List Mark → List Mark) (n j : ℕ) → has_cell (Correction 0) ((circuit_net effect (tree_of n)).outputs j) ≡ false
 root_free_of effect n j = root_free (tree_of n) (job_of j)
 
 -- a settled state that an opening comes to, with marks at each cell
-pub serial_of : (effect : ℕ → List Mark → List Mark) (n : ℕ) (s : State) → IsKept (circuit_net effect (tree_of n)) s → ((x : Cell) → AreMarks (s.value x)) → IsSettled s
+pub serial_of : (effect : ℕ → List Mark → List Mark) (n : ℕ) (s : State) → IsKept (circuit_net effect (tree_of n)) s → IsBare (circuit_net effect (tree_of n)) s → ((x : Cell) → AreMarks (s.value x)) → IsSettled s
     → IsSerial effect n s
-serial_of effect zero s kept marks settled = record {
-  did = λ i k. absurd (omega arith);
-  stands_for = λ i k. absurd (omega arith);
-  whole = kept.bare (Effect 0) (λ j. none_free (job_of j) (Effect 0));
-}
-serial_of effect (suc n) s kept marks settled =
-    let t = halved (suc n) (suc n) in
-    tree_serial effect (suc n) t s refl (halved_leaves (suc n) (suc n) (omega arith) (omega arith))
-    (λ j. kept.clean j (settled j)) marks (kept.bare (Correction 0) (λ j. root_free (Some t) (job_of j)))
+serial_of effect n s kept bare marks settled =
+    let none : n ≡ 0 → s.value (Effect 0) ≡ [] = λ e. bare (Effect 0) (λ j. ap (λ k. has_cell (Effect 0) (outputs_of (tree_of k) (job_of j))) e ∙ none_free (job_of j) (Effect 0)) in
+    let h = serial_from effect [] n s (λ j. kept.clean j (settled j)) marks (bare (Correction 0) (λ j. root_free (tree_of n) (job_of j))) none in
+    record { did = h.did; stands_for = h.stands_for; whole = h.whole }
 
 pub reached_kept : (effect : ℕ → List Mark → List Mark) (n : ℕ) (events : List Event) (s : State)
     → replay (circuit_net effect (tree_of n)) (Some (opening (circuit_net effect (tree_of n)))) events ≡ Some s → IsKept (circuit_net effect (tree_of n)) s
@@ -194,8 +209,8 @@ reached_kept effect n events s h =
 pub settled_serial : (effect : ℕ → List Mark → List Mark) (n : ℕ) (events : List Event) (s : State) → GiveMarks effect n
     → replay (circuit_net effect (tree_of n)) (Some (opening (circuit_net effect (tree_of n)))) events ≡ Some s → IsSettled s → IsSerial effect n s
 settled_serial effect n events s give h settled =
-    serial_of effect n s (reached_kept effect n events s h) (marks_of effect n give events s h) settled
+    serial_of effect n s (reached_kept effect n events s h) (reached_bare (circuit_net effect (tree_of n)) events s h) (marks_of effect n give events s h) settled
 
 pub reached_root : (effect : ℕ → List Mark → List Mark) (n : ℕ) (events : List Event) (s : State)
     → replay (circuit_net effect (tree_of n)) (Some (opening (circuit_net effect (tree_of n)))) events ≡ Some s → s.value (Correction 0) ≡ []
-reached_root effect n events s h = (reached_kept effect n events s h).bare (Correction 0) (root_free_of effect n)
+reached_root effect n events s h = reached_bare (circuit_net effect (tree_of n)) events s h (Correction 0) (root_free_of effect n)

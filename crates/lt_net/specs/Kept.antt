@@ -21,5 +21,7 @@ pub record IsKept (net : Net) (s : State) : Type 0 where
   pub holder : (j : ℕ) → is_held (s.status j) ≡ true → (w : ℕ) × (c : Claim) × (s.claim w ≡ Some c) × (c.job ≡ j)
   -- a job without inputs, as a code that is no job, is Clean
   pub idle : (j : ℕ) → net.inputs j ≡ [] → s.status j ≡ Clean
-  -- what no job gives stays empty
-  pub bare : (x : Cell) → ((j : ℕ) → has_cell x (net.outputs j) ≡ false) → s.value x ≡ []
+
+-- what no job gives stays empty
+abbrev pub IsBare : Net → State → Type 0
+IsBare net s = (x : Cell) → ((j : ℕ) → has_cell x (net.outputs j) ≡ false) → s.value x ≡ []

@@ -4,3 +4,6 @@ pub mod Kept
 pub mod Codes
 pub mod Tree
 pub mod Alone
+pub mod Line
+pub mod Row
+pub mod LineAlone

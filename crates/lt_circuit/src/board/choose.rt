@@ -4,8 +4,8 @@
 //! job on the walk, which is cheap and brings leaves their corrections, and where none is Pending the lowest leaf.
 #![tactic(auto)]
 
-ghost use Rattle.std.specs.Prelude.{◌≡◌, ◌≢◌, ℕ, true, false, ◌<◌, ◌^◌, None, IfSome};
-ghost use Rattle.lt_net.specs.declared.job.JobState.TheVariants.{Pending};
+ghost use Rattle.std.specs.Prelude.{◌≡◌, ◌≢◌, ℕ, true, false, ◌<◌, ◌≤◌, ◌^◌, None, IfSome};
+ghost use Rattle.lt_net.specs.declared.job.JobState.TheVariants.{Clean, Pending};
 ghost use Rattle.lt_net.specs.declared.job.JobName.TheVariants.{Leaf};
 ghost use Rattle.lt_net.specs.Codes.{code_of};
 ghost use Rattle.lt_circuit.specs.Board.{state_of};
@@ -26,7 +26,9 @@ impl Board {
     pub fn has_pending(&self) -> bool
         ensures some { result ≡ true → (job : ℕ) × ((state_of self.now).status job ≡ Pending) }
         ensures none { result ≡ false → (job : ℕ) → (state_of self.now).status job ≢ Pending }
+        ensures high { (job : ℕ) → 2047 ≤ job → (state_of self.now).status job ≡ Clean }
     {
+        let _leaves = self.leaves;
         self.jobs.has_pending()
     }
 
@@ -36,7 +38,9 @@ impl Board {
         ensures some { IfSome result (λ job. (state_of self.old).status (code_of job) ≡ Pending) }
         ensures small { IfSome result (λ job. code_of job < 2 ^ 32) }
         ensures none { result ≡ None → (job : ℕ) → (state_of self.old).status job ≢ Pending }
+        ensures high { (job : ℕ) → 2047 ≤ job → (state_of self.old).status job ≡ Clean }
     {
+        let _leaves = self.leaves;
         if worker == 0 {
             return self.jobs.next_pending();
         }

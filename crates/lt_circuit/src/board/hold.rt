@@ -9,11 +9,15 @@ ghost use Rattle.lt_net.specs.Tree.{circuit_net, tree_of};
 ghost use Rattle.lt_net.specs.Codes.{code_of, codes_over};
 ghost use Rattle.lt_circuit.specs.declared.cells.Held.{Held as HeldType};
 ghost use Rattle.lt_circuit.specs.Board.{inputs_list, state_of};
+ghost use Rattle.lt_circuit.specs.Segment.{with_claim};
 
 use super::Board;
 use crate::cells::{Held, Inputs};
 use lt_delta::Marks;
 use lt_net::{JobName, JobState};
+
+// The Pass has the code of the Merge of this node, which no tree over the most leaves has.
+const PASS: u32 = 682;
 
 impl Board {
     /// The worker holds the job, on inputs that stand now.
@@ -43,6 +47,33 @@ impl Board {
     {
         let _leaves = self.leaves;
         self.jobs.set_state(job, JobState::Pending);
+        self.holders.free(worker)
+    }
+
+    /// The worker holds the Pass behind the tree, on these inputs.
+    pub fn hold_pass(&mut self, worker: u32, inputs: Inputs)
+        requires { worker < most_workers }
+        ensures leaves { self.new.leaves ≡ self.old.leaves }
+        ensures claims { (held : HeldType) × (self.new.claims ≡ slice_set self.old.claims worker (Some held)) }
+        ensures state { state_of self.new ≡ with_claim (state_of self.old) worker (Some (record { job = 2047; inputs = inputs_list inputs; prior = None })) }
+    {
+        let _leaves = self.leaves;
+        let held = Held {
+            job: JobName::Merge(PASS),
+            inputs,
+            prior: None,
+        };
+        self.holders.hold(worker, held);
+    }
+
+    /// The worker holds the Pass no more. It answers what the worker held.
+    pub fn free_pass(&mut self, worker: u32) -> Option<Held>
+        requires { worker < most_workers }
+        ensures leaves { self.new.leaves ≡ self.old.leaves }
+        ensures claims { self.new.claims ≡ slice_set self.old.claims worker None }
+        ensures state { state_of self.new ≡ with_claim (state_of self.old) worker None }
+    {
+        let _leaves = self.leaves;
         self.holders.free(worker)
     }
 }

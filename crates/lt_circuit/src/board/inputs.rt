@@ -110,7 +110,7 @@ fn share_prior(marks: &Option<Marks>) -> Result<Option<Marks>, NoMemory>
 
 impl Inputs {
     /// Second owners of the same inputs.
-    fn share(&self) -> Result<Inputs, NoMemory>
+    pub(crate) fn share(&self) -> Result<Inputs, NoMemory>
         ensures { IfOk result (λ inputs. inputs ≡ self.now) }
     {
         match self {

@@ -18,7 +18,7 @@ use lt_delta::Marks;
 use lt_net::{JobName, JobState};
 use std::mem;
 
-fn woken(state: JobState) -> JobState
+pub(crate) fn woken(state: JobState) -> JobState
     ensures { result ≡ woken state }
 {
     match state {
@@ -29,7 +29,7 @@ fn woken(state: JobState) -> JobState
     }
 }
 
-fn ended(state: JobState) -> JobState
+pub(crate) fn ended(state: JobState) -> JobState
     ensures { result ≡ ended state }
 {
     match state {
@@ -41,7 +41,7 @@ fn ended(state: JobState) -> JobState
 }
 
 /// Whether these marks are others than those that stood.
-fn is_change(old: &Marks, new: &Marks) -> bool
+pub(crate) fn is_change(old: &Marks, new: &Marks) -> bool
     ensures changed { result ≡ true → old.now ≢ new.now }
     ensures same { result ≡ false → old.now ≡ new.now }
 {
@@ -115,6 +115,20 @@ impl Board {
             self.wake_correction(node);
         }
         old
+    }
+
+    /// The marks stand as the root's correction, and where that is a change its reader is woken. Without leaves it has none. It
+    /// answers the marks that stood.
+    pub(crate) fn give_root(&mut self, marks: Marks) -> Marks
+        ensures leaves { self.new.leaves ≡ self.old.leaves }
+        ensures claims { self.new.claims ≡ self.old.claims }
+        ensures state { (effect : ℕ → List MarkType → List MarkType) →
+            state_of self.new ≡ stored (circuit_net effect (tree_of self.old.leaves)) (state_of self.old) (Correction 0) marks }
+    {
+        if self.leaves > 0 {
+            return self.store_correction(0, marks);
+        }
+        self.nodes.put_correction(0, marks)
     }
 
     /// The marks stand as the correction of an inner node's left child. Where they are `current` they are the node's own, and are

@@ -1,3 +1,5 @@
+use Rattle.lt_net.specs.Tree.{circuit_net, tree_of}
+use Rattle.lt_net.proofs.Kept.{reached_bare}
 use Rattle.lt_net.proofs.Serial.{reached_kept, reached_root}
 use Rattle.lt_net.proofs.laws.every_event_keeps.Goals as goal
 
@@ -23,7 +25,7 @@ pub returns-clause-idle : goal.returns-clause-idle
 returns-clause-idle c = λ effect n events s h. (reached_kept effect n events s h).idle
 
 pub returns-clause-bare : goal.returns-clause-bare
-returns-clause-bare c = λ effect n events s h. (reached_kept effect n events s h).bare
+returns-clause-bare c = λ effect n events s h. reached_bare (circuit_net effect (tree_of n)) events s h
 
 pub returns-clause-root : goal.returns-clause-root
 returns-clause-root c = reached_root
