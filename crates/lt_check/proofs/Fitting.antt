@@ -1,4 +1,4 @@
--- A checked program fits the states that have the schema's relations.
+-- A checked program fits the states that have the schema's relations, and inserts by their keys.
 use Rattle.std.proofs.Common.{◌≡◌, ℕ, zero, suc, ◌+◌, ◌<◌, ◌≤◌, Bool, true, false, not, cond, ◌&&◌, ◌||◌, List, [], ◌∷◌, ◌++◌, map, length, fold, Option, Some, None, refl, sym, ap, subst, ◌∙◌, arith}
 use mathlib.Core.Bool.{true≢false}
 use Rattle.std.specs.Prelude.{◌==◌, flat_map, filter_map, is_none, unwrap_or, option_map, option_and_then, slice_get, nat_lt}
@@ -8,7 +8,7 @@ use Rattle.std.proofs.lemmas.Bool.{eqb-true}
 use Rattle.std.proofs.lemmas.List.{length-map}
 use Rattle.std.proofs.lemmas.List.Folds.{list_any-append}
 use Rattle.std.proofs.lemmas.List.Quantifiers.{position-Some}
-use Rattle.std.proofs.lemmas.Option.{slice_get-map}
+use Rattle.std.proofs.lemmas.Option.{slice_get-map, slice_get-get_or}
 use Rattle.std.proofs.lemmas.Slice.Eq.{bytes_eq-Decides}
 use Rattle.lt_face.specs.State.{State, Relation}
 use Rattle.lt_model.specs.declared.kind.Kind.{Kind}
@@ -23,13 +23,14 @@ use Rattle.lt_model.specs.declared.syntax.Program.{Program}
 use Rattle.lt_model.specs.declared.normal.Atom as normal
 use Rattle.lt_model.specs.declared.normal.Body.{Body}
 use Rattle.lt_model.specs.declared.normal.Stmt.{Stmt}
-use Rattle.lt_model.specs.Schema.{Schema, number_of, columns_of}
+use Rattle.lt_model.specs.Schema.{Schema, number_of, columns_of, keys_of}
 use Rattle.lt_model.specs.Variables.{atoms_of, atom_of, absent_of, named_of, body_of, front_terms, literal_terms, terms_of, variable_of, variables, with_name, place_of}
 use Rattle.lt_model.specs.Bound.{is_known, is_bound, are_bound}
 use Rattle.lt_model.specs.Check.{term, atom, test_of, normal_body, normal, kind_of, choice_for, is_unknown, is_misfit, all_bound, code_of, Checked, Good, Bad, after_good, or_bad, checked_from, checked}
-use Rattle.lt_model.specs.Fits.{IsWide, IsTermOf, IsAtomOf, test_terms, IsBodyOf, IsHeadOf, FitsStatement, Fits}
+use Rattle.lt_model.specs.Fits.{IsWide, IsTermOf, IsAtomOf, test_terms, IsBodyOf, IsHeadOf, AreKeysOf, FitsStatement, Fits}
+use Rattle.lt_model.specs.Keyed.{keys_in, InsertsBy}
 use Rattle.lt_model.specs.Limits.{HasCell, IsLiteralWithin, IsStatementWithin, IsProgramWithin}
-use Rattle.lt_check.specs.States.{IsStateOf}
+use Rattle.lt_check.specs.States.{IsStateOf, HasKeyColumns, HaveKeyColumns}
 use Rattle.lt_check.proofs.Limits.{All_both, All_flat}
 use Rattle.lt_check.proofs.Statements.{chosen}
 
@@ -130,15 +131,15 @@ some_at [] n h = absurd (omega arith)
 some_at (x ∷ xs) zero h = (x, refl)
 some_at (x ∷ xs) (suc n) h = some_at xs n (omega arith)
 
-at_number : (schema : Schema) (state : State) (n k : ℕ) (o : Option ℕ) → IsStateOf schema state → o ≡ Some n → n < length schema → (k == length (unwrap_or (option_map (λ (h : List ℕ × List Kind). h.1) (option_and_then (slice_get schema) o)) [])) ≡ true → IsWide state n k
+at_number : (schema : Schema) (state : State) (n k : ℕ) (o : Option ℕ) → IsStateOf schema state → o ≡ Some n → n < length schema → (k == length (unwrap_or (option_map (λ (h : List ℕ × List Kind × ℕ). h.1) (option_and_then (slice_get schema) o)) [])) ≡ true → IsWide state n k
 at_number schema state n k o fits e below same =
     let x = some_at schema n below in
     let width : ℕ = length (x.0).1 in
-    let is : k ≡ width = eqb-true k width (ap (λ p. k == length (unwrap_or (option_map (λ (h : List ℕ × List Kind). h.1) p) [])) (sym (ap (option_and_then (slice_get schema)) e ∙ x.1)) ∙ same) in
+    let is : k ≡ width = eqb-true k width (ap (λ p. k == length (unwrap_or (option_map (λ (h : List ℕ × List Kind × ℕ). h.1) p) [])) (sym (ap (option_and_then (slice_get schema)) e ∙ x.1)) ∙ same) in
     sym (slice_get-map (λ (r : Relation). r.width) state n)
     ∙ ap (λ xs. slice_get xs n) fits
-    ∙ slice_get-map (λ (h : List ℕ × List Kind). length h.1) schema n
-    ∙ ap (option_map (λ (h : List ℕ × List Kind). length h.1)) x.1
+    ∙ slice_get-map (λ (h : List ℕ × List Kind × ℕ). length h.1) schema n
+    ∙ ap (option_map (λ (h : List ℕ × List Kind × ℕ). length h.1)) x.1
     ∙ ap Some (sym is)
 
 not_false : (b : Bool) → not b ≡ false → b ≡ true
@@ -151,8 +152,37 @@ is_wide schema state h fits known fit = go (number_of schema h.relation) refl
     go : (o : Option ℕ) → number_of schema h.relation ≡ o → IsWide state (unwrap_or o 0) (length h.terms)
     go None e = absurd (true≢false (ap is_none (sym e) ∙ known))
     go (Some n) e =
-        let at = position-Some (λ (heading : List ℕ × List Kind). bytes_eq heading.0 h.relation) schema n ([], []) e in
+        let at = position-Some (λ (heading : List ℕ × List Kind × ℕ). bytes_eq heading.0 h.relation) schema n ([], [], 0) e in
         at_number schema state n (length h.terms) (number_of schema h.relation) fits e at.0 (not_false (length h.terms == length (columns_of schema h.relation)) fit)
+
+-- ---- keys
+
+at_place : {X : Type 0} (P : X → Type 0) (xs : List X) (n : ℕ) (x : X) → AllByRecursion P xs → slice_get xs n ≡ Some x → P x
+at_place P [] n x all e = absurd cc
+at_place P (y ∷ xs) zero x all e = let same : y ≡ x = cc in subst P same all.0
+at_place P (y ∷ xs) (suc n) x all e = at_place P xs n x all.1 e
+
+-- the key columns of a heading that is there are some of its columns
+abbrev AreSome : Option (List ℕ × List Kind × ℕ) → Type 0
+AreSome o = (1 ≤ unwrap_or (option_map (λ (h : List ℕ × List Kind × ℕ). h.2) o) 0) × (unwrap_or (option_map (λ (h : List ℕ × List Kind × ℕ). h.2) o) 0 ≤ length (unwrap_or (option_map (λ (h : List ℕ × List Kind × ℕ). h.1) o) []))
+
+keys_at : (schema : Schema) (n : ℕ) (o : Option ℕ) → HaveKeyColumns schema → o ≡ Some n → n < length schema → AreSome (option_and_then (slice_get schema) o)
+keys_at schema n o keyed e below =
+    let x = some_at schema n below in
+    subst AreSome (sym (ap (option_and_then (slice_get schema)) e ∙ x.1)) (at_place HasKeyColumns schema n x.0 keyed x.1)
+
+keys_within : (schema : Schema) (h : Head) → HaveKeyColumns schema → is_unknown schema h ≡ false → is_misfit schema h ≡ false → (1 ≤ keys_of schema h.relation) × (keys_of schema h.relation ≤ length h.terms)
+keys_within schema h keyed known fit = go (number_of schema h.relation) refl
+  where
+    as_long : length h.terms ≡ length (columns_of schema h.relation)
+    as_long = eqb-true (length h.terms) (length (columns_of schema h.relation)) (not_false (length h.terms == length (columns_of schema h.relation)) fit)
+
+    go : (o : Option ℕ) → number_of schema h.relation ≡ o → (1 ≤ keys_of schema h.relation) × (keys_of schema h.relation ≤ length h.terms)
+    go None e = absurd (true≢false (ap is_none (sym e) ∙ known))
+    go (Some n) e =
+        let at = position-Some (λ (heading : List ℕ × List Kind × ℕ). bytes_eq heading.0 h.relation) schema n ([], [], 0) e in
+        let some = keys_at schema n (number_of schema h.relation) keyed e at.0 in
+        (some.0, subst (λ k. keys_of schema h.relation ≤ k) (sym as_long) some.1)
 
 -- ---- atoms and bodies
 
@@ -173,6 +203,12 @@ atom_fits_state schema state names body h fits there good = record {
       subst P (sym (length-map h.terms (term names))) (is_wide schema state h fits there.0 there.1);
   has_terms = good_terms names body h.terms good;
 }
+
+head_keys : (schema : Schema) (names : List (List ℕ)) (h : Head) → HaveKeyColumns schema → IsThere schema h → AreKeysOf (atom schema names h) (keys_of schema h.relation)
+unfolding IsThere
+head_keys schema names h keyed there =
+    let k = keys_within schema h keyed there.0 there.1 in
+    (k.0, subst (λ n. keys_of schema h.relation ≤ n) (sym (length-map h.terms (term names))) k.1)
 
 head_fits_state : (schema : Schema) (state : State) (names : List (List ℕ)) (literals : List Literal) (h : Head) → IsStateOf schema state → IsThere schema h → AllByRecursion (IsGood names (normal_body schema names literals)) h.terms → IsHeadOf state (normal_body schema names literals) (atom schema names h)
 head_fits_state schema state names literals h fits there good = record {
@@ -284,8 +320,8 @@ no_code_means schema s h = go (list_any (is_unknown schema) (atoms_of s)) refl (
     go false p false q false false r h = absurd cc
     go false p false q false true r h = record { known = p; fit = q; bound = r }
 
-statement_fits : (schema : Schema) (state : State) (s : Statement) → IsStateOf schema state → IsStatementWithin s → code_of schema s ≡ None → FitsStatement state (normal schema s)
-statement_fits schema state s fits is h =
+statement_fits : (schema : Schema) (state : State) (s : Statement) → IsStateOf schema state → HaveKeyColumns schema → IsStatementWithin s → code_of schema s ≡ None → FitsStatement state (normal schema s)
+statement_fits schema state s fits keyed is h =
     let n = no_code_means schema s h in
     let body = normal_body schema (variables s) (body_of s) in
     go s fits is
@@ -299,6 +335,7 @@ statement_fits schema state s fits is h =
         let front = All_front P (front_terms s) (flat_map literal_terms literals) good in (
           body_fits_state schema state (variables s) literals fits is.few_variables is.few_literals there.1 (All_back P (front_terms s) (flat_map literal_terms literals) good),
           head_fits_state schema state (variables s) literals head fits there.0 (All_front P head.terms [] front),
+          head_keys schema (variables s) head keyed there.0,
         )
     go (statements.Delete head literals) fits is there good =
         let s = statements.Delete head literals in
@@ -315,6 +352,7 @@ statement_fits schema state s fits is h =
           body_fits_state schema state (variables s) literals fits is.few_variables is.few_literals there.1.1 (All_back P (front_terms s) (flat_map literal_terms literals) good),
           head_fits_state schema state (variables s) literals gone fits there.0 (All_front P gone.terms (come.terms ++ []) front),
           head_fits_state schema state (variables s) literals come fits there.1.0 (All_front P come.terms [] second),
+          head_keys schema (variables s) come keyed there.1.0,
         )
     go (statements.Require some literals) fits is there good =
         let s = statements.Require some literals in
@@ -339,27 +377,55 @@ statement_fits schema state s fits is h =
         )
 
 -- what a good rest of a program comes from
-record ComesFrom (state : State) (statements : List Statement) (program : List Stmt) : Type 0 where
-  pub each : AllByRecursion (FitsStatement state) program
+record ComesFrom (P : Stmt → Type 0) (statements : List Statement) (program : List Stmt) : Type 0 where
+  pub each : AllByRecursion P program
   pub long : length program ≡ length statements
 
-rest_fits : (schema : Schema) (state : State) (statements : List Statement) (j : ℕ) (program : List Stmt) → IsStateOf schema state → AllByRecursion IsStatementWithin statements → checked_from schema j statements ≡ Good program → ComesFrom state statements program
-rest_fits schema state [] j [] fits is h = record { each = tt; long = refl }
-rest_fits schema state [] j (x ∷ program) fits is h = absurd cc
-rest_fits schema state (s ∷ statements) j program fits is h =
-    go (code_of schema s) refl (checked_from schema (j + 1) statements) refl program h (rest_fits schema state statements (j + 1))
+-- what the normal form of each statement without a code is, each statement of a good rest is
+rest_good : (P : Stmt → Type 0) (schema : Schema) → ((s : Statement) → IsStatementWithin s → code_of schema s ≡ None → P (normal schema s)) → (statements : List Statement) (j : ℕ) (program : List Stmt) → AllByRecursion IsStatementWithin statements → checked_from schema j statements ≡ Good program → ComesFrom P statements program
+rest_good P schema one [] j [] is h = record { each = tt; long = refl }
+rest_good P schema one [] j (x ∷ program) is h = absurd cc
+rest_good P schema one (s ∷ statements) j program is h =
+    go (code_of schema s) refl (checked_from schema (j + 1) statements) refl program h (λ more. rest_good P schema one statements (j + 1) more is.1)
   where
-    go : (o : Option ℕ) → code_of schema s ≡ o → (rest : Checked) → checked_from schema (j + 1) statements ≡ rest → (program : List Stmt) → or_bad j o (after_good (normal schema s) rest) ≡ Good program → ((program : List Stmt) → IsStateOf schema state → AllByRecursion IsStatementWithin statements → checked_from schema (j + 1) statements ≡ Good program → ComesFrom state statements program) → ComesFrom state (s ∷ statements) program
+    go : (o : Option ℕ) → code_of schema s ≡ o → (rest : Checked) → checked_from schema (j + 1) statements ≡ rest → (program : List Stmt) → or_bad j o (after_good (normal schema s) rest) ≡ Good program → ((more : List Stmt) → checked_from schema (j + 1) statements ≡ Good more → ComesFrom P statements more) → ComesFrom P (s ∷ statements) program
     go (Some code) e rest f program h more = absurd cc
     go None e (Bad code k) f program h more = absurd cc
     go None e (Good good) f program h more =
         let same : program ≡ normal schema s ∷ good = cc in
-        let left = more good fits is.1 f in
-        let P : List Stmt → Type 0 = λ p. ComesFrom state (s ∷ statements) p in
-        subst P (sym same) (record { each = (statement_fits schema state s fits is.0 e, left.each); long = let k = left.long in omega (arith, k) })
+        let left = more good f in
+        subst (ComesFrom P (s ∷ statements)) (sym same) (record { each = (one s is.0 e, left.each); long = let k = left.long in omega (arith, k) })
 
 -- a checked program fits each state that has the schema's relations
-pub good_fits : (schema : Schema) (state : State) (program : Program) (good : List Stmt) → IsProgramWithin program → IsStateOf schema state → checked program schema ≡ Good good → Fits state good
-good_fits schema state program good is fits h =
-    let from = rest_fits schema state program.statements 1 good fits is.statements h in
+pub good_fits : (schema : Schema) (state : State) (program : Program) (good : List Stmt) → IsProgramWithin program → IsStateOf schema state → HaveKeyColumns schema → checked program schema ≡ Good good → Fits state good
+good_fits schema state program good is fits keyed h =
+    let from = rest_good (FitsStatement state) schema (λ s within none. statement_fits schema state s fits keyed within none) program.statements 1 good is.statements h in
     record { each = from.each; has_few = let e = from.long in let few = is.few in omega (arith, e, few) }
+
+-- ---- rows come by the relations' keys
+
+-- a relation that is there has as many key columns by name as by number
+keys_by_number : (schema : Schema) (h : Head) → is_unknown schema h ≡ false → keys_of schema h.relation ≡ keys_in schema (unwrap_or (number_of schema h.relation) 0)
+keys_by_number schema h known = go (number_of schema h.relation) refl
+  where
+    go : (o : Option ℕ) → number_of schema h.relation ≡ o → keys_of schema h.relation ≡ keys_in schema (unwrap_or (number_of schema h.relation) 0)
+    go None e = absurd (true≢false (ap is_none (sym e) ∙ known))
+    go (Some n) e =
+        let at = position-Some (λ (heading : List ℕ × List Kind × ℕ). bytes_eq heading.0 h.relation) schema n ([], [], 0) e in
+        ap (λ o. unwrap_or (option_map (λ (heading : List ℕ × List Kind × ℕ). heading.2) (option_and_then (slice_get schema) o)) 0) e
+        ∙ ap (λ o. unwrap_or (option_map (λ (heading : List ℕ × List Kind × ℕ). heading.2) o) 0) (slice_get-get_or schema n ([], [], 0) at.0)
+        ∙ ap (λ o. keys_in schema (unwrap_or o 0)) (sym e)
+
+statement_inserts : (schema : Schema) (s : Statement) → code_of schema s ≡ None → InsertsBy (keys_in schema) (normal schema s)
+statement_inserts schema s h = go s (none_any (is_unknown schema) (atoms_of s) (no_code_means schema s h).known)
+  where
+    go : (s : Statement) → AllByRecursion (λ a. is_unknown schema a ≡ false) (atoms_of s) → InsertsBy (keys_in schema) (normal schema s)
+    go (statements.Insert head literals) known = keys_by_number schema head known.0
+    go (statements.Delete head literals) known = tt
+    go (statements.Replace gone come literals) known = keys_by_number schema come known.1.0
+    go (statements.Require some literals) known = tt
+    go (statements.Print terms literals) known = tt
+
+-- a checked program inserts by the schema's keys
+pub good_inserts : (schema : Schema) (program : Program) (good : List Stmt) → IsProgramWithin program → checked program schema ≡ Good good → AllByRecursion (InsertsBy (keys_in schema)) good
+good_inserts schema program good is h = (rest_good (InsertsBy (keys_in schema)) schema (λ s within none. statement_inserts schema s none) program.statements 1 good is.statements h).each

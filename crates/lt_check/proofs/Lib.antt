@@ -5,3 +5,4 @@ pub mod Statements
 pub mod Fitting
 pub mod Limits
 pub mod Columned
+mod Places

@@ -1,8 +1,10 @@
 //! The check of a program.
+ghost use Rattle.std.specs.List.{AllByRecursion};
 ghost use Rattle.std.specs.Prelude.{◌≡◌, IfOk, IfErr};
 ghost use Rattle.lt_model.specs.Check.{checked, Good};
 ghost use Rattle.lt_face.specs.State.{State};
 ghost use Rattle.lt_model.specs.Fits.{Fits};
+ghost use Rattle.lt_model.specs.Keyed.{keys_in, InsertsBy};
 ghost use Rattle.lt_model.specs.Limits.{IsProgramWithin};
 ghost use Rattle.lt_check.specs.States.{IsStateOf};
 ghost use Rattle.lt_check.specs.Outcome.{IsFault};
@@ -40,8 +42,10 @@ pub fn check(alloc: Global, program: &Program, schema: &Schema) -> Result<Prog, 
     requires { IsProgramWithin program.now }
     ensures good { IfOk result (λ prog. checked program.now schema.now ≡ Good prog) }
     ensures fits { IfOk result (λ prog. (state : State) → IsStateOf schema.now state → Fits state prog) }
+    ensures keyed { IfOk result (λ prog. AllByRecursion (InsertsBy (keys_in schema.now)) prog) }
     ensures bad { IfErr result (λ fault. IsFault (checked program.now schema.now) fault) }
 {
+    let _keyed = schema.headings();
     let mut prog = Prog::new(alloc);
     for (place, statement) in program.statements.as_slice().iter().enumerate() {
         let stmt = check_statement(alloc, schema, statement, place as u32 + 1)?;

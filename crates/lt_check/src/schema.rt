@@ -1,7 +1,9 @@
 //! The relations that are there.
 ghost use Rattle.std.specs.Prelude.{◌≡◌, ◌≤◌, ◌<◌, ◌↔◌, ◌++◌, ◌∷◌, [], length, None, IfOk, IfSome, OnOk, OnErr, IsErrOf, IsSome, is_none};
+ghost use Rattle.std.specs.Str.{bytes_eq};
 ghost use Rattle.lt_face.specs.Limits.{most_relations};
-ghost use Rattle.lt_model.specs.Schema.{number_of, columns_of};
+ghost use Rattle.lt_model.specs.Schema.{number_of, columns_of, keys_of};
+ghost use Rattle.lt_check.specs.States.{HaveKeyColumns};
 
 use lt_face::limits::MOST_RELATIONS;
 use lt_face::memory::NoMemory;
@@ -31,12 +33,13 @@ impl Model for Schema {
     ghost use Rattle.std.specs.Prelude.{◌≤◌, length};
     ghost use Rattle.lt_face.specs.Limits.{most_relations};
     ghost use Rattle.lt_model.specs.Schema as model;
+    ghost use Rattle.lt_check.specs.States.{HaveKeyColumns};
 
     ghost Value = { model.Schema };
 
     ghost view = { λ s. s.headings };
 
-    ghost invariant = { λ s. length s.headings ≤ most_relations };
+    ghost invariant = { λ s. (length s.headings ≤ most_relations) × HaveKeyColumns s.headings };
 }
 
 impl From<NoMemory> for DeclareFault {
@@ -48,6 +51,13 @@ impl From<NoMemory> for DeclareFault {
     fn from(_: NoMemory) -> DeclareFault {
         DeclareFault::NoMemory
     }
+}
+
+/// Whether the heading has this name.
+fn is_named(heading: &(Name, KindList, u32), name: &Name) -> bool
+    ensures { result ≡ bytes_eq heading.now.0 name.now }
+{
+    are_same(heading.0.as_bytes(), name.as_bytes())
 }
 
 impl Schema {
@@ -64,19 +74,19 @@ impl Schema {
     pub fn find(&self, name: &Name) -> Option<u32>
         ensures { result ≡ number_of self.now name.now }
     {
-        let name = name.as_bytes();
         for (number, heading) in self.headings.as_slice().iter().enumerate() {
-            if are_same(heading.0.as_bytes(), name) {
+            if is_named(heading, name) {
                 return Some(number as u32);
             }
         }
         None
     }
 
-    /// The name of each relation with the kinds of its columns.
+    /// The name of each relation with the kinds of its columns, and how many of these are key columns.
     pub fn headings(&self) -> &Headings
         ensures headings { result.now ≡ self.now }
         ensures bound { length self.now ≤ most_relations }
+        ensures keyed { HaveKeyColumns self.now }
     {
         &self.headings
     }
@@ -100,9 +110,31 @@ impl Schema {
         }
     }
 
-    /// One relation more, and its number. An error leaves the schema as it was.
-    pub fn declare(&mut self, name: Name, kinds: KindList) -> Result<u32, DeclareFault>
-        ensures ok { IfOk result (λ number. (number ≡ length self.old) × (self.new ≡ self.old ++ (name, kinds) ∷ [])) }
+    /// How many key columns a relation has, None where it isn't there.
+    fn known_keys(&self, name: &Name) -> Option<u32>
+        ensures there { is_none result ≡ is_none (number_of self.now name.now) }
+        ensures keys { IfSome result (λ keys. keys ≡ keys_of self.now name.now) }
+    {
+        let number = self.find(name)?;
+        Some(self.headings.as_slice()[number as usize].2)
+    }
+
+    /// How many key columns a relation has, 0 where it isn't there.
+    pub fn keys(&self, name: &Name) -> u32
+        ensures { result ≡ keys_of self.now name.now }
+    {
+        match self.known_keys(name) {
+            Some(keys) => keys,
+            None => 0,
+        }
+    }
+
+    /// One relation more, whose first columns are its key columns, so many as `keys` says, and its number. An error leaves the
+    /// schema as it was.
+    pub fn declare(&mut self, name: Name, kinds: KindList, keys: u32) -> Result<u32, DeclareFault>
+        requires some { 1 ≤ keys }
+        requires within { keys ≤ length kinds }
+        ensures ok { IfOk result (λ number. (number ≡ length self.old) × (self.new ≡ self.old ++ (name, kinds, keys) ∷ [])) }
         ensures room { OnOk result (length self.old < most_relations) }
         ensures taken { IsErrOf result DeclareFault.Taken ↔ IsSome (number_of self.old name) }
         ensures full { IsErrOf result DeclareFault.Full ↔ ((number_of self.old name ≡ None) × (length self.old ≡ most_relations)) }
@@ -115,7 +147,7 @@ impl Schema {
         if number == MOST_RELATIONS {
             return Err(DeclareFault::Full);
         }
-        self.headings.push((name, kinds))?;
+        self.headings.push((name, kinds, keys))?;
         Ok(number as u32)
     }
 }

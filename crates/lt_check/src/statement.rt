@@ -73,17 +73,24 @@ fn with_body(
     ensures { IfOk result (λ stmt. stmt ≡ normal_with schema.now names.now body (kind_of names.now (completed known.now)) statement.now) }
 {
     match statement {
-        Statement::Insert { head, .. } => Ok(Stmt::Insert {
-            head: atom(alloc, schema, names, head)?,
-            body,
-        }),
+        Statement::Insert { head, .. } => {
+            let keys = schema.keys(&head.relation);
+            let head = atom(alloc, schema, names, head)?;
+            Ok(Stmt::Insert { head, keys, body })
+        }
         Statement::Delete { head, .. } => Ok(Stmt::Delete {
             head: atom(alloc, schema, names, head)?,
             body,
         }),
         Statement::Replace { gone, come, .. } => {
+            let keys = schema.keys(&come.relation);
             let (gone, come) = both(alloc, schema, names, gone, come)?;
-            Ok(Stmt::Replace { gone, come, body })
+            Ok(Stmt::Replace {
+                gone,
+                come,
+                keys,
+                body,
+            })
         }
         Statement::Require { some, .. } => Ok(Stmt::Require { some: *some, body }),
         Statement::Print { terms, .. } => {

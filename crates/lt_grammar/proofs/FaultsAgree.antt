@@ -10,6 +10,7 @@ use Rattle.lt_model.specs.Faults.{IsOpen, Faulty, not_allowed, too_many, too_man
 use Rattle.lt_grammar.specs.Grammar.{Item, Items, script_marks}
 use Rattle.lt_grammar.specs.Meaning.{level_of, item_value}
 use Rattle.lt_grammar.proofs.Agrees.{each_agrees}
+use Rattle.lt_grammar.proofs.Shapes.{unspared, spared_not}
 use Rattle.lt_grammar.proofs.ItemsAgree.{items_agree}
 
 pub to_derives : (level : Level) (ts : List Shape) (items : List Item) → reading.Derives Items level ts items → Derives (level_of level) ts (map item_value items)
@@ -28,13 +29,13 @@ from_open level ts o = let x = from_derives level (ts ++ o.0) o.1 o.2 in (o.0, x
 
 pub to_faulty : (before : List Shape) (t : Shape) (code : ℕ) → reading.Faulty script_marks Items before t code → Faulty before t code
 to_faulty before t code (reading.not_allowed h) = not_allowed (λ o. h (from_open formed (before ++ t ∷ []) o))
-to_faulty before t code (reading.too_many o other h) = too_many (to_open formed (before ++ t ∷ []) o) other (λ k. h (from_open few (before ++ t ∷ []) k))
+to_faulty before t code (reading.too_many o blamed h) = too_many (to_open formed (before ++ t ∷ []) o) (unspared t blamed).0 (unspared t blamed).1 (λ k. h (from_open few (before ++ t ∷ []) k))
 to_faulty before t code (reading.too_large n o h) = too_large n.0 n.1 (to_open few (before ++ t ∷ []) o) (λ k. h (from_open fine (before ++ t ∷ []) k))
 to_faulty before t code (reading.too_full same o h) = too_many_variables same (to_open fine (before ++ t ∷ []) o) (λ k. h (from_open full (before ++ t ∷ []) k))
 
 pub from_faulty : (before : List Shape) (t : Shape) (code : ℕ) → Faulty before t code → reading.Faulty script_marks Items before t code
 from_faulty before t code (not_allowed h) = reading.not_allowed (λ o. h (to_open formed (before ++ t ∷ []) o))
-from_faulty before t code (too_many o other h) = reading.too_many (from_open formed (before ++ t ∷ []) o) other (λ k. h (to_open few (before ++ t ∷ []) k))
+from_faulty before t code (too_many o no_comma no_arrow h) = reading.too_many (from_open formed (before ++ t ∷ []) o) (spared_not t no_comma no_arrow) (λ k. h (to_open few (before ++ t ∷ []) k))
 from_faulty before t code (too_large digits is o h) = reading.too_large (digits, is) (from_open few (before ++ t ∷ []) o) (λ k. h (to_open fine (before ++ t ∷ []) k))
 from_faulty before t code (too_many_variables same o h) = reading.too_full same (from_open fine (before ++ t ∷ []) o) (λ k. h (to_open full (before ++ t ∷ []) k))
 

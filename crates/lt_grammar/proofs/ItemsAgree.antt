@@ -1,9 +1,10 @@
 -- Statements, programs and items of the tree are written as the language spells what they stand for.
-use Rattle.std.proofs.Common.{◌≡◌, ℕ, Bool, true, false, List, [], ◌∷◌, ◌++◌, length, Option, Some, None, refl, sym as turned, ap, subst, ◌∙◌, append_assoc}
-use Rattle.std.specs.Prelude.{map, flat_map}
+use Rattle.std.proofs.Common.{◌≡◌, ℕ, suc, ◌+◌, Bool, true, false, List, [], ◌∷◌, ◌++◌, length, Option, Some, None, refl, sym as turned, ap, subst, ◌∙◌, append_assoc, arith}
+use Rattle.std.specs.Prelude.{map, flat_map, take, drop}
 use Rattle.std.specs.List.{AllByRecursion}
-use Rattle.std.proofs.lemmas.List.{map-id}
-use Rattle.lt_reading.specs.Language.{Level, AtMost}
+use Rattle.std.proofs.lemmas.List.{map-id, length-append, length-take-le, take-append-drop}
+use Rattle.std.proofs.Math.Seq.{take-append_seam, drop-append_seam}
+use Rattle.lt_reading.specs.Language.{Level, formed, few, fine, full, AtMost}
 use Rattle.lt_model.specs.declared.kind.Kind.{Kind}
 use Rattle.lt_model.specs.declared.kind.Kind.TheVariants.{Int, Sym}
 use Rattle.lt_model.specs.declared.syntax.Term.{Term as TermValue}
@@ -15,11 +16,11 @@ use Rattle.lt_model.specs.declared.syntax.Program.{Program as ProgramValue}
 use Rattle.lt_model.specs.declared.syntax.Item.{Item as ItemValue}
 use Rattle.lt_model.specs.declared.syntax.Item.TheVariants.{Relation, Batch, Show}
 use Rattle.lt_model.specs.Tokens.{Shape, word, number}
-use Rattle.lt_model.specs.Grammar.{UpTo, HasFewVariables, the, ◌·◌, limited, listed, each, left_paren, right_paren, semicolon, where_word, some_text, greatest, digits_value, SpellsName, SpellsTerms, SpellsHead, SpellsBody, SpellsWhere, SpellsForm, SpellsStatement, SpellsProgram, SpellsKind, SpellsAt, SpellsItem}
+use Rattle.lt_model.specs.Grammar.{UpTo, HasFewVariables, the, ◌·◌, limited, listed, each, arrow, left_paren, right_paren, semicolon, where_word, some_text, greatest, digits_value, SpellsName, SpellsTerms, SpellsHead, SpellsBody, SpellsWhere, SpellsForm, SpellsStatement, SpellsProgram, SpellsKind, SpellsValues, SpellsColumns, SpellsAt, SpellsItem}
 use Rattle.lt_grammar.specs.Tokens.{Text, relation_word, batch_word, program_word, end_word, commit_word, show_word, at_word, insert_word, delete_word, replace_word, by_word, require_word, print_word}
-use Rattle.lt_grammar.specs.Grammar.{Term, Head, Literal, Statement, insert, delete, replace, require, print, Program, Item, relation, batch, show, only, with_commas, kind_token, head_tokens, where_tokens, need_token, statement_tokens, program_tokens, at_tokens, item_tokens, IsName, IsHead, IsWhere, IsForm, IsStatement, IsProgram, IsVersion, IsItem}
+use Rattle.lt_grammar.specs.Grammar.{Term, Head, Literal, Statement, insert, delete, replace, require, print, Program, Item, relation, batch, show, only, kind_token, kinds_tokens, values_tokens, columns_tokens, head_tokens, where_tokens, need_token, statement_tokens, program_tokens, at_tokens, item_tokens, IsName, IsHead, IsWhere, IsForm, IsStatement, IsProgram, IsVersion, IsItem}
 use Rattle.lt_grammar.specs.Meaning.{level_of, head_value, literal_value, statement_value, program_value, version_value, item_value}
-use Rattle.lt_grammar.proofs.Agrees.{Written, Agrees, led_agrees, ended_agrees, pair_agrees, few_agrees, each_few_agrees, AreFew}
+use Rattle.lt_grammar.proofs.Agrees.{Written, Agrees, to_limit, from_limit, led_agrees, ended_agrees, pair_agrees, listed_agrees, each_few_agrees, AreFew}
 use Rattle.lt_grammar.proofs.BodiesAgree.{names_agree, from_range, to_range, terms_agree, argument_tokens, argument_value, arguments_agree, heads_agree, literals_agree, body_tokens, bodies_value, bodies_agree, wheres_agree}
 use Rattle.lt_grammar.proofs.Variables.{to_few, from_few}
 use Rattle.lt_grammar.proofs.Scripts.{all_kinds}
@@ -162,10 +163,106 @@ versions_agree level = record { there = version_there level; back = version_back
 
 -- ---- items
 
+-- one or more kinds with commas between
+kinds_there : (k : Kind) (ks : List Kind) → listed SpellsKind (k ∷ ks) (kinds_tokens k ks)
+kinds_there k ks = subst (λ (xs : List Kind). listed SpellsKind (k ∷ xs) (kinds_tokens k ks)) (map-id ks) ((listed_agrees kinds_agree).there (k, ks) (tt, all_kinds ks))
+
+kinds_back : (v : List Kind) (ts : List Shape) → listed SpellsKind v ts → (k : Kind) × (ks : List Kind) × (k ∷ ks ≡ v) × (kinds_tokens k ks ≡ ts)
+kinds_back v ts h = let x = (listed_agrees kinds_agree).back v ts h in (x.0.0, x.0.1, ap (λ (xs : List Kind). x.0.0 ∷ xs) (turned (map-id x.0.1)) ∙ x.2, x.3)
+
+values_there : (vs : List Kind) → SpellsValues vs (values_tokens vs)
+values_there [] = refl
+values_there (v ∷ vs) = (arrow ∷ [], kinds_tokens v vs, refl, refl, kinds_there v vs)
+
+values_back : (v : List Kind) (ts : List Shape) → SpellsValues v ts → values_tokens v ≡ ts
+values_back [] ts h = turned h
+values_back (v ∷ vs) ts h =
+    let x = kinds_back (v ∷ vs) h.1 h.4 in
+    let first : x.0 ≡ v = heads_same x.0 v x.1 vs x.2 in
+    let rest : x.1 ≡ vs = tails_same x.0 v x.1 vs x.2 in
+    let same : kinds_tokens v vs ≡ h.1 = subst (λ (ks : List Kind). kinds_tokens v ks ≡ h.1) rest (subst (λ (k : Kind). kinds_tokens k x.1 ≡ h.1) first x.3) in
+    ap (λ (us : List Shape). arrow ∷ us) same ∙ ap (λ (us : List Shape). us ++ h.1) (turned h.3) ∙ turned h.2
+  where
+    heads_same : (a b : Kind) (as_ bs : List Kind) → a ∷ as_ ≡ b ∷ bs → a ≡ b
+    heads_same a b as_ bs e = cc
+
+    tails_same : (a b : Kind) (as_ bs : List Kind) → a ∷ as_ ≡ b ∷ bs → as_ ≡ bs
+    tails_same a b as_ bs e = cc
+
+-- ---- columns
+
+abbrev Columns : Type 0
+Columns = (Kind × List Kind) × List Kind
+
+abbrev columns_spelled : Columns → List Shape
+columns_spelled x = columns_tokens x.0.0 x.0.1 x.1
+
+abbrev front_of : Columns → List Kind
+front_of x = x.0.0 ∷ x.0.1
+
+abbrev columns_value : Columns → List Kind × ℕ
+columns_value x = (front_of x ++ x.1, length (front_of x))
+
+abbrev AreColumns : Level → Columns → Type 0
+AreColumns level x = AtMost level (length x.0.1 + length x.1) 7
+
+more_room : (level : Level) (n m : ℕ) → AtMost level n 7 → m ≡ suc n → AtMost level m 8
+more_room formed n m h e = tt
+more_room few n m h e = omega (arith, h, e)
+more_room fine n m h e = omega (arith, h, e)
+more_room full n m h e = omega (arith, h, e)
+
+less_room : (level : Level) (n m : ℕ) → AtMost level m 8 → m ≡ suc n → AtMost level n 7
+less_room formed n m h e = tt
+less_room few n m h e = omega (arith, h, e)
+less_room fine n m h e = omega (arith, h, e)
+less_room full n m h e = omega (arith, h, e)
+
+columns_count : (x : Columns) → length (front_of x ++ x.1) ≡ suc (length x.0.1 + length x.1)
+columns_count x = let e : length (front_of x ++ x.1) ≡ length (front_of x) + length x.1 = length-append (front_of x) x.1 in omega (arith, e)
+
+columns_there : (level : Level) (x : Columns) → AreColumns level x → SpellsColumns (level_of level) (columns_value x).1 (columns_value x).0 (columns_spelled x)
+columns_there level x h =
+    let front : List Kind = front_of x in
+    let count : length (front ++ x.1) ≡ length front + length x.1 = length-append front x.1 in (
+      omega (arith, count),
+      to_limit level (length (front ++ x.1)) 8 (more_room level (length x.0.1 + length x.1) (length (front ++ x.1)) h (columns_count x)),
+      (
+        kinds_tokens x.0.0 x.0.1,
+        values_tokens x.1,
+        refl,
+        subst (λ (ks : List Kind). listed SpellsKind ks (kinds_tokens x.0.0 x.0.1)) (turned (take-append_seam front x.1)) (kinds_there x.0.0 x.0.1),
+        subst (λ (ks : List Kind). SpellsValues ks (values_tokens x.1)) (turned (drop-append_seam front x.1)) (values_there x.1),
+      ),
+    )
+
+abbrev with_count : List Kind → ℕ → List Kind × ℕ
+with_count ks n = (ks, n)
+
+both_same : (xs ys : List Kind) (n m : ℕ) → xs ≡ ys → n ≡ m → with_count xs n ≡ with_count ys m
+both_same xs ys n m e f = ap (λ (ks : List Kind). with_count ks n) e ∙ ap (with_count ys) f
+
+columns_back : (level : Level) (v : List Kind × ℕ) (ts : List Shape) → SpellsColumns (level_of level) v.1 v.0 ts → Written (AreColumns level) columns_spelled columns_value v ts
+columns_back level v ts h =
+    let p = h.2 in
+    let k = kinds_back (take v.1 v.0) p.0 p.3 in
+    let x : Columns = ((k.0, k.1), drop v.1 v.0) in
+    let whole : front_of x ++ x.1 ≡ v.0 = ap (λ (ks : List Kind). ks ++ drop v.1 v.0) k.2 ∙ take-append-drop v.1 v.0 in
+    let count : length (front_of x) ≡ v.1 = ap (λ (ks : List Kind). length ks) k.2 ∙ length-take-le v.1 v.0 h.0 in
+    let size : length v.0 ≡ suc (length x.0.1 + length x.1) = ap (λ (ks : List Kind). length ks) (turned whole) ∙ columns_count x in (
+      x,
+      less_room level (length x.0.1 + length x.1) (length v.0) (from_limit level (length v.0) 8 h.1) size,
+      both_same (front_of x ++ x.1) v.0 (length (front_of x)) v.1 whole count,
+      ap (λ (us : List Shape). us ++ values_tokens x.1) k.3 ∙ ap (λ (us : List Shape). p.0 ++ us) (values_back (drop v.1 v.0) p.1 p.4) ∙ turned p.2,
+    )
+
+columns_agree : (level : Level) → Agrees (AreColumns level) columns_spelled columns_value (λ (v : List Kind × ℕ). SpellsColumns (level_of level) v.1 v.0)
+columns_agree level = record { there = columns_there level; back = columns_back level }
+
 relation_parts : (level : Level)
-    → Agrees (λ (x : Text × (Kind × List Kind)). IsName x.0 × AreFew kinds_agree level 7 x.1) (λ x. relation_word ∷ word x.0 ∷ left_paren ∷ (with_commas (λ k. only (kind_token k)) x.1.0 x.1.1 ++ right_paren ∷ semicolon ∷ [])) (λ x. (x.0, x.1.0 ∷ map (λ k. k) x.1.1))
-    (λ (v : Text × List Kind). the relation_word · SpellsName v.0 · the left_paren · limited (level_of level) 8 listed SpellsKind v.1 · the right_paren · the semicolon)
-relation_parts level = led_agrees (pair_agrees names_agree (led_agrees (two_more (few_agrees kinds_agree level 7) right_paren semicolon) left_paren)) relation_word
+    → Agrees (λ (x : Text × Columns). IsName x.0 × AreColumns level x.1) (λ x. relation_word ∷ word x.0 ∷ left_paren ∷ (columns_spelled x.1 ++ right_paren ∷ semicolon ∷ [])) (λ x. (x.0, columns_value x.1))
+    (λ (v : Text × (List Kind × ℕ)). the relation_word · SpellsName v.0 · the left_paren · SpellsColumns (level_of level) v.1.1 v.1.0 · the right_paren · the semicolon)
+relation_parts level = led_agrees (pair_agrees names_agree (led_agrees (two_more (columns_agree level) right_paren semicolon) left_paren)) relation_word
 
 batch_parts : (level : Level)
     → Agrees (λ (ps : List Program). AllByRecursion (IsProgram level) ps × AtMost level (length ps) 256) (λ ps. batch_word ∷ (flat_map program_tokens ps ++ commit_word ∷ semicolon ∷ [])) (map program_value)
@@ -179,29 +276,24 @@ show_parts level = led_agrees (pair_agrees names_agree (one_more (versions_agree
 
 -- the tokens of an item, grouped from the right
 abbrev item_grouped : Item → List Shape
-item_grouped (relation r k ks) = relation_word ∷ word r ∷ left_paren ∷ (with_commas (λ x. only (kind_token x)) k ks ++ right_paren ∷ semicolon ∷ [])
+item_grouped (relation r k ks vs) = relation_word ∷ word r ∷ left_paren ∷ (columns_tokens k ks vs ++ right_paren ∷ semicolon ∷ [])
 item_grouped (batch ps) = batch_word ∷ (flat_map program_tokens ps ++ commit_word ∷ semicolon ∷ [])
 item_grouped (show r version) = show_word ∷ word r ∷ (at_tokens version ++ semicolon ∷ [])
 
 item_regroup : (x : Item) → item_grouped x ≡ item_tokens x
-item_regroup (relation r k ks) = ap (λ (ts : List Shape). relation_word ∷ word r ∷ left_paren ∷ ts) (turned (append_assoc (with_commas (λ x. only (kind_token x)) k ks) (only right_paren) (only semicolon)))
+item_regroup (relation r k ks vs) = ap (λ (ts : List Shape). relation_word ∷ word r ∷ left_paren ∷ ts) (turned (append_assoc (columns_tokens k ks vs) (only right_paren) (only semicolon)))
 item_regroup (batch ps) = ap (λ (ts : List Shape). batch_word ∷ ts) (turned (append_assoc (flat_map program_tokens ps) (only commit_word) (only semicolon)))
 item_regroup (show r version) = refl
 
 grouped_there : (level : Level) (x : Item) → IsItem level x → SpellsItem (level_of level) (item_value x) (item_grouped x)
-grouped_there level (relation r k ks) h =
-    subst (λ (kinds : List Kind). SpellsItem (level_of level) (Relation r (k ∷ kinds)) (item_grouped (relation r k ks))) (map-id ks) ((relation_parts level).there (r, (k, ks)) (h.0, (tt, (all_kinds ks, h.1))))
+grouped_there level (relation r k ks vs) h = (relation_parts level).there (r, ((k, ks), vs)) h
 grouped_there level (batch ps) h = (batch_parts level).there ps h
 grouped_there level (show r version) h = (show_parts level).there (r, version) h
 
 grouped_back : (level : Level) (v : ItemValue) (ts : List Shape) → SpellsItem (level_of level) v ts → Written (IsItem level) item_grouped item_value v ts
-grouped_back level (Relation name kinds) ts h =
-    let x = (relation_parts level).back (name, kinds) ts h in (
-      relation x.0.0 x.0.1.0 x.0.1.1,
-      (x.1.0, x.1.1.1.1),
-      ap (λ (ks : List Kind). Relation x.0.0 (x.0.1.0 ∷ ks)) (turned (map-id x.0.1.1)) ∙ ap (λ (w : Text × List Kind). Relation w.0 w.1) x.2,
-      x.3,
-    )
+grouped_back level (Relation name kinds keys) ts h =
+    let x = (relation_parts level).back (name, (kinds, keys)) ts h in
+    (relation x.0.0 x.0.1.0.0 x.0.1.0.1 x.0.1.1, x.1, ap (λ (w : Text × (List Kind × ℕ)). Relation w.0 w.1.0 w.1.1) x.2, x.3)
 grouped_back level (Batch programs) ts h = let x = (batch_parts level).back programs ts h in (batch x.0, x.1, ap Batch x.2, x.3)
 grouped_back level (Show name version) ts h =
     let x = (show_parts level).back (name, version) ts h in

@@ -14,7 +14,7 @@ use Rattle.lt_grammar.specs.Tokens.{Text, same_shape, end_word, program_word, in
 use Rattle.lt_model.specs.declared.syntax.Op.TheVariants.{Eq}
 use Rattle.lt_grammar.specs.Grammar.{Head, quoted, compare, Literal, Statement, insert, delete, replace, require, print, Program, IsStatement, IsProgram, statement_tokens, program_tokens}
 use Rattle.lt_grammar.specs.Productions.{name_at, statement_at, starts_statement, program_of, program_at, is_program}
-use Rattle.lt_grammar.proofs.Shapes.{marks, same_shape_is}
+use Rattle.lt_grammar.proofs.Shapes.{marks, blamed, same_shape_is}
 use Rattle.lt_grammar.proofs.Terms.{Names, names_read}
 use Rattle.lt_grammar.proofs.Statements.{Statements, statements_read, statements_begin}
 
@@ -58,7 +58,7 @@ abbrev pub Blocks : Language Shape (List Statement)
 Blocks = Many starts_statement Statements 64
 
 pub blocks_read : Reads marks Blocks (many starts_statement statement_at at_once 64)
-blocks_read = several_reads marks starts_statement Statements statement_at statements_read statements_begin statements_start refl (λ x t h. refl) 64
+blocks_read = several_reads marks starts_statement Statements statement_at statements_read statements_begin statements_start (blamed starts_statement refl refl) (λ x t h. refl) 64
 
 abbrev ProgramParts : Language Shape (Text × List Statement)
 ProgramParts = Led program_word (Both Names (Ended semicolon (Ended end_word Blocks)))

@@ -1,8 +1,8 @@
 -- Items are read exactly, and where their reader stops is known.
-use Rattle.std.proofs.Common.{◌≡◌, Bool, true, false, List, [], ◌∷◌, ◌++◌, Option, Some, None, Err, refl, sym as turned, ap, inl, inr, ◌⊎◌}
+use Rattle.std.proofs.Common.{◌≡◌, ℕ, ◌+◌, ◌-◌, Bool, true, false, List, [], ◌∷◌, ◌++◌, length, Option, Some, None, Err, refl, sym as turned, ap, inl, inr, ◌⊎◌, arith}
 use Rattle.std.specs.List.{flat_map, AllByRecursion}
-use Rattle.lt_reading.specs.Reading.{Stop, in_table, both, led, ended, between, choice, maybe, many, at_once, listed}
-use Rattle.lt_reading.specs.Language.{Level, formed, full, Language, none}
+use Rattle.lt_reading.specs.Reading.{Stop, in_table, both, led, ended, between, choice, maybe, many, at_once}
+use Rattle.lt_reading.specs.Language.{Level, formed, few, fine, full, AtMost, Language, none}
 use Rattle.lt_reading.proofs.Exact.{Reads, Begins}
 use Rattle.lt_reading.proofs.OneToken.{Plain, table_reads}
 use Rattle.lt_reading.proofs.Sequence.{Both, loose_reads}
@@ -11,16 +11,17 @@ use Rattle.lt_reading.proofs.Marked.{Led, Ended, Between, led_reads, ended_reads
 use Rattle.lt_reading.proofs.Choice.{Choice, choice_reads}
 use Rattle.lt_reading.proofs.Optional.{Maybe, maybe_reads}
 use Rattle.lt_reading.proofs.Repeat.{Many, ending_free}
-use Rattle.lt_reading.proofs.Listed.{Listed, Started, listed_reads, several_reads}
+use Rattle.lt_reading.proofs.Listed.{Started, several_reads}
+use Rattle.lt_reading.proofs.Trail.{Trailed, trailed_reads, trailed_free}
 use Rattle.lt_reading.proofs.Scripts as scripts
 use Rattle.lt_model.specs.Tokens.{Shape, word}
-use Rattle.lt_model.specs.Grammar.{comma, semicolon, left_paren, right_paren}
+use Rattle.lt_model.specs.Grammar.{semicolon, arrow, left_paren, right_paren}
 use Rattle.lt_grammar.specs.Tokens.{Text, same_shape, relation_word, batch_word, commit_word, show_word, at_word, int_word, sym_word}
 use Rattle.lt_model.specs.declared.kind.Kind.{Kind}
 use Rattle.lt_model.specs.declared.kind.Kind.TheVariants.{Int, Sym}
-use Rattle.lt_grammar.specs.Grammar.{Program, Item, relation, batch, show, IsItem, only, with_commas, in_parens, kind_token, program_tokens, at_tokens, item_tokens, Items, script_marks}
-use Rattle.lt_grammar.specs.Productions.{name_at, number_at, program_at, is_program, kind_table, kind_at, starts_kind, relation_at, batch_at, is_at, show_at, is_relation, is_batch, item_of, item_at}
-use Rattle.lt_grammar.proofs.Shapes.{marks, same_shape_is}
+use Rattle.lt_grammar.specs.Grammar.{Program, Item, relation, batch, show, IsItem, only, in_parens, kind_token, columns_tokens, program_tokens, at_tokens, item_tokens, Items, script_marks}
+use Rattle.lt_grammar.specs.Productions.{name_at, number_at, program_at, is_program, kind_table, kind_at, starts_kind, columns_at, relation_at, batch_at, is_at, show_at, is_relation, is_batch, item_of, item_at}
+use Rattle.lt_grammar.proofs.Shapes.{marks, blamed, same_shape_is}
 use Rattle.lt_grammar.proofs.Terms.{Names, names_read, Numbers, numbers_read}
 use Rattle.lt_grammar.proofs.Programs.{or_true, Programs, programs_read, programs_begin, programs_start}
 
@@ -50,20 +51,25 @@ kinds_start t h =
 
 -- ---- relations, batches, questions
 
-abbrev pub Columns : Language Shape (Kind × List Kind)
-Columns = Between left_paren right_paren (Listed marks Kinds 7)
+abbrev pub Columns : Language Shape ((Kind × List Kind) × List Kind)
+Columns = Trailed marks arrow Kinds 7
 
-abbrev pub Relations : Language Shape (Text × (Kind × List Kind))
-Relations = Led relation_word (Both Names (Ended semicolon Columns))
+pub columns_read : Reads marks Columns columns_at
+unfolding columns_at
+columns_read = trailed_reads marks arrow refl refl starts_kind Kinds kind_at kinds_read kinds_begin kinds_start (blamed starts_kind refl refl) (λ x. refl) (λ x. refl) 7
+
+columns_end : (x : (Kind × List Kind) × List Kind) → Columns.bars x right_paren ≡ false
+columns_end = trailed_free marks arrow refl refl starts_kind Kinds kind_at kinds_read kinds_begin kinds_start (blamed starts_kind refl refl) (λ x. refl) (λ x. refl) 7 right_paren refl refl (λ x. refl)
+
+abbrev pub Relations : Language Shape (Text × ((Kind × List Kind) × List Kind))
+Relations = Led relation_word (Both Names (Ended semicolon (Between left_paren right_paren Columns)))
 
 pub relations_read : Reads marks Relations relation_at
 unfolding relation_at
 relations_read =
-    led_reads marks relation_word (Both Names (Ended semicolon Columns)) (both name_at (ended same_shape semicolon (between same_shape left_paren right_paren (listed same_shape comma starts_kind kind_at 7))))
-    (loose_reads marks Names name_at (Ended semicolon Columns) (ended same_shape semicolon (between same_shape left_paren right_paren (listed same_shape comma starts_kind kind_at 7))) names_read
-    (ended_reads marks semicolon Columns (between same_shape left_paren right_paren (listed same_shape comma starts_kind kind_at 7))
-    (between_reads marks left_paren right_paren (Listed marks Kinds 7) (listed same_shape comma starts_kind kind_at 7) (listed_reads marks starts_kind Kinds kind_at kinds_read kinds_begin kinds_start refl (λ x. refl) 7)
-    (λ x. ending_free (λ t. same_shape t comma) Kinds.bars none x.1 right_paren refl (λ y. refl) refl))
+    led_reads marks relation_word (Both Names (Ended semicolon (Between left_paren right_paren Columns))) (both name_at (ended same_shape semicolon (between same_shape left_paren right_paren columns_at)))
+    (loose_reads marks Names name_at (Ended semicolon (Between left_paren right_paren Columns)) (ended same_shape semicolon (between same_shape left_paren right_paren columns_at)) names_read
+    (ended_reads marks semicolon (Between left_paren right_paren Columns) (between same_shape left_paren right_paren columns_at) (between_reads marks left_paren right_paren Columns columns_at columns_read columns_end)
     (λ x. refl))
     (λ a t. refl))
 
@@ -75,7 +81,7 @@ unfolding batch_at
 batches_read =
     led_reads marks batch_word (Ended semicolon (Ended commit_word (Many is_program Programs 256))) (ended same_shape semicolon (ended same_shape commit_word (many is_program program_at at_once 256)))
     (ended_reads marks semicolon (Ended commit_word (Many is_program Programs 256)) (ended same_shape commit_word (many is_program program_at at_once 256))
-    (ended_reads marks commit_word (Many is_program Programs 256) (many is_program program_at at_once 256) (several_reads marks is_program Programs program_at programs_read programs_begin programs_start refl (λ x t h. refl) 256)
+    (ended_reads marks commit_word (Many is_program Programs 256) (many is_program program_at at_once 256) (several_reads marks is_program Programs program_at programs_read programs_begin programs_start (blamed is_program refl refl) (λ x t h. refl) 256)
     (λ xs. ending_free is_program Programs.bars none xs commit_word refl (λ y. refl) refl))
     (λ x. refl))
 
@@ -102,18 +108,19 @@ shows_read =
 -- ---- items
 
 abbrev pub Parts : Type 0
-Parts = (Text × (Kind × List Kind)) ⊎ (List Program ⊎ (Text × Option Text))
+Parts = (Text × ((Kind × List Kind) × List Kind)) ⊎ (List Program ⊎ (Text × Option Text))
 
 abbrev ItemParts : Language Shape Parts
 ItemParts = Choice Relations (Choice Batches Shows)
 
 abbrev pub item_parts : Item → Parts
-item_parts (relation r k ks) = inl (r, (k, ks))
+item_parts (relation r k ks vs) = inl (r, ((k, ks), vs))
 item_parts (batch ps) = inr (inl ps)
 item_parts (show r version) = inr (inr (r, version))
 
 item_same : (a : Parts) → ItemParts.Holds formed a → item_tokens (item_of a) ≡ ItemParts.spell a
-item_same (inl x) h = refl
+item_same (inl (r, ((k, ks), []))) h = refl
+item_same (inl (r, ((k, ks), v ∷ vs))) h = refl
 item_same (inr (inl ps)) h = refl
 item_same (inr (inr (r, None))) h = refl
 item_same (inr (inr (r, Some d))) h = refl
@@ -124,12 +131,31 @@ item_bars_same (inr (inl ps)) h = refl
 item_bars_same (inr (inr x)) h = refl
 
 item_is : (x : Item) → item_of (item_parts x) ≡ x
-item_is (relation r k ks) = refl
+item_is (relation r k ks vs) = refl
 item_is (batch ps) = refl
 item_is (show r version) = refl
 
+-- so many, and so many behind them, are at most 7 together
+room_to : (level : Level) (n m : ℕ) → AtMost level n 7 → AtMost level m (7 - n) → AtMost level (n + m) 7
+room_to formed n m h k = tt
+room_to few n m h k = omega (arith, h, k)
+room_to fine n m h k = omega (arith, h, k)
+room_to full n m h k = omega (arith, h, k)
+
+room_front : (level : Level) (n m : ℕ) → AtMost level (n + m) 7 → AtMost level n 7
+room_front formed n m h = tt
+room_front few n m h = omega (arith, h)
+room_front fine n m h = omega (arith, h)
+room_front full n m h = omega (arith, h)
+
+room_behind : (level : Level) (n m : ℕ) → AtMost level (n + m) 7 → AtMost level m (7 - n)
+room_behind formed n m h = tt
+room_behind few n m h = omega (arith, h)
+room_behind fine n m h = omega (arith, h)
+room_behind full n m h = omega (arith, h)
+
 item_to : (level : Level) (a : Parts) → ItemParts.Holds level a → IsItem level (item_of a)
-item_to level (inl x) h = (h.0, h.1.1.1)
+item_to level (inl (r, ((k, ks), vs))) h = (h.0, room_to level (length ks) (length vs) h.1.0.1.1 h.1.1.1)
 item_to level (inr (inl ps)) h = h
 item_to level (inr (inr (r, None))) h = h
 item_to level (inr (inr (r, Some d))) h = h
@@ -139,7 +165,7 @@ all_kinds [] = tt
 all_kinds (k ∷ ks) = (tt, all_kinds ks)
 
 item_from : (level : Level) (x : Item) → IsItem level x → ItemParts.Holds level (item_parts x)
-item_from level (relation r k ks) h = (h.0, (tt, (all_kinds ks, h.1)))
+item_from level (relation r k ks vs) h = (h.0, ((tt, (all_kinds ks, room_front level (length ks) (length vs) h.1)), (all_kinds vs, room_behind level (length ks) (length vs) h.1)))
 item_from level (batch ps) h = h
 item_from level (show r None) h = h
 item_from level (show r (Some d)) h = h
@@ -166,7 +192,7 @@ abbrev any : Shape → Bool
 any t = true
 
 items_begin : Begins any true Items
-items_begin (relation r k ks) h = refl
+items_begin (relation r k ks vs) h = refl
 items_begin (batch ps) h = refl
 items_begin (show r version) h = refl
 
@@ -177,7 +203,7 @@ script_tokens items = flat_map item_tokens items
 
 -- each item ends with a semicolon
 item_end : (x : Item) → (b : List Shape) × (item_tokens x ≡ b ++ semicolon ∷ [])
-item_end (relation r k ks) = (relation_word ∷ word r ∷ in_parens (with_commas (λ x. only (kind_token x)) k ks), refl)
+item_end (relation r k ks vs) = (relation_word ∷ word r ∷ in_parens (columns_tokens k ks vs), refl)
 item_end (batch ps) = (batch_word ∷ (flat_map program_tokens ps ++ only commit_word), refl)
 item_end (show r version) = (show_word ∷ word r ∷ at_tokens version, refl)
 

@@ -16,7 +16,7 @@ use Rattle.lt_model.specs.Grammar.{comma, left_paren, right_paren, digits_value}
 use Rattle.lt_grammar.specs.Tokens.{Text, same_shape, is_reserved, minus}
 use Rattle.lt_grammar.specs.Grammar.{Term, name, numeral, quoted, Head, IsName, IsTerm, IsHead, past, term_tokens, head_tokens}
 use Rattle.lt_grammar.specs.Productions.{is_word, is_number, is_minus, name_of, digits_of, quoted_of, name_at, number_at, quoted_at, constant_of, term_of, constant_at, term_at, starts_term, terms_at, head_of, head_at}
-use Rattle.lt_grammar.proofs.Shapes.{marks, same_shape_is}
+use Rattle.lt_grammar.proofs.Shapes.{marks, blamed, same_shape_is}
 
 -- ---- names
 
@@ -221,7 +221,7 @@ pub arguments_read : Reads marks Arguments terms_at
 unfolding terms_at
 arguments_read =
     between_reads marks left_paren right_paren (Listed marks Terms 7) (listed same_shape comma starts_term term_at 7)
-    (listed_reads marks starts_term Terms term_at terms_read terms_begin terms_start refl (λ x. refl) 7)
+    (listed_reads marks starts_term Terms term_at terms_read terms_begin terms_start (blamed starts_term refl refl) (λ x. refl) 7)
     (λ x. ending_free (λ t. same_shape t comma) Terms.bars none x.1 right_paren refl (λ y. refl) refl)
 
 -- ---- heads

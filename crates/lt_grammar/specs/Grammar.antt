@@ -1,5 +1,5 @@
 -- The grammar: the tokens of each item, and what is asked of it at each level.
-use Rattle.std.specs.Prelude.{◌≡◌, ℕ, ◌<◌, ◌-◌, List, [], ◌∷◌, ◌++◌, length, fold, Bool, true, false, nat_le, Option, Some, None, codes}
+use Rattle.std.specs.Prelude.{◌≡◌, ℕ, ◌<◌, ◌+◌, ◌-◌, ◌||◌, List, [], ◌∷◌, ◌++◌, length, fold, Bool, true, false, nat_le, Option, Some, None, codes}
 use Rattle.std.specs.List.{flat_map, AllByRecursion}
 use Rattle.lt_face.specs.Limits.{most_columns, most_literals, most_programs, most_statements, most_variables}
 use Rattle.lt_model.specs.declared.kind.Kind.{Kind}
@@ -9,8 +9,8 @@ use Rattle.lt_model.specs.declared.syntax.Op.TheVariants.{Eq, Ne, Lt, Le, Gt, Ge
 use Rattle.lt_reading.specs.Language.{Level, AtMost, InRange, AtClose, Language, Marks, none}
 use Rattle.lt_model.specs.Tokens.{Shape, word, number, symbol, sign}
 use Rattle.lt_model.specs.Variables.{with_name}
-use Rattle.lt_model.specs.Grammar.{where_word, left_paren, right_paren, comma, semicolon, digits_value}
-use Rattle.lt_grammar.specs.Tokens.{Text, is_reserved, relation_word, batch_word, program_word, end_word, commit_word, show_word, at_word, insert_word, delete_word, replace_word, by_word, require_word, some_word, none_word, print_word, int_word, sym_word, not_word, equals, plus, minus}
+use Rattle.lt_model.specs.Grammar.{where_word, left_paren, right_paren, comma, semicolon, arrow, digits_value}
+use Rattle.lt_grammar.specs.Tokens.{Text, same_shape, is_reserved, relation_word, batch_word, program_word, end_word, commit_word, show_word, at_word, insert_word, delete_word, replace_word, by_word, require_word, some_word, none_word, print_word, int_word, sym_word, not_word, equals, plus, minus}
 
 -- ---- values
 
@@ -45,7 +45,8 @@ pub record Program : Type 0 where
   pub statements : List Statement
 
 pub data Item : Type 0 where
-  relation : Text → Kind → List Kind → Item
+  -- the kinds of the key columns, and of the value columns behind the arrow
+  relation : Text → Kind → List Kind → List Kind → Item
   batch : List Program → Item
   show : Text → Option Text → Item
 
@@ -64,6 +65,17 @@ in_parens ts = only left_paren ++ ts ++ only right_paren
 abbrev pub kind_token : Kind → Shape
 kind_token Int = int_word
 kind_token Sym = sym_word
+
+abbrev pub kinds_tokens : Kind → List Kind → List Shape
+kinds_tokens k ks = with_commas (λ x. only (kind_token x)) k ks
+
+-- nothing stands where there is no value column
+abbrev pub values_tokens : List Kind → List Shape
+values_tokens [] = []
+values_tokens (v ∷ vs) = only arrow ++ kinds_tokens v vs
+
+abbrev pub columns_tokens : Kind → List Kind → List Kind → List Shape
+columns_tokens k ks vs = kinds_tokens k ks ++ values_tokens vs
 
 abbrev pub term_tokens : Term → List Shape
 term_tokens (name text) = only (word text)
@@ -120,7 +132,7 @@ at_tokens None = []
 at_tokens (Some digits) = only at_word ++ only (number digits)
 
 abbrev pub item_tokens : Item → List Shape
-item_tokens (relation r k ks) = only relation_word ++ only (word r) ++ (in_parens (with_commas (λ x. only (kind_token x)) k ks) ++ only semicolon)
+item_tokens (relation r k ks vs) = only relation_word ++ only (word r) ++ (in_parens (columns_tokens k ks vs) ++ only semicolon)
 item_tokens (batch ps) = only batch_word ++ ((flat_map program_tokens ps ++ only commit_word) ++ only semicolon)
 item_tokens (show r version) = only show_word ++ only (word r) ++ (at_tokens version ++ only semicolon)
 
@@ -211,7 +223,7 @@ IsVersion level None = Unit {0}
 IsVersion level (Some digits) = InRange level (digits_value digits < past false)
 
 abbrev pub IsItem : Level → Item → Type 0
-IsItem level (relation r k ks) = IsName r × AtMost level (length ks) (most_columns - 1)
+IsItem level (relation r k ks vs) = IsName r × AtMost level (length ks + length vs) (most_columns - 1)
 IsItem level (batch ps) = AllByRecursion (IsProgram level) ps × AtMost level (length ps) most_programs
 IsItem level (show r version) = IsName r × IsVersion level version
 
@@ -219,6 +231,10 @@ IsItem level (show r version) = IsName r × IsVersion level version
 abbrev pub Items : Language Shape Item
 Items = record { spell = item_tokens; Holds = IsItem; bars = λ x. none }
 
--- The comma, the semicolon, at which a statement is judged, and the numbers.
+-- the comma and the arrow are never blamed for what is too many
+abbrev pub is_spared : Shape → Bool
+is_spared t = same_shape t comma || same_shape t arrow
+
+-- These two, the semicolon, at which a statement is judged, and the numbers.
 abbrev pub script_marks : Marks Shape
-script_marks = record { comma = comma; closing = semicolon; IsNumber = λ t. (digits : Text) × (t ≡ number digits) }
+script_marks = record { spared = is_spared; closing = semicolon; IsNumber = λ t. (digits : Text) × (t ≡ number digits) }

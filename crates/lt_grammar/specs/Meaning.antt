@@ -1,5 +1,5 @@
 -- What the syntax tree stands for: an item of the language, with its cells in place of digits and texts.
-use Rattle.std.specs.Prelude.{ℕ, List, ◌∷◌, map, Option, Some, None}
+use Rattle.std.specs.Prelude.{ℕ, List, ◌∷◌, ◌++◌, length, map, Option, Some, None}
 use Rattle.lt_model.specs.declared.kind.Kind.TheVariants.{Int, Sym}
 use Rattle.lt_model.specs.declared.syntax.Term.{Term}
 use Rattle.lt_model.specs.declared.syntax.Term.TheVariants.{Name, Cell}
@@ -59,6 +59,6 @@ version_value None = None
 version_value (Some digits) = Some (digits_value digits)
 
 abbrev pub item_value : tree.Item → Item
-item_value (tree.relation r k ks) = Relation r (k ∷ ks)
+item_value (tree.relation r k ks vs) = Relation r ((k ∷ ks) ++ vs) (length (k ∷ ks))
 item_value (tree.batch ps) = Batch (map program_value ps)
 item_value (tree.show r version) = Show r (version_value version)

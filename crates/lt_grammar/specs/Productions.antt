@@ -2,9 +2,9 @@
 use Rattle.std.specs.Prelude.{Bool, true, false, ◌||◌, ◌-◌, cond, List, [], ◌∷◌, Option, Some, None, nat_lt, codes, ◌⊎◌}
 use Rattle.lt_face.specs.Limits.{most_columns, most_literals, most_programs, most_statements}
 use mathlib.Core.Logic.{inl, inr}
-use Rattle.lt_reading.specs.Reading.{Reader, next_is, one, always, in_table, both, led, ended, between, choice, maybe, many, at_once, listed, closed, given}
+use Rattle.lt_reading.specs.Reading.{Reader, next_is, one, always, in_table, both, led, ended, between, choice, maybe, many, at_once, listed, trailed, closed, given}
 use Rattle.lt_model.specs.Tokens.{Shape, word, number, symbol, sign}
-use Rattle.lt_model.specs.Grammar.{where_word, left_paren, right_paren, comma, semicolon, digits_value}
+use Rattle.lt_model.specs.Grammar.{where_word, left_paren, right_paren, comma, semicolon, arrow, digits_value}
 use Rattle.lt_grammar.specs.Tokens.{Text, same_shape, is_reserved, relation_word, batch_word, program_word, end_word, commit_word, show_word, at_word, insert_word, delete_word, replace_word, by_word, require_word, some_word, none_word, print_word, int_word, sym_word, not_word, equals, plus, minus}
 use Rattle.lt_model.specs.declared.kind.Kind.{Kind}
 use Rattle.lt_model.specs.declared.kind.Kind.TheVariants.{Int, Sym}
@@ -243,8 +243,12 @@ kind_at = one (in_table same_shape kind_table) always
 abbrev pub starts_kind : Shape → Bool
 starts_kind t = same_shape t int_word || same_shape t sym_word
 
-unfoldable pub relation_at : Reader Shape (Text × (Kind × List Kind))
-relation_at = led same_shape relation_word (both name_at (ended same_shape semicolon (between same_shape left_paren right_paren (listed same_shape comma starts_kind kind_at (most_columns - 1)))))
+-- the key columns, and the value columns behind an arrow
+unfoldable pub columns_at : Reader Shape ((Kind × List Kind) × List Kind)
+columns_at = trailed same_shape arrow comma starts_kind kind_at (most_columns - 1)
+
+unfoldable pub relation_at : Reader Shape (Text × ((Kind × List Kind) × List Kind))
+relation_at = led same_shape relation_word (both name_at (ended same_shape semicolon (between same_shape left_paren right_paren columns_at)))
 
 unfoldable pub batch_at : Reader Shape (List Program)
 batch_at = led same_shape batch_word (ended same_shape semicolon (ended same_shape commit_word (many is_program program_at at_once most_programs)))
@@ -261,8 +265,8 @@ is_relation t = same_shape t relation_word
 abbrev pub is_batch : Shape → Bool
 is_batch t = same_shape t batch_word
 
-abbrev pub item_of : (Text × (Kind × List Kind)) ⊎ (List Program ⊎ (Text × Option Text)) → Item
-item_of (inl x) = relation x.0 x.1.0 x.1.1
+abbrev pub item_of : (Text × ((Kind × List Kind) × List Kind)) ⊎ (List Program ⊎ (Text × Option Text)) → Item
+item_of (inl x) = relation x.0 x.1.0.0 x.1.0.1 x.1.1
 item_of (inr (inl ps)) = batch ps
 item_of (inr (inr x)) = show x.0 x.1
 

@@ -1,6 +1,6 @@
 -- Worked examples of variables, answers, states with marks on them, effects, runs and limits.
 use Rattle.std.proofs.Common.{refl, arith}
-use Rattle.std.specs.Prelude.{◌≡◌, ℕ, ◌+◌, ◌*◌, ◌^◌, true, false, List, [], ◌∷◌, codes, Some, None}
+use Rattle.std.specs.Prelude.{◌≡◌, ℕ, ◌+◌, ◌*◌, ◌^◌, Bool, true, false, List, [], ◌∷◌, codes, Some, None}
 use Rattle.std.specs.Fmt.{digits}
 use Rattle.lt_face.specs.State.{Row, State}
 use Rattle.lt_model.specs.declared.kind.Kind.TheVariants.{Int, Sym}
@@ -19,14 +19,14 @@ use Rattle.lt_model.specs.declared.syntax.Statement.TheVariants as statements
 use Rattle.lt_model.specs.Cells.{zero_cell, last_int, is_cell, sym_cell, sym_text, cell_text, sum_of}
 use Rattle.lt_model.specs.Grammar.{signed_cell}
 use Rattle.lt_model.specs.State.{IsState}
-use Rattle.lt_model.specs.Schema.{Schema, number_of, columns_of}
+use Rattle.lt_model.specs.Schema.{Schema, number_of, columns_of, keys_of}
 use Rattle.lt_model.specs.Variables.{variables, place_of}
 use Rattle.lt_model.specs.Check.{Bad, checked, choice_for}
 use Rattle.lt_model.specs.Marks.{AreMarks, and_then, laid}
 use Rattle.lt_model.specs.Laws.{mark_on}
 use Rattle.lt_model.specs.Answers.{assignment_of, answers, some_answer, picks}
 use Rattle.lt_model.specs.Bound.{is_bound, are_bound}
-use Rattle.lt_model.specs.Effect.{Writes, Requires, Prints, effect}
+use Rattle.lt_model.specs.Effect.{Writes, Requires, Prints, Clashes, effect}
 use Rattle.lt_model.specs.Run.{run}
 use Rattle.lt_model.specs.Serial.{serial}
 use Rattle.lt_model.specs.Fits.{IsAtomOf, FitMarks}
@@ -93,13 +93,16 @@ least_from_zero = refl
 -- ---- relations and variables of a program as it is written
 
 abbrev schema : Schema
-schema = (codes "r", Int ∷ []) ∷ (codes "e", Int ∷ Sym ∷ []) ∷ []
+schema = (codes "r", Int ∷ [], 1) ∷ (codes "e", Int ∷ Sym ∷ [], 1) ∷ []
 
 numbers : (number_of schema (codes "r") ≡ Some 0) × (number_of schema (codes "e") ≡ Some 1) × (number_of schema (codes "s") ≡ None)
 numbers = (refl, refl, refl)
 
 columns : (columns_of schema (codes "e") ≡ Int ∷ Sym ∷ []) × (columns_of schema (codes "s") ≡ [])
 columns = (refl, refl)
+
+keys : (keys_of schema (codes "e") ≡ 1) × (keys_of schema (codes "s") ≡ 0)
+keys = (refl, refl)
 
 -- insert r(m) where r(n), m = n + 1;
 abbrev next_of_each : Statement
@@ -236,7 +239,7 @@ r_var v = record { relation = 0; terms = Var v ∷ [] }
 
 -- replace r(x0) by r(x1) where r(x0), x1 = x0 + 1;
 abbrev count_up : Stmt
-count_up = Replace (r_var 0) (r_var 1) next_body
+count_up = Replace (r_var 0) (r_var 1) 1 next_body
 
 -- the row of 5 goes as an old one and comes as a new one: it comes
 replaced : effect count_up (state_of ((int 4 ∷ []) ∷ (int 5 ∷ []) ∷ []) []) ≡ Writes (minus (int 4) ∷ plus (int 5) ∷ plus (int 6) ∷ [])
@@ -247,8 +250,41 @@ deleted : effect (Delete (r_cell 9) no_body) (state_of [] []) ≡ Writes (minus 
 deleted = refl
 
 -- also where the row is there
-inserted : effect (Insert (r_cell 9) no_body) (state_of ((9 ∷ []) ∷ []) []) ≡ Writes (plus 9 ∷ [])
+inserted : effect (Insert (r_cell 9) 1 no_body) (state_of ((9 ∷ []) ∷ []) []) ≡ Writes (plus 9 ∷ [])
 inserted = refl
+
+-- f has a key column, the first: other rows of the key go
+abbrev f_row : ℕ → ℕ → Atom
+f_row k v = record { relation = 1; terms = Cell k ∷ Cell v ∷ [] }
+
+abbrev f_mark : Bool → ℕ → ℕ → Mark
+f_mark plus k v = record { relation = 1; row = k ∷ v ∷ []; plus = plus }
+
+displaces : effect (Insert (f_row 3 8) 1 no_body) (state_of [] ((2 ∷ 5 ∷ []) ∷ (3 ∷ 5 ∷ []) ∷ (3 ∷ 9 ∷ []) ∷ (4 ∷ 5 ∷ []) ∷ [])) ≡ Writes (f_mark false 3 5 ∷ f_mark true 3 8 ∷ f_mark false 3 9 ∷ [])
+displaces = refl
+
+-- the row itself doesn't
+displaces_nothing : effect (Insert (f_row 3 8) 1 no_body) (state_of [] ((3 ∷ 8 ∷ []) ∷ [])) ≡ Writes (f_mark true 3 8 ∷ [])
+displaces_nothing = refl
+
+-- f(x0, x1) by its other column
+abbrev turned_body : Body
+turned_body = record { atoms = record { relation = 1; terms = Var 0 ∷ Var 1 ∷ [] } ∷ []; absents = []; tests = []; vars = 2 }
+
+abbrev turned : Atom
+turned = record { relation = 1; terms = Var 1 ∷ Var 0 ∷ [] }
+
+-- two answers with one key
+clashes : effect (Insert turned 1 turned_body) (state_of [] ((3 ∷ 5 ∷ []) ∷ (4 ∷ 5 ∷ []) ∷ [])) ≡ Clashes
+clashes = refl
+
+-- where all columns are keys there is nothing to clash
+plain_insert : effect (Insert turned 2 turned_body) (state_of [] ((3 ∷ 5 ∷ []) ∷ (4 ∷ 5 ∷ []) ∷ [])) ≡ Writes (f_mark true 5 3 ∷ f_mark true 5 4 ∷ [])
+plain_insert = refl
+
+-- the rows that go, those displaced, and then those that come
+replaced_with_key : effect (Replace (f_row 7 7) (f_row 3 8) 1 no_body) (state_of [] ((3 ∷ 5 ∷ []) ∷ [])) ≡ Writes (f_mark false 3 5 ∷ f_mark true 3 8 ∷ f_mark false 7 7 ∷ [])
+replaced_with_key = refl
 
 needed : (effect (Require true (there_body 9)) (state_of ((9 ∷ []) ∷ []) []) ≡ Requires true) × (effect (Require false (there_body 9)) (state_of ((9 ∷ []) ∷ []) []) ≡ Requires false)
 needed = (refl, refl)
@@ -260,7 +296,7 @@ printed = refl
 
 -- insert r(2); require some r(2); print (x0) where e(x0, x0);
 abbrev passing : List Stmt
-passing = Insert (r_cell 2) no_body ∷ Require true (there_body 2) ∷ Print (Var 0 ∷ []) (Int ∷ []) loop_body ∷ []
+passing = Insert (r_cell 2) 1 no_body ∷ Require true (there_body 2) ∷ Print (Var 0 ∷ []) (Int ∷ []) loop_body ∷ []
 
 -- a statement sees what those before it wrote
 done : run passing (state_of [] ((3 ∷ 3 ∷ []) ∷ [])) ≡ (Done (record { statement = 3; kinds = Int ∷ []; rows = (3 ∷ []) ∷ [] } ∷ []), plus 2 ∷ [])
@@ -268,19 +304,23 @@ done = refl
 
 -- insert r(2); require none r(2); insert r(3);
 abbrev failing : List Stmt
-failing = Insert (r_cell 2) no_body ∷ Require false (there_body 2) ∷ Insert (r_cell 3) no_body ∷ []
+failing = Insert (r_cell 2) 1 no_body ∷ Require false (there_body 2) ∷ Insert (r_cell 3) 1 no_body ∷ []
 
 refused_at_two : run failing (state_of [] []) ≡ (Refused 2, [])
 refused_at_two = refl
+
+-- what came before the clash is given up
+clash_at_two : run (Insert (r_cell 2) 1 no_body ∷ Insert turned 1 turned_body ∷ []) (state_of [] ((3 ∷ 5 ∷ []) ∷ (4 ∷ 5 ∷ []) ∷ [])) ≡ (Refused 2, [])
+clash_at_two = refl
 
 nothing_to_do : run [] (state_of [] []) ≡ (Done [], [])
 nothing_to_do = refl
 
 -- the first leaves r(2), the second is refused and leaves nothing, the third sees r(2) alone
-one_after_another : serial ((Insert (r_cell 2) no_body ∷ []) ∷ failing ∷ (Print (Var 0 ∷ []) (Int ∷ []) (record { atoms = r_var 0 ∷ []; absents = []; tests = []; vars = 1 }) ∷ []) ∷ []) (state_of [] []) ≡ ((Done [], plus 2 ∷ []) ∷ (Refused 2, []) ∷ (Done (record { statement = 1; kinds = Int ∷ []; rows = (2 ∷ []) ∷ [] } ∷ []), []) ∷ [], state_of ((2 ∷ []) ∷ []) [])
+one_after_another : serial ((Insert (r_cell 2) 1 no_body ∷ []) ∷ failing ∷ (Print (Var 0 ∷ []) (Int ∷ []) (record { atoms = r_var 0 ∷ []; absents = []; tests = []; vars = 1 }) ∷ []) ∷ []) (state_of [] []) ≡ ((Done [], plus 2 ∷ []) ∷ (Refused 2, []) ∷ (Done (record { statement = 1; kinds = Int ∷ []; rows = (2 ∷ []) ∷ [] } ∷ []), []) ∷ [], state_of ((2 ∷ []) ∷ []) [])
 one_after_another = refl
 
-delete_and_insert : serial ((Delete (r_cell 1) no_body ∷ []) ∷ (Insert (r_cell 1) no_body ∷ []) ∷ []) (state_of ((1 ∷ []) ∷ []) []) ≡ ((Done [], minus 1 ∷ []) ∷ (Done [], plus 1 ∷ []) ∷ [], state_of ((1 ∷ []) ∷ []) [])
+delete_and_insert : serial ((Delete (r_cell 1) no_body ∷ []) ∷ (Insert (r_cell 1) 1 no_body ∷ []) ∷ []) (state_of ((1 ∷ []) ∷ []) []) ≡ ((Done [], minus 1 ∷ []) ∷ (Done [], plus 1 ∷ []) ∷ [], state_of ((1 ∷ []) ∷ []) [])
 delete_and_insert = refl
 
 -- ---- what fits a state
@@ -313,15 +353,15 @@ next_within = record {
 }
 
 two_columns_within : IsWithinLimits (s.relation2 (codes "e"))
-two_columns_within = (omega arith, omega arith)
+two_columns_within = (omega arith, omega arith, omega arith, omega arith)
 
 plain_item : IsPlain (s.relation2 (codes "e"))
-plain_item = (refl, (refl, tt))
+plain_item = ((refl, (refl, tt)), refl)
 
 -- relation r(int); a batch with one program of two inserts; show r;
 plain_script : IsPlainScript (codes "relation r(int); batch program p insert r(2); insert r(1); end; commit; show r;") s.two_inserts
 plain_script = record {
   read = two_inserts;
-  plain = ((refl, tt), (((((refl, tt), ((refl, tt), tt))), tt), (tt, tt)));
+  plain = (((refl, tt), refl), (((((refl, tt), ((refl, tt), tt))), tt), (tt, tt)));
   accepted = ((refl, omega arith), ((tt, tt), ((refl, omega arith), tt)));
 }

@@ -1,6 +1,7 @@
 -- The reader from left to right at statements, programs and items: each is found again where it was spelled.
 use Rattle.std.proofs.Common.{◌≡◌, ℕ, ◌≤◌, ◌<◌, Bool, true, false, cond, List, [], ◌∷◌, ◌++◌, length, Option, Some, None, refl, sym, ap, subst, ◌∙◌, append_assoc, arith}
-use Rattle.std.specs.Prelude.{codes}
+use Rattle.std.specs.Prelude.{codes, take, drop}
+use Rattle.std.proofs.lemmas.List.{take-append-drop, length-take-le}
 use Rattle.std.specs.List.{list_any}
 use Rattle.std.specs.Str.{bytes_eq}
 use Rattle.lt_model.specs.declared.kind.Kind.{Kind}
@@ -13,8 +14,8 @@ use Rattle.lt_model.specs.declared.syntax.Program.{Program}
 use Rattle.lt_model.specs.declared.syntax.Item.{Item}
 use Rattle.lt_model.specs.declared.syntax.Item.TheVariants.{Relation, Batch, Show}
 use Rattle.lt_model.specs.Tokens.{Shape, word, number}
-use Rattle.lt_model.specs.Grammar.{Level, the, ◌·◌, left_paren, right_paren, semicolon, digits_value, greatest, some_text, where_word, SpellsHead, SpellsBody, SpellsWhere, SpellsForm, SpellsStatement, SpellsProgram, SpellsKind, SpellsVersion, SpellsAt, SpellsItem}
-use Rattle.lt_model.proofs.Reader.{Reading, ◌>>=◌, same_shape, read_the, read_name, in_range, has_few, given, read_each, is_comma, read_listed, read_limited, read_terms, Again, Any, front_len, back_len, step, then_token, last_token, then_name, is_in_range, is_few, given_is, Begins, Next, each_again, listed_again, limited_again, terms_again, read_head, head_again, read_body, body_again, read_where, where_again, then_end}
+use Rattle.lt_model.specs.Grammar.{Level, AtMost, the, ◌·◌, listed, arrow, left_paren, right_paren, semicolon, digits_value, greatest, some_text, where_word, SpellsHead, SpellsBody, SpellsWhere, SpellsForm, SpellsStatement, SpellsProgram, SpellsKind, SpellsValues, SpellsColumns, SpellsVersion, SpellsAt, SpellsItem}
+use Rattle.lt_model.proofs.Reader.{Reading, ◌>>=◌, same_shape, read_the, read_name, within, in_range, has_few, given, read_each, is_comma, read_listed, read_limited, read_terms, Again, Any, front_len, back_len, step, then_token, last_token, then_name, is_within, is_in_range, is_few, given_is, Begins, Next, each_again, listed_again, limited_again, terms_again, read_head, head_again, read_body, body_again, read_where, where_again, then_end}
 
 -- ---- statements
 
@@ -180,6 +181,48 @@ kind_again : (k : Kind) (us r : List Shape) → SpellsKind k us → read_kind (u
 kind_again Int us r h = ap (λ (u : List Shape). read_kind (u ++ r)) h
 kind_again Sym us r h = ap (λ (u : List Shape). read_kind (u ++ r)) h
 
+-- behind an arrow, or none
+abbrev pub read_values : ℕ → List Shape → Reading (List Kind)
+read_values n [] = None
+read_values n (t ∷ ts) = cond (same_shape t arrow) (read_listed n read_kind ts) (Some ([], t ∷ ts))
+
+-- all kinds, and how many stand before the arrow
+abbrev pub read_columns : ℕ → Level → List Shape → Reading (List Kind × ℕ)
+read_columns n level ts = read_listed n read_kind ts >>= λ k. read_values n k.1 >>= λ v. given (within level 8 (length (k.0 ++ v.0))) ((k.0 ++ v.0, length k.0), v.1)
+
+kinds_again : (n : ℕ) (kinds : List Kind) (us r : List Shape) → length us < n → listed SpellsKind kinds us → Next is_comma r → read_listed n read_kind (us ++ r) ≡ Some (kinds, r)
+kinds_again n kinds us r small h next = listed_again SpellsKind Any n read_kind (λ k us r small h ok. kind_again k us r h) (λ ts. tt) kinds us r small h tt next
+
+values_again : (n : ℕ) (values : List Kind) (us r : List Shape) → length us < n → SpellsValues values us → read_values n (us ++ (right_paren ∷ r)) ≡ Some (values, right_paren ∷ r)
+values_again n [] us r small h = ap (λ (u : List Shape). read_values n (u ++ (right_paren ∷ r))) h
+values_again n (k ∷ ks) us r small h =
+    let a : length h.1 ≤ length us = back_len us h.0 h.1 h.2 in
+    ap (λ (u : List Shape). read_values n (u ++ (right_paren ∷ r))) h.2 ∙ ap (λ (u : List Shape). read_values n ((u ++ h.1) ++ (right_paren ∷ r))) h.3
+    ∙ kinds_again n (k ∷ ks) h.1 (right_paren ∷ r) (omega (arith, a, small)) h.4 refl
+
+-- behind the key columns stands no comma
+values_next : (values : List Kind) (us r : List Shape) → SpellsValues values us → Next is_comma (us ++ (right_paren ∷ r))
+values_next [] us r h = subst (λ (u : List Shape). Next is_comma (u ++ (right_paren ∷ r))) (sym h) refl
+values_next (k ∷ ks) us r h = subst (λ (u : List Shape). Next is_comma (u ++ (right_paren ∷ r))) (sym (h.2 ∙ ap (λ (u : List Shape). u ++ h.1) h.3)) refl
+
+parts_again : (n : ℕ) (level : Level) (front back : List Kind) (us r : List Shape) → length us < n → AtMost level 8 (length (front ++ back)) → (listed SpellsKind front · SpellsValues back) us
+    → read_columns n level (us ++ (right_paren ∷ r)) ≡ Some ((front ++ back, length front), right_paren ∷ r)
+parts_again n level front back us r small few_ h =
+    let a : length h.0 ≤ length us = front_len us h.0 h.1 h.2 in
+    let b : length h.1 ≤ length us = back_len us h.0 h.1 h.2 in
+    step (read_listed n read_kind) (λ k. read_values n k.1 >>= λ v. given (within level 8 (length (k.0 ++ v.0))) ((k.0 ++ v.0, length k.0), v.1)) us h.0 h.1 (right_paren ∷ r) front h.2
+    (kinds_again n front h.0 (h.1 ++ (right_paren ∷ r)) (omega (arith, a, small)) h.3 (values_next back h.1 r h.4))
+    ∙ ap (λ o. o >>= λ v. given (within level 8 (length (front ++ v.0))) ((front ++ v.0, length front), v.1)) (values_again n back h.1 r (omega (arith, b, small)) h.4)
+    ∙ given_is (within level 8 (length (front ++ back))) ((front ++ back, length front), right_paren ∷ r) (is_within level 8 (length (front ++ back)) few_)
+
+columns_again : (n : ℕ) (level : Level) (keys : ℕ) (kinds : List Kind) (us r : List Shape) → length us < n → SpellsColumns level keys kinds us → read_columns n level (us ++ (right_paren ∷ r)) ≡ Some ((kinds, keys), right_paren ∷ r)
+columns_again n level keys kinds us r small h =
+    let whole : take keys kinds ++ drop keys kinds ≡ kinds = take-append-drop keys kinds in
+    let count : length (take keys kinds) ≡ keys = length-take-le keys kinds h.0 in
+    parts_again n level (take keys kinds) (drop keys kinds) us r small (subst (λ (ks : List Kind). AtMost level 8 (length ks)) (sym whole) h.1) h.2
+    ∙ ap (λ (ks : List Kind). Some ((ks, length (take keys kinds)), right_paren ∷ r)) whole
+    ∙ ap (λ (k : ℕ). Some ((kinds, k), right_paren ∷ r)) count
+
 abbrev pub read_version : Level → List Shape → Reading ℕ
 read_version level (number d ∷ ts) = given (in_range level (greatest false) (digits_value d)) (digits_value d, ts)
 read_version level _ = None
@@ -202,8 +245,8 @@ at_again level (Some version) us r h =
 
 abbrev pub read_relation : ℕ → Level → List Shape → Reading Item
 read_relation n level ts =
-    read_name ts >>= λ x. read_the left_paren x.1 >>= λ l. read_limited level 8 (read_listed n read_kind l.1) >>= λ k.
-    read_the right_paren k.1 >>= λ p. read_the semicolon p.1 >>= λ e. Some (Relation x.0 k.0, e.1)
+    read_name ts >>= λ x. read_the left_paren x.1 >>= λ l. read_columns n level l.1 >>= λ k.
+    read_the right_paren k.1 >>= λ p. read_the semicolon p.1 >>= λ e. Some (Relation x.0 k.0.0 k.0.1, e.1)
 
 abbrev pub read_batch : ℕ → Level → List Shape → Reading Item
 read_batch n level ts =
@@ -221,7 +264,7 @@ read_item n level (word x ∷ ts) = read_item_by n level x ts
 read_item n level _ = None
 
 pub item_again : (n : ℕ) (level : Level) → Again (SpellsItem level) Any n (read_item n level)
-item_again n level (Relation name kinds) us r small h ok =
+item_again n level (Relation name kinds keys) us r small h ok =
     let m = h.4 in
     let k = m.4 in
     let j = k.4 in
@@ -230,15 +273,15 @@ item_again n level (Relation name kinds) us r small h ok =
     let b : length m.1 ≤ length h.1 = back_len h.1 m.0 m.1 m.2 in
     let c : length k.1 ≤ length m.1 = back_len m.1 k.0 k.1 k.2 in
     let d : length j.0 ≤ length k.1 = front_len k.1 j.0 j.1 j.2 in
-    let list : read_listed n read_kind (j.0 ++ (j.1 ++ r)) ≡ Some (kinds, j.1 ++ r) =
-    listed_again SpellsKind Any n read_kind (λ k us r small h ok. kind_again k us r h) (λ ts. tt) kinds j.0 (j.1 ++ r) (omega (arith, a, b, c, d, small)) j.3.1 tt (word_next is_comma right_paren j.1 e.0 e.1 r e.2 e.3 refl) in
+    let ends : j.1 ++ r ≡ right_paren ∷ (e.1 ++ r) = ap (λ (u : List Shape). u ++ r) e.2 ∙ ap (λ (u : List Shape). (u ++ e.1) ++ r) e.3 in
+    let list : read_columns n level (j.0 ++ (j.1 ++ r)) ≡ Some ((kinds, keys), j.1 ++ r) =
+    subst (λ (u : List Shape). read_columns n level (j.0 ++ u) ≡ Some ((kinds, keys), u)) (sym ends) (columns_again n level keys kinds j.0 (e.1 ++ r) (omega (arith, a, b, c, d, small)) j.3) in
     ap (read_item n level) (word_first (codes "relation") us h.0 h.1 r h.2 h.3)
-    ∙ then_name name (λ x. read_the left_paren x.1 >>= λ l. read_limited level 8 (read_listed n read_kind l.1) >>= λ k. read_the right_paren k.1 >>= λ p. read_the semicolon p.1 >>= λ e. Some (Relation x.0 k.0, e.1)) h.1 m.0 m.1 r m.2 m.3
-    ∙ then_token left_paren (λ l. read_limited level 8 (read_listed n read_kind l.1) >>= λ k. read_the right_paren k.1 >>= λ p. read_the semicolon p.1 >>= λ e. Some (Relation name k.0, e.1)) m.1 k.0 k.1 r k.2 k.3
-    ∙ step (λ us. read_limited level 8 (read_listed n read_kind us)) (λ k. read_the right_paren k.1 >>= λ p. read_the semicolon p.1 >>= λ e. Some (Relation name k.0, e.1)) k.1 j.0 j.1 r kinds j.2
-    (limited_again level 8 (read_listed n read_kind (j.0 ++ (j.1 ++ r))) kinds (j.1 ++ r) j.3.0 list)
-    ∙ then_token right_paren (λ p. read_the semicolon p.1 >>= λ e. Some (Relation name kinds, e.1)) j.1 e.0 e.1 r e.2 e.3
-    ∙ last_token semicolon (λ e. Some (Relation name kinds, e.1)) e.1 r e.4
+    ∙ then_name name (λ x. read_the left_paren x.1 >>= λ l. read_columns n level l.1 >>= λ k. read_the right_paren k.1 >>= λ p. read_the semicolon p.1 >>= λ e. Some (Relation x.0 k.0.0 k.0.1, e.1)) h.1 m.0 m.1 r m.2 m.3
+    ∙ then_token left_paren (λ l. read_columns n level l.1 >>= λ k. read_the right_paren k.1 >>= λ p. read_the semicolon p.1 >>= λ e. Some (Relation name k.0.0 k.0.1, e.1)) m.1 k.0 k.1 r k.2 k.3
+    ∙ step (read_columns n level) (λ k. read_the right_paren k.1 >>= λ p. read_the semicolon p.1 >>= λ e. Some (Relation name k.0.0 k.0.1, e.1)) k.1 j.0 j.1 r (kinds, keys) j.2 list
+    ∙ then_token right_paren (λ p. read_the semicolon p.1 >>= λ e. Some (Relation name kinds keys, e.1)) j.1 e.0 e.1 r e.2 e.3
+    ∙ last_token semicolon (λ e. Some (Relation name kinds keys, e.1)) e.1 r e.4
 item_again n level (Batch programs) us r small h ok =
     let m = h.4 in
     let e = m.4 in
@@ -266,7 +309,7 @@ abbrev pub always : Shape → Bool
 always t = true
 
 pub item_begins : (level : Level) (item : Item) (us : List Shape) → SpellsItem level item us → Begins always us
-item_begins level (Relation name kinds) us h = word_begins always (word (codes "relation")) us h.0 h.1 h.2 h.3 refl
+item_begins level (Relation name kinds keys) us h = word_begins always (word (codes "relation")) us h.0 h.1 h.2 h.3 refl
 item_begins level (Batch programs) us h = word_begins always (word (codes "batch")) us h.0 h.1 h.2 h.3 refl
 item_begins level (Show name version) us h = word_begins always (word (codes "show")) us h.0 h.1 h.2 h.3 refl
 

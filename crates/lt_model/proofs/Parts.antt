@@ -72,7 +72,7 @@ plus_then_minus = refl
 -- ---- codes
 
 abbrev r_and_s : Schema
-r_and_s = (codes "r", Int ∷ []) ∷ (codes "s", Sym ∷ []) ∷ []
+r_and_s = (codes "r", Int ∷ [], 1) ∷ (codes "s", Sym ∷ [], 1) ∷ []
 
 -- `require some` of these
 abbrev code : List Literal → Option ℕ
@@ -156,7 +156,7 @@ printed_kinds = refl
 -- ---- a program in normal form, which fits
 
 stock_schema : Schema
-stock_schema = (codes "stock", Int ∷ Int ∷ []) ∷ []
+stock_schema = (codes "stock", Int ∷ Int ∷ [], 2) ∷ []
 
 stock_state : State
 stock_state = record { width = 2; rows = [] } ∷ []
@@ -172,7 +172,7 @@ abbrev one_less : Body
 one_less = record { atoms = stock_atom 0 ∷ []; absents = []; tests = normal_tests.Sum 1 (normal_terms.Var 0) true (normal_terms.Cell (zero_cell + 1)) ∷ []; vars = 2 }
 
 abbrev normal_buyer : List Stmt
-normal_buyer = stmts.Require true some_left ∷ stmts.Replace (stock_atom 0) (stock_atom 1) one_less ∷ []
+normal_buyer = stmts.Require true some_left ∷ stmts.Replace (stock_atom 0) (stock_atom 1) 2 one_less ∷ []
 
 buyer_checked : checked (s.buyer (codes "a")) stock_schema ≡ Good normal_buyer
 unfolding stock_schema
@@ -213,6 +213,7 @@ buyer_fits = record {
         },
         record { fits = an_atom 0 2 (omega arith); is_bound = refl },
         record { fits = an_atom 1 2 (omega arith); is_bound = refl },
+        (omega arith, omega arith),
       ),
       tt,
     ),

@@ -113,3 +113,15 @@ negated_alone = whole (codes "relation r(int); relation s(int); batch program l 
 no_seven : Script (codes "relation r(int); relation s(int); batch program l insert r(1); insert r(2); insert s(2); end; commit; batch program p require some not s(7); end; commit;") s.no_seven End
 unfolding digits
 no_seven = whole (codes "relation r(int); relation s(int); batch program l insert r(1); insert r(2); insert s(2); end; commit; batch program p require some not s(7); end; commit;") 1 s.no_seven refl refl refl
+
+one_for_a_key : Script (codes "relation f(int -> int); batch program p insert f(1,5); insert f(1,6); end; commit; show f;") s.one_for_a_key End
+unfolding digits
+one_for_a_key = whole (codes "relation f(int -> int); batch program p insert f(1,5); insert f(1,6); end; commit; show f;") 1 s.one_for_a_key refl refl refl
+
+clash : Script (codes "relation e(int,int); relation f(int -> int); batch program l insert e(1,2); insert e(1,3); end; commit; batch program p insert f(x,y) where e(x,y); end; commit;") s.clash End
+unfolding digits
+clash = whole (codes "relation e(int,int); relation f(int -> int); batch program l insert e(1,2); insert e(1,3); end; commit; batch program p insert f(x,y) where e(x,y); end; commit;") 1 s.clash refl refl refl
+
+one_after_another : Script (codes "relation f(int->int); batch program l insert f(1,5); end; commit; batch program p1 insert f(1,6); end; program p2 insert f(1,7); end; commit; show f;") s.one_after_another End
+unfolding digits
+one_after_another = whole (codes "relation f(int->int); batch program l insert f(1,5); end; commit; batch program p1 insert f(1,6); end; program p2 insert f(1,7); end; commit; show f;") 1 s.one_after_another refl refl refl

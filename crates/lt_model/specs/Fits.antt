@@ -57,10 +57,14 @@ pub record ArePrintedOf (body : Body) (terms : List Term) (kinds : ℕ) : Type 0
   pub has_some : 1 ≤ kinds
   pub has_few : kinds ≤ most_columns
 
+-- from 1 to the number of the head's columns
+abbrev pub AreKeysOf : Atom → ℕ → Type 0
+AreKeysOf head keys = (1 ≤ keys) × (keys ≤ length head.terms)
+
 abbrev pub FitsStatement : State → Stmt → Type 0
-FitsStatement state (Insert head body) = IsBodyOf state body × IsHeadOf state body head
+FitsStatement state (Insert head keys body) = IsBodyOf state body × IsHeadOf state body head × AreKeysOf head keys
 FitsStatement state (Delete head body) = IsBodyOf state body × IsHeadOf state body head
-FitsStatement state (Replace gone come body) = IsBodyOf state body × IsHeadOf state body gone × IsHeadOf state body come
+FitsStatement state (Replace gone come keys body) = IsBodyOf state body × IsHeadOf state body gone × IsHeadOf state body come × AreKeysOf come keys
 FitsStatement state (Require some body) = IsBodyOf state body
 FitsStatement state (Print terms kinds body) = IsBodyOf state body × ArePrintedOf body terms (length kinds)
 

@@ -15,6 +15,7 @@ pub mod Effect
 pub mod Run
 pub mod Serial
 pub mod Report
+pub mod Keyed
 pub mod Limits
 pub mod Plain
 pub mod Laws

@@ -52,8 +52,8 @@ abbrev pub IsVersionWithin : Option ℕ → Type 0
 IsVersionWithin None = Unit {0}
 IsVersionWithin (Some version) = version < 2 ^ 63
 
--- 1 to 8 columns; at most 256 programs; a version that is an int
+-- 1 to 8 columns, and 1 or more of them key columns; at most 256 programs; a version that is an int
 abbrev pub IsWithinLimits : Item → Type 0
-IsWithinLimits (Relation name kinds) = (1 ≤ length kinds) × (length kinds ≤ most_columns)
+IsWithinLimits (Relation name kinds keys) = (1 ≤ length kinds) × (length kinds ≤ most_columns) × (1 ≤ keys) × (keys ≤ length kinds)
 IsWithinLimits (Batch programs) = AllByRecursion IsProgramWithin programs × (length programs ≤ most_programs)
 IsWithinLimits (Show name version) = IsVersionWithin version

@@ -25,7 +25,7 @@ IsPlainStatement (Insert head []) = AllByRecursion IsPlainTerm head.terms
 IsPlainStatement s = ⊥
 
 abbrev pub IsPlain : Item → Type 0
-IsPlain (Relation name kinds) = AllByRecursion (λ kind. kind ≡ Int) kinds
+IsPlain (Relation name kinds keys) = AllByRecursion (λ kind. kind ≡ Int) kinds × (keys ≡ length kinds)
 IsPlain (Batch programs) = AllByRecursion (λ (p : Program). AllByRecursion IsPlainStatement p.statements) programs
 IsPlain (Show name None) = Unit {0}
 IsPlain (Show name (Some version)) = ⊥
@@ -36,7 +36,7 @@ IsGood (Bad code j) = ⊥
 
 -- the item has no code, and no program of it has one
 abbrev pub IsAccepted : World → Item → Type 0
-IsAccepted w (Relation name kinds) = IsNone (number_of w.schema name) × (length w.schema < most_relations)
+IsAccepted w (Relation name kinds keys) = IsNone (number_of w.schema name) × (length w.schema < most_relations)
 IsAccepted w (Batch programs) = AllByRecursion (λ (p : Program). IsGood (checked p w.schema)) programs
 IsAccepted w (Show name version) = IsSome (number_of w.schema name) × (unwrap_or version 0 ≤ length w.versions)
 

@@ -48,8 +48,8 @@ abbrev pub sign_text : Bool → Text
 sign_text true = codes "+"
 sign_text false = codes "-"
 
-abbrev pub heading_of : Schema → ℕ → Text × List Kind
-heading_of schema relation = slice_index_or schema relation ([], [])
+abbrev pub heading_of : Schema → ℕ → Text × List Kind × ℕ
+heading_of schema relation = slice_index_or schema relation ([], [], 0)
 
 abbrev pub mark_text : Schema → Mark → Text
 mark_text schema m = let heading = heading_of schema m.relation in line ((sign_text m.plus ∷ heading.0 ∷ []) ++ cell_texts heading.1 m.row)
@@ -100,11 +100,11 @@ abbrev pub at_version : World → Option ℕ → State
 at_version w None = w.state
 at_version w (Some version) = slice_index_or ([] ∷ w.versions) version []
 
-abbrev pub with_relation : World → Text → List Kind → Option ℕ → World
-with_relation w name kinds (Some relation) = says w (bad_text 24)
-with_relation w name kinds None =
+abbrev pub with_relation : World → Text → List Kind → ℕ → Option ℕ → World
+with_relation w name kinds keys (Some relation) = says w (bad_text 24)
+with_relation w name kinds keys None =
     if nat_le most_relations (length w.schema) then says w (bad_text 25)
-    else record w { schema = w.schema ++ (name, kinds) ∷ []; state = w.state ++ record { width = length kinds; rows = [] } ∷ [] }
+    else record w { schema = w.schema ++ (name, kinds, keys) ∷ []; state = w.state ++ record { width = length kinds; rows = [] } ∷ [] }
 
 abbrev pub shown : World → Text → Option ℕ → Option ℕ → World
 shown w name version None = says w (bad_text 20)
@@ -136,7 +136,7 @@ with_batch marks w programs =
     (batch_text number ++ programs_text (done_text marks w.schema) checks done.0 ++ version_text number)
 
 abbrev pub step : Bool → World → Item → World
-step marks w (Relation name kinds) = with_relation w name kinds (number_of w.schema name)
+step marks w (Relation name kinds keys) = with_relation w name kinds keys (number_of w.schema name)
 step marks w (Batch programs) = with_batch marks w programs
 step marks w (Show name version) = shown w name version (number_of w.schema name)
 

@@ -6,7 +6,7 @@ use Rattle.lt_model.specs.declared.reply.Reply.{Reply}
 use Rattle.lt_model.specs.declared.reply.Reply.TheVariants.{Done, Refused}
 use Rattle.lt_face.specs.State.{State}
 use Rattle.lt_model.specs.Marks.{Marks, and_then, laid}
-use Rattle.lt_model.specs.Effect.{Effect, Writes, Requires, Prints, effect}
+use Rattle.lt_model.specs.Effect.{Effect, Writes, Requires, Prints, Clashes, effect}
 
 -- how far a run has come: the marks and the prints so far
 pub record Progress : Type 0 where
@@ -18,6 +18,7 @@ abbrev pub run_on : ℕ → Progress → Effect → (Progress → Reply × Marks
 run_on j p (Writes marks) rest = rest (record p { marks = and_then p.marks marks })
 run_on j p (Requires true) rest = rest p
 run_on j p (Requires false) rest = (Refused j, [])
+run_on j p Clashes rest = (Refused j, [])
 run_on j p (Prints kinds rows) rest = rest (record p { prints = p.prints ++ record { statement = j; kinds = kinds; rows = rows } ∷ [] })
 
 -- the statements from number j on, each on the state with the marks so far laid on it

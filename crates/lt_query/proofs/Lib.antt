@@ -18,3 +18,7 @@ pub mod Text
 mod NeedsExamples
 mod OrderExamples
 pub mod ByShape
+pub mod Wide
+pub mod Displaced
+pub mod KeysStay
+pub mod Neighbours

@@ -25,7 +25,7 @@ both = refl
 abbrev head : ℕ → Atom
 head r = record { relation = r; terms = Var 0 ∷ Var 1 ∷ [] }
 
-replaced : with_names [] (names_of (Replace (head 0) (head 1) second_pinned ∷ [])) ≡ record { relation = 0; columns = 1 ∷ 0 ∷ [] } ∷ []
+replaced : with_names [] (names_of (Replace (head 0) (head 1) 2 second_pinned ∷ [])) ≡ record { relation = 0; columns = 1 ∷ 0 ∷ [] } ∷ []
 replaced = refl
 
 -- a body without atoms needs none: print (3)

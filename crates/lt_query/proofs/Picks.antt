@@ -44,11 +44,11 @@ Stands-from_picks a (atom ∷ atoms) state h =
     let rest : whole.0 ≡ rows_under a atoms = let e = whole.2 in cc in
     (subst (λ r. IsIn r (rows_in state atom.relation)) first split.1, Stands-from_picks a atoms state (subst (λ p. IsIn p (picks atoms state)) rest whole.1))
 
-any_is : {X : Type 0} (p : X → Bool) (x : X) (xs : List X) → IsIn x xs → p x ≡ true → list_any p xs ≡ true
+pub any_is : {X : Type 0} (p : X → Bool) (x : X) (xs : List X) → IsIn x xs → p x ≡ true → list_any p xs ≡ true
 any_is p x [] h e = absurd h
 any_is p x (y ∷ xs) h e = elim h [ inl q ↦ or_left (p y) (list_any p xs) (ap p q ∙ e) | inr r ↦ or_right (p y) (list_any p xs) (any_is p x xs r e) ]
 
-any-true : {X : Type 0} (p : X → Bool) (xs : List X) → list_any p xs ≡ true → (x : X) × IsIn x xs × (p x ≡ true)
+pub any-true : {X : Type 0} (p : X → Bool) (xs : List X) → list_any p xs ≡ true → (x : X) × IsIn x xs × (p x ≡ true)
 any-true p [] h = absurd (cc)
 any-true p (x ∷ xs) h = elim (or_cases (p x) (list_any p xs) h) [ inl e ↦ (x, inl refl, e) | inr r ↦ let f = any-true p xs r in (f.0, inr f.1, f.2) ]
 

@@ -15,9 +15,9 @@ use Rattle.lt_query.specs.Plan.{IsPlanOf}
 use Rattle.lt_query.specs.Stated.{stated_plan, IsStatedPlan}
 
 abbrev pub body_of : Stmt → Body
-body_of (Insert head body) = body
+body_of (Insert head keys body) = body
 body_of (Delete head body) = body
-body_of (Replace gone come body) = body
+body_of (Replace gone come keys body) = body
 body_of (Require some body) = body
 body_of (Print terms kinds body) = body
 

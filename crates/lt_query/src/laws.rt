@@ -1,4 +1,5 @@
 //! Laws of the plans of a body, in whatever order of its variables, and of its answers.
+ghost use Rattle.lt_query.specs.Keyed.{WritesStayKeyed, KeyAnswers, NeighboursClash};
 ghost use Rattle.lt_query.specs.Laws.{FittingHasWidths, PlansAreRunnable, OneStatedPlan, AnswersAscend, AnswersAreCells, SomeIsSatisfied, OneAscending, PlanOfShape, FilledIsPlan};
 
 /// The atoms of a body that fits a state are as wide as the relations. A join can follow each plan of the body. One plan
@@ -23,4 +24,12 @@ pub fn answers_of_bodies()
 pub fn plans_of_shapes()
     ensures blank { PlanOfShape }
     ensures filled { FilledIsPlan }
+{}
+
+/// Where each relation of a state has one row for a key at most, so it has when what a statement writes is laid on it. The rows
+/// that a row may displace are those of its relation with its key. Rows clash only where neighbours do.
+pub fn rows_for_keys()
+    ensures stay { WritesStayKeyed }
+    ensures answers { KeyAnswers }
+    ensures neighbours { NeighboursClash }
 {}

@@ -1,6 +1,6 @@
 -- From one item to a script, which is a list of items: where an item's reader stops behind others, no token before has
 -- a fault, and the one there has.
-use Rattle.std.proofs.Common.{◌≡◌, ℕ, Bool, false, List, [], ◌∷◌, ◌++◌, Ok, Err, refl, sym, ap, subst, ◌∙◌, append_assoc, inl, inr}
+use Rattle.std.proofs.Common.{◌≡◌, ℕ, Bool, true, false, List, [], ◌∷◌, ◌++◌, Ok, Err, refl, sym, ap, subst, ◌∙◌, append_assoc, inl, inr}
 use Rattle.std.specs.List.{flat_map, AllByRecursion}
 use Rattle.std.proofs.lemmas.List.{append-nil}
 use Rattle.std.proofs.lemmas.List.Concat.{flat_map-append}
@@ -101,11 +101,11 @@ module _ {T A : Type 0} (m : Alphabet T) (L : Language T A) (r : Reader T A) (ra
   none_in_open all o1 o2 o3 c b t a code is (too_large n o h) = h (open_token fine all b t a is o3)
   none_in_open all o1 o2 o3 c b t a code is (too_full same o h) = h (subst (λ (s : T). IsOpen L full (b ++ s ∷ [])) (sym same) (c b a (is ∙ ap (λ (s : T). b ++ s ∷ a) same)))
 
-  none_at_comma : (xs : List T) → IsOpen L formed (xs ++ m.comma ∷ []) → (code : ℕ) → Faulty (marks_of m) L xs m.comma code → ⊥
-  none_at_comma xs o code (not_allowed h) = h o
-  none_at_comma xs o code (too_many q ne h) = ne refl
-  none_at_comma xs o code (too_large n q h) = m.comma_no_number n
-  none_at_comma xs o code (too_full same q h) = m.comma_not_closing same
+  none_at_comma : (xs : List T) (s : T) → m.spared s ≡ true → IsOpen L formed (xs ++ s ∷ []) → (code : ℕ) → Faulty (marks_of m) L xs s code → ⊥
+  none_at_comma xs s spared o code (not_allowed h) = h o
+  none_at_comma xs s spared o code (too_many q blamed h) = let both : true ≡ false = sym spared ∙ blamed in cc
+  none_at_comma xs s spared o code (too_large n q h) = m.spared_no_number s spared n
+  none_at_comma xs s spared o code (too_full same q h) = m.spared_not_closing s spared same
 
   fine_open : (done : List A) (front : List T) → AllByRecursion (L.Holds full) done → Viable L fine front → ClosesAll (flat_map L.spell done ++ front) → NoFault (marks_of m) L (flat_map L.spell done ++ front)
   fine_open done front each v c =
@@ -120,22 +120,22 @@ module _ {T A : Type 0} (m : Alphabet T) (L : Language T A) (r : Reader T A) (ra
 
   clean_script : (done : List A) (front : List T) → AllByRecursion (L.Holds full) done → Closes m L front → Open m L front → NoFault (marks_of m) L (flat_map L.spell done ++ front)
   clean_script done front each closes (whole v) b t a code is faulty = fine_open done front each v (closes_all done front each closes) b t a code is faulty
-  clean_script done front each closes (to_comma f e v w) b t a code is faulty =
+  clean_script done front each closes (to_comma f u spared e v w) b t a code is faulty =
       let xs : List T = flat_map L.spell done ++ f in
-      let split : xs ++ m.comma ∷ [] ≡ b ++ t ∷ a = append_assoc (flat_map L.spell done) f (m.comma ∷ []) ∙ ap (λ (s : List T). flat_map L.spell done ++ s) (sym e) ∙ is in
-      let all_closes : ClosesAll (flat_map L.spell done ++ (f ++ m.comma ∷ [])) = subst (λ (s : List T). ClosesAll (flat_map L.spell done ++ s)) e (closes_all done front each closes) in
-      elim (in_two xs (m.comma ∷ []) b t a split) [
-        | inl q ↦ fine_open done f each v (closes_front done f (m.comma ∷ []) all_closes) b t q.0 code q.1 faulty
+      let split : xs ++ u ∷ [] ≡ b ++ t ∷ a = append_assoc (flat_map L.spell done) f (u ∷ []) ∙ ap (λ (s : List T). flat_map L.spell done ++ s) (sym e) ∙ is in
+      let all_closes : ClosesAll (flat_map L.spell done ++ (f ++ u ∷ [])) = subst (λ (s : List T). ClosesAll (flat_map L.spell done ++ s)) e (closes_all done front each closes) in
+      elim (in_two xs (u ∷ []) b t a split) [
+        | inl q ↦ fine_open done f each v (closes_front done f (u ∷ []) all_closes) b t q.0 code q.1 faulty
         | inr q ↦ at_the_comma q.0 q.1 q.2
       ]
     where
-      at_the_comma : (c : List T) → b ≡ (flat_map L.spell done ++ f) ++ c → m.comma ∷ [] ≡ c ++ t ∷ a → ⊥
+      at_the_comma : (c : List T) → b ≡ (flat_map L.spell done ++ f) ++ c → u ∷ [] ≡ c ++ t ∷ a → ⊥
       at_the_comma [] b-is last =
-          let t-is : m.comma ≡ t = cc in
+          let t-is : u ≡ t = cc in
           let there : b ≡ flat_map L.spell done ++ f = b-is ∙ append-nil (flat_map L.spell done ++ f) in
-          let open_there : IsOpen L formed ((flat_map L.spell done ++ f) ++ m.comma ∷ []) = subst (IsOpen L formed) (ap (λ (s : List T). flat_map L.spell done ++ s) e ∙ sym (append_assoc (flat_map L.spell done) f (m.comma ∷ []))) (open_of formed done front each w) in
-          let F : List T → T → Type 0 = λ u s. Faulty (marks_of m) L u s code in
-          none_at_comma (flat_map L.spell done ++ f) open_there code (subst (λ (s : T). F (flat_map L.spell done ++ f) s) (sym t-is) (subst (λ (u : List T). F u t) there faulty))
+          let open_there : IsOpen L formed ((flat_map L.spell done ++ f) ++ u ∷ []) = subst (IsOpen L formed) (ap (λ (s : List T). flat_map L.spell done ++ s) e ∙ sym (append_assoc (flat_map L.spell done) f (u ∷ []))) (open_of formed done front each w) in
+          let F : List T → T → Type 0 = λ q s. Faulty (marks_of m) L q s code in
+          none_at_comma (flat_map L.spell done ++ f) u spared open_there code (subst (λ (s : T). F (flat_map L.spell done ++ f) s) (sym t-is) (subst (λ (q : List T). F q t) there faulty))
       at_the_comma (s ∷ c) b-is last = front_not_nil c t a (let k : c ++ t ∷ a ≡ [] = cc in k)
 
   -- ---- the fault
@@ -151,7 +151,7 @@ module _ {T A : Type 0} (m : Alphabet T) (L : Language T A) (r : Reader T A) (ra
 
   open_formed : (front : List T) → Open m L front → Viable L formed front
   open_formed front (whole v) = record { value = v.value; more = v.more; holds = ra.weaken few v.value (ra.weaken fine v.value v.holds); begins = v.begins }
-  open_formed front (to_comma f e v w) = w
+  open_formed front (to_comma f s spared e v w) = w
 
   -- Where each value ends with the closing token, what a reader passed before it stopped is no whole value: up to that
   -- token some value is full, and it would have been read.

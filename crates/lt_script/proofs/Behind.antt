@@ -1,7 +1,7 @@
 -- The place behind the tokens that a cursor has passed, whatever comes behind its source.
-use Rattle.std.proofs.Common.{◌⊎◌, inl, inr, ◌≡◌, ◌≢◌, ℕ, ◌+◌, ◌-◌, ◌^◌, ◌≤◌, ◌<◌, Bool, true, false, cond, ◌||◌, ◌==◌, List, [], ◌∷◌, ◌++◌, length, take, drop, Option, Some, None, refl, sym, ap, subst, ◌∙◌, append_assoc, arith}
-use Rattle.std.specs.Prelude.{nat_lt, nat_eq, not}
-use Rattle.std.specs.List.{list_all, prefix_len}
+use Rattle.std.proofs.Common.{◌⊎◌, inl, inr, ◌≡◌, ℕ, ◌+◌, ◌-◌, ◌^◌, ◌<◌, Bool, true, false, cond, List, [], ◌∷◌, ◌++◌, length, take, drop, Option, Some, refl, sym, ap, subst, ◌∙◌, append_assoc, arith}
+use Rattle.std.specs.Prelude.{nat_lt}
+use Rattle.std.specs.List.{prefix_len}
 use Rattle.std.proofs.lemmas.List.{append-nil, append_cancel_right, length-drop}
 use Rattle.lt_model.specs.Grammar.{semicolon}
 use Rattle.lt_model.specs.Tokens as tokens
@@ -12,7 +12,7 @@ use Rattle.lt_script.specs.declared.lexer.Lexed.{Lexed}
 use Rattle.lt_script.specs.declared.lexer.Lexed.TheVariants.{Token as One, End, Broken}
 use Rattle.lt_script.specs.View.{shape, view, IsNext}
 use Rattle.lt_script.specs.Pieces.{IsBack, Leads, Passes, begins_longer, goes_on_by, goes_on as may_go_on, first_by, first_at, Opened}
-use Rattle.lt_script.specs.Ahead.{Source, source_of, read_all, Place, ahead, behind, passed_tokens, read_from, place_of, IsAt, IsBehind, decided, undecided, EndsSo, Stood}
+use Rattle.lt_script.specs.Ahead.{Source, source_of, read_all, Place, ahead, behind, passed_tokens, read_from, place_of, IsBehind, decided, undecided, EndsSo, Stood}
 use Rattle.lt_script.proofs.Pieces.{leads_then, leads_token, tokens_first}
 use Rattle.lt_script.proofs.Backs.{back_same, back_on, token_back, semicolon_back}
 use Rattle.lt_script.proofs.Passing.{passes_none, passes_leads, passes_on, passes_token}
@@ -35,13 +35,14 @@ symbol_left : (n : ℕ) (text rest left : List ℕ) (s : tokens.Shape) → rest 
 symbol_left n text [] left s none e = absurd cc
 symbol_left n text (c ∷ rest) left s none e = absurd cc
 
-one_of : (b : ℕ) → begins_longer b [] ≡ true → (b ≡ 33) ⊎ ((b ≡ 60) ⊎ (b ≡ 62))
+one_of : (b : ℕ) → begins_longer b [] ≡ true → (b ≡ 33) ⊎ ((b ≡ 45) ⊎ ((b ≡ 60) ⊎ (b ≡ 62)))
 one_of b h = Prim.grind arith
 
-other_left : (b : ℕ) (left : List ℕ) (s : tokens.Shape) → (b ≡ 33) ⊎ ((b ≡ 60) ⊎ (b ≡ 62)) → IsToken (Some (tokens.sign_at (b ∷ []))) s left → left ≡ []
+other_left : (b : ℕ) (left : List ℕ) (s : tokens.Shape) → (b ≡ 33) ⊎ ((b ≡ 45) ⊎ ((b ≡ 60) ⊎ (b ≡ 62))) → IsToken (Some (tokens.sign_at (b ∷ []))) s left → left ≡ []
 other_left b left s (inl is) e = let there : IsToken (Some (tokens.sign_at (33 ∷ []))) s left = subst (λ (n : ℕ). IsToken (Some (tokens.sign_at (n ∷ []))) s left) is e in absurd cc
-other_left b left s (inr (inl is)) e = let there : IsToken (Some (tokens.sign_at (60 ∷ []))) s left = subst (λ (n : ℕ). IsToken (Some (tokens.sign_at (n ∷ []))) s left) is e in cc
-other_left b left s (inr (inr is)) e = let there : IsToken (Some (tokens.sign_at (62 ∷ []))) s left = subst (λ (n : ℕ). IsToken (Some (tokens.sign_at (n ∷ []))) s left) is e in cc
+other_left b left s (inr (inl is)) e = let there : IsToken (Some (tokens.sign_at (45 ∷ []))) s left = subst (λ (n : ℕ). IsToken (Some (tokens.sign_at (n ∷ []))) s left) is e in cc
+other_left b left s (inr (inr (inl is))) e = let there : IsToken (Some (tokens.sign_at (60 ∷ []))) s left = subst (λ (n : ℕ). IsToken (Some (tokens.sign_at (n ∷ []))) s left) is e in cc
+other_left b left s (inr (inr (inr is))) e = let there : IsToken (Some (tokens.sign_at (62 ∷ []))) s left = subst (λ (n : ℕ). IsToken (Some (tokens.sign_at (n ∷ []))) s left) is e in cc
 
 class_left : (c : Class) (b : ℕ) (bytes left : List ℕ) (s : tokens.Shape) → goes_on_by c b bytes ≡ true → IsToken (first_by c b bytes) s left → left ≡ []
 class_left white b bytes left s h e = absurd cc

@@ -1,12 +1,13 @@
 -- What is read where a test on the next token holds, and where it doesn't.
-use Rattle.std.proofs.Common.{◌≡◌, Bool, true, false, List, [], ◌∷◌, Some, None, Ok, Err, refl, ap, ◌∙◌, inl, inr}
+use Rattle.std.proofs.Common.{◌≡◌, ℕ, zero, suc, Bool, true, false, List, [], ◌∷◌, Option, Some, None, Ok, Err, refl, ap, ◌∙◌, inl, inr}
 use Rattle.std.specs.Prelude.{cond}
-use Rattle.lt_reading.specs.Reading.{Outcome, halt, not_allowed, too_full, close, token, Reader, ◌>>=◌, next_is, given, led, both, choice, maybe}
+use Rattle.lt_reading.specs.Reading.{Outcome, halt, not_allowed, too_full, close, token, Reader, ◌>>=◌, next_is, given, led, both, choice, maybe, past_comma, listed, some_of, trail}
 use Rattle.lt_model.specs.declared.syntax.Op.TheVariants.{Eq}
+use Rattle.lt_model.specs.declared.kind.Kind.{Kind}
 use Rattle.lt_model.specs.Tokens.{Shape}
-use Rattle.lt_model.specs.Grammar.{left_paren, where_word, semicolon}
+use Rattle.lt_model.specs.Grammar.{left_paren, where_word, semicolon, comma, arrow}
 use Rattle.lt_grammar.specs.Tokens.{same_shape, minus, equals, not_word, insert_word, delete_word, replace_word, require_word, at_word, relation_word, batch_word}
-use Rattle.lt_grammar.specs.Productions.{stands, is_word, is_number, name_at, number_at, quoted_at, constant_of, constant_at, term_of, term_at, terms_at, op_at, other_op_at, plus_at, is_plus, equation_at, rest_at, head_at, literal_of, literal_at, body_at, where_of, where_at, insert_at, delete_at, replace_at, require_at, print_at, form_of, form_at, is_at, item_of, item_at, relation_at, batch_at, show_at}
+use Rattle.lt_grammar.specs.Productions.{stands, is_word, is_number, name_at, number_at, quoted_at, constant_of, constant_at, term_of, term_at, terms_at, op_at, other_op_at, plus_at, is_plus, equation_at, rest_at, head_at, literal_of, literal_at, body_at, where_of, where_at, insert_at, delete_at, replace_at, require_at, print_at, form_of, form_at, is_at, item_of, item_at, relation_at, batch_at, show_at, kind_at, starts_kind}
 use Rattle.lt_grammar.specs.Grammar.{absent, insert, delete, replace, require, print, relation, batch, show}
 
 pub constant_minus : (ts : List Shape) → stands minus ts ≡ true → constant_at ts ≡ given constant_of (given (λ x. inl x) (led same_shape minus (number_at true))) ts
@@ -167,7 +168,7 @@ version_none (t ∷ ts) h = rw h refl
 
 -- ---- items
 
-pub item_relation : (ts : List Shape) → stands relation_word ts ≡ true → item_at ts ≡ given (λ x. relation x.0 x.1.0 x.1.1) relation_at ts
+pub item_relation : (ts : List Shape) → stands relation_word ts ≡ true → item_at ts ≡ given (λ x. relation x.0 x.1.0.0 x.1.0.1 x.1.1) relation_at ts
 unfolding item_at
 item_relation [] h = absurd cc
 item_relation (t ∷ ts) h = rw h (again (λ x. inl x) item_of relation_at (t ∷ ts))
@@ -181,3 +182,22 @@ pub item_show : (ts : List Shape) → stands relation_word ts ≡ false → stan
 unfolding item_at show_at
 item_show [] h k = refl
 item_show (t ∷ ts) h k = rw (h, k) (again (λ x. inr x) item_of (given (λ x. inr x) show_at) (t ∷ ts) ∙ again (λ x. inr x) (λ x. item_of (inr x)) show_at (t ∷ ts))
+
+-- ---- value columns
+
+pub trail_none : (room : ℕ) (ts : List Shape) → stands arrow ts ≡ false → trail same_shape arrow comma starts_kind kind_at room ts ≡ Ok ([], ts)
+trail_none zero [] h = refl
+trail_none zero (t ∷ ts) h = rw h refl
+trail_none (suc room) [] h = refl
+trail_none (suc room) (t ∷ ts) h = rw h refl
+
+pub trail_full : (ts : List Shape) → stands arrow ts ≡ true → trail same_shape arrow comma starts_kind kind_at 0 ts ≡ Err (past_comma starts_kind ts)
+trail_full [] h = absurd cc
+trail_full (t ∷ ts) h = rw h refl
+
+pub trail_some : (room : ℕ) (ts : List Shape) → stands arrow ts ≡ true → trail same_shape arrow comma starts_kind kind_at (suc room) ts ≡ given (λ x. x.0 ∷ x.1) (led same_shape arrow (listed same_shape comma starts_kind kind_at room)) ts
+trail_some room [] h = absurd cc
+trail_some room (t ∷ ts) h =
+    let behind : Outcome Shape (Option (Kind × List Kind)) = given (λ x. Some x) (led same_shape arrow (listed same_shape comma starts_kind kind_at room)) (t ∷ ts) in
+    let left : Outcome Shape (Option (Kind × List Kind)) = made None (t ∷ ts) in
+    ap (λ b. cond b behind left >>= λ x. made (some_of x.0) x.1) h ∙ again (λ x. Some x) some_of (led same_shape arrow (listed same_shape comma starts_kind kind_at room)) (t ∷ ts)

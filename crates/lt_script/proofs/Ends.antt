@@ -18,7 +18,7 @@ further : (t : Shape) (front back us : List Shape) → us ≡ front ++ back → 
 further t front back us e h = record { front = front ++ h.front; is = e ∙ ap (λ (vs : List Shape). front ++ vs) h.is ∙ sym (append_assoc front h.front (t ∷ [])) }
 
 pub item_ends : (item : Item) (us : List Shape) → SpellsItem legal item us → EndsWith semicolon us
-item_ends (Relation name kinds) us h =
+item_ends (Relation name kinds keys) us h =
     further semicolon h.0 h.1 us h.2
     (further semicolon h.4.0 h.4.1 h.1 h.4.2
     (further semicolon h.4.4.0 h.4.4.1 h.4.1 h.4.4.2

@@ -1,14 +1,13 @@
 -- What a feed may answer, from where its parser stopped.
-use Rattle.std.proofs.Common.{◌⊎◌, inl, inr, ◌≡◌, ◌≢◌, ℕ, ◌-◌, ◌<◌, Bool, true, false, List, [], ◌∷◌, ◌++◌, length, take, drop, Option, Some, None, refl, sym, ap, subst, ◌∙◌, append_assoc, arith}
-use Rattle.std.proofs.lemmas.List.{append-nil, append_cancel_left, map-append, length-append, drop_all}
-use Rattle.std.proofs.Transfers.{drop-appended}
+use Rattle.std.proofs.Common.{◌⊎◌, inl, inr, ◌≡◌, ℕ, Bool, true, false, List, [], ◌∷◌, ◌++◌, length, take, Some, refl, sym, ap, subst, ◌∙◌, append_assoc}
+use Rattle.std.proofs.lemmas.List.{append-nil, append_cancel_left, map-append}
 use Rattle.lt_model.specs.declared.syntax.Item.{Item}
 use Rattle.lt_model.specs.Tokens as tokens
 use Rattle.lt_model.specs.Tokens.{Shape, Token, Ending, Read, First, finished, broken, tokens_at}
 use Rattle.lt_model.specs.Grammar.{formed, legal, semicolon, SpellsItem, Derives}
 use Rattle.lt_model.specs.Faults.{Faulty}
 use Rattle.lt_model.specs.Script as script
-use Rattle.lt_script.specs.Pieces.{Leads, goes_on, first_at}
+use Rattle.lt_script.specs.Pieces.{Leads, first_at}
 use Rattle.lt_script.specs.Ahead.{Source, read_all, Place, ahead, shapes, passed_tokens, EndsSo, IsBehindSemicolon, IsUndecided, IsDecided, MayChange}
 use Rattle.lt_script.specs.Taken.{Begins, HasFault, HaltsAt, at_token, cut, torn, Takes, Halts}
 use Rattle.lt_script.specs.Feed as feed

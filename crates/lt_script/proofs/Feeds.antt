@@ -1,17 +1,16 @@
 -- What a feed holds once it has answered.
-use Rattle.std.proofs.Common.{◌≡◌, ℕ, ◌-◌, ◌+◌, ◌<◌, ◌≤◌, Bool, true, false, List, [], ◌∷◌, ◌++◌, length, take, drop, Option, Some, None, Result, Ok, Err, refl, sym, ap, subst, ◌∙◌, append_assoc, arith}
+use Rattle.std.proofs.Common.{◌≡◌, ℕ, ◌-◌, ◌<◌, ◌≤◌, Bool, true, false, List, [], ◌∷◌, ◌++◌, length, take, drop, Option, Some, None, Result, Ok, Err, refl, sym, ap, subst, ◌∙◌, append_assoc, arith}
 use Rattle.std.specs.Prelude.{min, is_some, nat_le, OnErr}
-use Rattle.std.proofs.lemmas.List.{append-nil, length-append, drop_all, take-append-drop}
+use Rattle.std.proofs.lemmas.List.{length-append, drop_all, take-append-drop}
 use Rattle.std.proofs.Transfers.{drop-appended}
 use Rattle.lt_model.specs.declared.syntax.Item.{Item}
 use Rattle.lt_model.specs.Tokens.{Token, Ending, Read, tokens_at}
-use Rattle.lt_model.specs.Grammar.{legal, Derives}
 use Rattle.lt_model.specs.Script as script
 use Rattle.lt_script.specs.Pieces.{Leads}
 use Rattle.lt_script.specs.declared.feed.Feed.{Feed}
 use Rattle.lt_script.specs.declared.feed.Fault.{Fault}
 use Rattle.lt_script.specs.declared.feed.FeedStep.TheVariants as steps
-use Rattle.lt_script.specs.Feed.{kept_of, IsMore, IsClosed, EndsItem, IsOpenAt, StandsBy, HasFed, IsSame, Gives, Goes}
+use Rattle.lt_script.specs.Feed.{kept_of, IsClosed, EndsItem, IsOpenAt, StandsBy, HasFed, IsSame, Gives, Goes}
 use Rattle.lt_script.proofs.Pieces.{leads_none}
 
 abbrev read_of : List Token → Ending → Read

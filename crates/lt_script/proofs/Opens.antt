@@ -1,10 +1,10 @@
 -- What the lexer found at the next token, whatever comes behind the bytes.
-use Rattle.std.proofs.Common.{◌≡◌, ◌≢◌, ℕ, ◌≤◌, ◌<◌, List, [], ◌∷◌, Some, refl, sym, ap, subst, ◌∙◌, arith}
-use Rattle.lt_model.specs.Tokens.{class_of, Class, letter, digit, quote, other, First, token, fault, word_at, number_at, symbol_at, sign_at}
+use Rattle.std.proofs.Common.{◌≡◌, ◌≢◌, ℕ, ◌≤◌, ◌<◌, List, [], ◌∷◌, Some, refl, sym, ap, subst, ◌∙◌}
+use Rattle.lt_model.specs.Tokens.{class_of, Class, letter, digit, quote, other, First, word_at, number_at, symbol_at, sign_at}
 use Rattle.lt_script.specs.declared.lexer.Lexed.{Lexed}
 use Rattle.lt_script.specs.declared.lexer.Lexed.TheVariants.{Token as One, End, Broken}
-use Rattle.lt_script.specs.View.{IsFirst, IsOther, shape}
-use Rattle.lt_script.specs.Pieces.{Passes, first_by, first_at, IsFound, Skipped, Opened}
+use Rattle.lt_script.specs.View.{IsFirst, IsOther}
+use Rattle.lt_script.specs.Pieces.{Passes, first_by, IsFound, Skipped, Opened}
 use Rattle.lt_script.proofs.Firsts.{letter_class, digit_class, other_class}
 use Rattle.lt_script.proofs.Skips.{Arrived, arrives}
 

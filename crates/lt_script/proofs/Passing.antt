@@ -89,7 +89,7 @@ run_left : (p : ℕ → Bool) (xs more : List ℕ) → list_all p xs ≡ true �
 run_left p xs more h = let n : ℕ = prefix_len p (xs ++ more) in omega (arith, run_reaches p xs more h, length-drop n (xs ++ more), length-append xs more)
 
 some_signs : AllByRecursion (λ x. 1 ≤ length x) signs
-some_signs = (omega arith, (omega arith, (omega arith, (omega arith, (omega arith, (omega arith, (omega arith, (omega arith, (omega arith, (omega arith, (omega arith, (omega arith, tt))))))))))))
+some_signs = (omega arith, (omega arith, (omega arith, (omega arith, (omega arith, (omega arith, (omega arith, (omega arith, (omega arith, (omega arith, (omega arith, (omega arith, (omega arith, tt)))))))))))))
 
 sign_left : (b : ℕ) (more left : List ℕ) (s : tokens.Shape) (o : Option (List ℕ)) → ((t : List ℕ) → o ≡ Some t → 1 ≤ length t) → IsToken (Some (tokens.sign_found o (b ∷ more))) s left → length left ≤ length more
 sign_left b more left s None some e = absurd cc

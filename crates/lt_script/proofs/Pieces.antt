@@ -1,5 +1,5 @@
 -- What more bytes change of tokens: nothing of those that are decided.
-use Rattle.std.proofs.Common.{◌≡◌, ◌≢◌, ℕ, zero, suc, ◌+◌, ◌<◌, ◌≤◌, Bool, true, false, cond, ◌&&◌, ◌||◌, List, [], ◌∷◌, ◌++◌, length, take, drop, Option, Some, None, refl, sym, ap, subst, ◌∙◌, append_assoc, arith}
+use Rattle.std.proofs.Common.{◌≡◌, ℕ, ◌+◌, ◌<◌, ◌≤◌, Bool, true, false, cond, ◌&&◌, ◌||◌, List, [], ◌∷◌, ◌++◌, length, take, drop, Option, Some, None, refl, sym, ap, subst, ◌∙◌, append_assoc, arith}
 use Rattle.std.specs.Prelude.{nat_lt, nat_eq, not, ◌==◌, find}
 use Rattle.std.specs.List.{prefix_len, starts_with, list_all, AllByRecursion}
 use Rattle.std.proofs.lemmas.List.{take-append-le, drop-append-le, length-drop}
@@ -89,26 +89,27 @@ sign_goes None xs more short = refl
 sign_goes (Some t) xs more short = ap (λ (rest : List ℕ). token (sign t) rest) (drop-append-le (length t) xs more (short t refl))
 
 short_signs : AllByRecursion (λ x. length x ≤ 2) signs
-short_signs = (omega arith, (omega arith, (omega arith, (omega arith, (omega arith, (omega arith, (omega arith, (omega arith, (omega arith, (omega arith, (omega arith, (omega arith, tt))))))))))))
+short_signs = (omega arith, (omega arith, (omega arith, (omega arith, (omega arith, (omega arith, (omega arith, (omega arith, (omega arith, (omega arith, (omega arith, (omega arith, (omega arith, tt)))))))))))))
 
 two_stay : (b c : ℕ) (bytes more : List ℕ) → sign_at ((b ∷ c ∷ bytes) ++ more) ≡ with_more (sign_at (b ∷ c ∷ bytes)) more
 two_stay b c bytes more = sign_goes (sign_in (b ∷ c ∷ bytes)) (b ∷ c ∷ bytes) more (λ t e. omega (arith, found_in (λ x. length x ≤ 2) (λ s. starts_with nat_eq (b ∷ c ∷ bytes) s) signs t short_signs e))
 
 -- a sign of one byte, where none longer begins with it
-no_longer : (b : ℕ) → ((b == 33) || (b == 60) || (b == 62)) ≡ false → (nat_eq b 33 ≡ false) × (nat_eq b 60 ≡ false) × (nat_eq b 62 ≡ false)
-no_longer b h = go (nat_eq b 33) (nat_eq b 60) (nat_eq b 62) h
+no_longer : (b : ℕ) → ((b == 33) || (b == 45) || (b == 60) || (b == 62)) ≡ false → (nat_eq b 33 ≡ false) × (nat_eq b 45 ≡ false) × (nat_eq b 60 ≡ false) × (nat_eq b 62 ≡ false)
+no_longer b h = go (nat_eq b 33) (nat_eq b 45) (nat_eq b 60) (nat_eq b 62) h
   where
-    go : (x y z : Bool) → (x || y || z) ≡ false → (x ≡ false) × (y ≡ false) × (z ≡ false)
-    go true y z h = absurd cc
-    go false true z h = absurd cc
-    go false false true h = absurd cc
-    go false false false h = (refl, refl, refl)
+    go : (w x y z : Bool) → (w || x || y || z) ≡ false → (w ≡ false) × (x ≡ false) × (y ≡ false) × (z ≡ false)
+    go true x y z h = absurd cc
+    go false true y z h = absurd cc
+    go false false true z h = absurd cc
+    go false false false true h = absurd cc
+    go false false false false h = (refl, refl, refl, refl)
 
 flip : (b n : ℕ) → nat_eq b n ≡ false → nat_eq n b ≡ false
 flip b n h = Prim.grind arith
 
-same_sign : (b : ℕ) (more : List ℕ) → (nat_eq b 33 ≡ false) × (nat_eq b 60 ≡ false) × (nat_eq b 62 ≡ false) → sign_in (b ∷ more) ≡ sign_in (b ∷ [])
-same_sign b more h = rw (flip b 33 h.0, flip b 60 h.1, flip b 62 h.2) refl
+same_sign : (b : ℕ) (more : List ℕ) → (nat_eq b 33 ≡ false) × (nat_eq b 45 ≡ false) × (nat_eq b 60 ≡ false) × (nat_eq b 62 ≡ false) → sign_in (b ∷ more) ≡ sign_in (b ∷ [])
+same_sign b more h = rw (flip b 33 h.0, flip b 45 h.1, flip b 60 h.2, flip b 62 h.3) refl
 
 short_case : (b : ℕ) (t : List ℕ) → starts_with nat_eq (b ∷ []) t ≡ true → length t ≤ 2 → length t ≤ 1
 short_case b [] h le = omega arith

@@ -21,7 +21,7 @@ read_of ts ending = (ts, ending)
 
 -- an item has a token
 pub SpellsItem-some : (item : Item) (us : List Shape) → SpellsItem legal item us → 1 ≤ length us
-SpellsItem-some (Relation name kinds) us h = let k : length us ≡ length (h.0 ++ h.1) = ap (λ (s : List Shape). length s) h.2 in let o : length h.0 ≡ 1 = ap (λ (s : List Shape). length s) h.3 in omega (arith, k, o, length-append h.0 h.1)
+SpellsItem-some (Relation name kinds keys) us h = let k : length us ≡ length (h.0 ++ h.1) = ap (λ (s : List Shape). length s) h.2 in let o : length h.0 ≡ 1 = ap (λ (s : List Shape). length s) h.3 in omega (arith, k, o, length-append h.0 h.1)
 SpellsItem-some (Batch programs) us h = let k : length us ≡ length (h.0 ++ h.1) = ap (λ (s : List Shape). length s) h.2 in let o : length h.0 ≡ 1 = ap (λ (s : List Shape). length s) h.3 in omega (arith, k, o, length-append h.0 h.1)
 SpellsItem-some (Show name version) us h = let k : length us ≡ length (h.0 ++ h.1) = ap (λ (s : List Shape). length s) h.2 in let o : length h.0 ≡ 1 = ap (λ (s : List Shape). length s) h.3 in omega (arith, k, o, length-append h.0 h.1)
 

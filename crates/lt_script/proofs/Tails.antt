@@ -1,14 +1,14 @@
 -- Whether more bytes may make the last token longer.
-use Rattle.std.proofs.Common.{◌⊎◌, inl, inr, ◌≡◌, ◌≢◌, ℕ, ◌≤◌, ◌<◌, Bool, true, false, cond, List, [], ◌∷◌, ◌++◌, length, Some, refl, sym, ap, subst, ◌∙◌, arith}
-use Rattle.std.specs.Prelude.{nat_eq, not, ◌==◌, ◌||◌}
+use Rattle.std.proofs.Common.{inl, inr, ◌≡◌, ℕ, ◌≤◌, ◌<◌, Bool, true, false, List, [], ◌∷◌, length, Some, refl, sym, ap, subst, ◌∙◌, arith}
+use Rattle.std.specs.Prelude.{nat_eq}
 use Rattle.std.specs.List.{prefix_len, list_all}
 use Rattle.std.proofs.lemmas.List.{append-nil}
 use Rattle.lt_model.specs.Tokens as tokens
 use Rattle.lt_model.specs.Tokens.{Class, white, feed, hash, letter, digit, quote, other, class_of, in_word, is_digit, First, token, fault, Read}
 use Rattle.lt_script.specs.View.{IsOther, IsGapless}
-use Rattle.lt_script.specs.Pieces.{IsBack, Leads, Passes, begins_longer, goes_on_by, goes_on, first_by, first_at, Skipped}
-use Rattle.lt_script.specs.Ahead.{Source, Place, passed_tokens, IsBehind, decided, undecided, IsUndecided, IsDecided, MayChange}
-use Rattle.lt_script.proofs.Firsts.{letter_class, digit_class, other_class}
+use Rattle.lt_script.specs.Pieces.{IsBack, Leads, Passes, goes_on_by, goes_on, first_by, first_at, Skipped}
+use Rattle.lt_script.specs.Ahead.{Source, Place, passed_tokens, IsBehind, decided, undecided, MayChange}
+use Rattle.lt_script.proofs.Firsts.{letter_class, digit_class}
 use Rattle.lt_script.proofs.Pieces.{leads_then, run_ends, tokens_first}
 use Rattle.lt_script.proofs.Passing.{passes_leads}
 use Rattle.lt_script.proofs.Skips.{run_whole}

@@ -1,8 +1,9 @@
 -- What is built is within the limits of the language.
-use Rattle.std.proofs.Common.{◌≡◌, ℕ, ◌<◌, ◌≤◌, Bool, true, false, List, [], ◌∷◌, length, map, None, Some, refl, arith}
+use Rattle.std.proofs.Common.{◌≡◌, ℕ, ◌<◌, ◌≤◌, Bool, true, false, List, [], ◌∷◌, ◌++◌, ◌+◌, length, map, None, Some, refl, arith}
 use Rattle.std.specs.Prelude.{◌&&◌}
 use Rattle.std.specs.List.{AllByRecursion, list_all}
-use Rattle.std.proofs.lemmas.List.{length-map}
+use Rattle.std.proofs.lemmas.List.{length-map, length-append}
+use Rattle.lt_model.specs.declared.kind.Kind.{Kind}
 use Rattle.lt_face.specs.Rows.{IsCell}
 use Rattle.lt_model.specs.Tokens.{in_word, between}
 use Rattle.lt_model.specs.Grammar.{digits_value, signed_cell}
@@ -23,7 +24,7 @@ use Rattle.lt_script.specs.declared.tree.Statement.TheVariants.{Insert, Delete, 
 use Rattle.lt_script.specs.declared.tree.Program.{Program}
 use Rattle.lt_script.specs.declared.tree.Item.{Item}
 use Rattle.lt_script.specs.declared.tree.Item.TheVariants.{Relation, Batch, Show}
-use Rattle.lt_script.specs.Tree.{term_of, terms_of, literal_of, literals_of, body_of, statement_of, program_of, item_of}
+use Rattle.lt_script.specs.Tree.{term_of, terms_of, literal_of, literals_of, body_of, kinds_of, statement_of, program_of, item_of}
 use Rattle.lt_script.proofs.Splits.{too_great_is}
 
 -- ---- cells
@@ -103,8 +104,14 @@ program_within p h = record {
   few = omega (arith, length_value statement_of statement_value p.statements.items, h.1.1);
 }
 
+columns_within : (keys values : List Kind) → length (kinds_of keys).1 + length values ≤ 7
+    → (1 ≤ length (((kinds_of keys).0 ∷ (kinds_of keys).1) ++ values)) × (length (((kinds_of keys).0 ∷ (kinds_of keys).1) ++ values) ≤ 8) × (1 ≤ length ((kinds_of keys).0 ∷ (kinds_of keys).1)) × (length ((kinds_of keys).0 ∷ (kinds_of keys).1) ≤ length (((kinds_of keys).0 ∷ (kinds_of keys).1) ++ values))
+columns_within keys values h =
+    let e : length (((kinds_of keys).0 ∷ (kinds_of keys).1) ++ values) ≡ length ((kinds_of keys).0 ∷ (kinds_of keys).1) + length values = length-append ((kinds_of keys).0 ∷ (kinds_of keys).1) values in
+    (omega (arith, e, h), omega (arith, e, h), omega arith, omega (arith, e))
+
 pub item_within : (x : Item) → grammar.IsItem full (item_of x) → IsWithinLimits (item_value (item_of x))
-item_within (Relation name kinds) h = (omega arith, omega (arith, h.1))
+item_within (Relation name keys values) h = columns_within keys.items values.items h.1
 item_within (Batch programs) h = (each_value (grammar.IsProgram full) IsProgramWithin program_of program_value program_within programs.items h.0, omega (arith, length_value program_of program_value programs.items, h.1))
 item_within (Show name None) h = tt
 item_within (Show name (Some digits)) h = omega (arith, h.1)

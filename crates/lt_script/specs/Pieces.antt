@@ -21,7 +21,7 @@ Passes line front ts after left = (bytes : List ℕ) → BeginsAs left bytes →
 
 -- whether this is a sign, or a byte of one, with which a longer sign begins
 abbrev pub begins_longer : ℕ → List ℕ → Bool
-begins_longer b [] = (b == 33) || (b == 60) || (b == 62)
+begins_longer b [] = (b == 33) || (b == 45) || (b == 60) || (b == 62)
 begins_longer b (c ∷ bytes) = false
 
 abbrev pub goes_on_by : Class → ℕ → List ℕ → Bool

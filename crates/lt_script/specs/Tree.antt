@@ -71,12 +71,12 @@ digits_of None = None
 digits_of (Some digits) = Some digits.now
 
 abbrev pub item_of : Item → grammar.Item
-item_of (Relation name kinds) = grammar.relation name.bytes.now (kinds_of kinds.items).0 (kinds_of kinds.items).1
+item_of (Relation name keys values) = grammar.relation name.bytes.now (kinds_of keys.items).0 (kinds_of keys.items).1 values.items
 item_of (Batch programs) = grammar.batch (map program_of programs.items)
 item_of (Show name at) = grammar.show name.bytes.now (digits_of at)
 
--- a relation has columns
+-- a relation has key columns
 abbrev pub HasKinds : Item → Type 0
-HasKinds (Relation name kinds) = 1 ≤ length kinds.items
+HasKinds (Relation name keys values) = 1 ≤ length keys.items
 HasKinds (Batch programs) = Unit {0}
 HasKinds (Show name at) = Unit {0}

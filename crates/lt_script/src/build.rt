@@ -1,6 +1,7 @@
 //! The items that syntax trees stand for: texts of their own in place of slices, and cells in place of digits.
-ghost use Rattle.std.specs.Prelude.{◌≡◌, IfOk, map};
+ghost use Rattle.std.specs.Prelude.{◌≡◌, ◌≤◌, ◌+◌, ◌++◌, IfOk, length, map};
 ghost use Rattle.std.specs.List.{AllByRecursion};
+ghost use Rattle.lt_face.specs.Limits.{most_columns};
 ghost use Rattle.lt_model.specs.Limits.{IsWithinLimits};
 ghost use Rattle.lt_reading.specs.Language.{full};
 ghost use Rattle.lt_grammar.specs.Grammar as grammar;
@@ -209,6 +210,17 @@ fn programs(alloc: Global, programs: &[tree::Program]) -> Result<ProgramList, No
     Ok(built)
 }
 
+// The kinds of the key columns, and behind them those of the value columns.
+fn kinds(alloc: Global, keys: &[Kind], values: &[Kind]) -> Result<KindList, NoMemory>
+    requires { length keys.now + length values.now ≤ most_columns }
+    ensures { IfOk result (λ kinds. kinds ≡ keys.now ++ values.now) }
+{
+    let mut kinds = Vec::with_capacity(alloc, keys.len() + values.len())?;
+    kinds.extend_from_slice(keys)?;
+    kinds.extend_from_slice(values)?;
+    Ok(KindList::from_kinds(alloc, kinds.as_slice()))
+}
+
 fn version(at: &Option<&[u8]>) -> Option<u64>
     requires { IsVersion full (digits_of at.now) }
     ensures { result ≡ version_value (digits_of at.now) }
@@ -228,9 +240,10 @@ pub fn item(alloc: Global, tree: &tree::Item) -> Result<Item, NoMemory>
     ensures within { IfOk result IsWithinLimits }
 {
     Ok(match tree {
-        tree::Item::Relation { name, kinds } => Item::Relation {
+        tree::Item::Relation { name, keys, values } => Item::Relation {
             name: self::name(alloc, name),
-            kinds: KindList::from_kinds(alloc, kinds),
+            kinds: kinds(alloc, keys, values)?,
+            keys: keys.len() as u32,
         },
         tree::Item::Batch { programs } => Item::Batch {
             programs: self::programs(alloc, programs)?,

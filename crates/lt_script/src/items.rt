@@ -1,13 +1,13 @@
 //! The items of a script: declarations, batches and questions.
-ghost use Rattle.std.specs.Prelude.{◌≡◌, ◌∷◌, ◌-◌, IfOk, drop, map, false};
+ghost use Rattle.std.specs.Prelude.{◌≡◌, ◌≤◌, ◌∷◌, ◌-◌, IfOk, drop, length, map, false};
 ghost use Rattle.lt_face.specs.Limits.{most_columns, most_programs};
-ghost use Rattle.lt_reading.specs.Reading.{next_is, led, past_comma, given, many, at_once, maybe};
-ghost use Rattle.lt_model.specs.Grammar.{comma};
+ghost use Rattle.lt_reading.specs.Reading.{next_is, led, listed, trail, past_comma, given, many, at_once, maybe};
+ghost use Rattle.lt_model.specs.Grammar.{comma, arrow};
 ghost use Rattle.lt_grammar.specs.Tokens.{same_shape, at_word};
 ghost use Rattle.lt_grammar.specs.Grammar.{relation, batch, show};
-ghost use Rattle.lt_grammar.specs.Productions.{number_at, kind_at, starts_kind as begins_kind, program_at, is_program, batch_at, relation_at, is_at, show_at, item_at};
+ghost use Rattle.lt_grammar.specs.Productions.{number_at, kind_at, starts_kind as begins_kind, program_at, is_program, batch_at, columns_at, relation_at, is_at, show_at, item_at};
 ghost use Rattle.lt_script.specs.Ahead.{shapes};
-ghost use Rattle.lt_script.specs.Tree.{program_of, digits_of, item_of, HasKinds};
+ghost use Rattle.lt_script.specs.Tree.{program_of, digits_of, kinds_of as kinds_in, item_of, HasKinds};
 ghost use Rattle.lt_script.specs.Parsed.{Parses, Refuses, further};
 
 use crate::cursor::Cursor;
@@ -28,7 +28,7 @@ impl<'a> Cursor<'a> {
         }
     }
 
-    // Why no kind past the last is read.
+    // Why no kind past the last is read, behind a comma or an arrow.
     fn too_many_kinds(&mut self) -> Refusal
         ensures { Refuses result self.old self.new (past_comma begins_kind) }
     {
@@ -49,21 +49,69 @@ impl<'a> Cursor<'a> {
         Ok(kind)
     }
 
-    // The kinds after the first.
-    fn further_kinds(&mut self, alloc: Global, first: Kind) -> Result<Vec<Kind>, Refusal>
-        ensures read { Parses (λ v. drop 1 v.items) result self.old self.new (further begins_kind kind_at (most_columns - 1)) }
+    // This kind, and those behind it, at most so many in all.
+    fn further_kinds(
+        &mut self,
+        alloc: Global,
+        first: Kind,
+        most: usize,
+    ) -> Result<Vec<Kind>, Refusal>
+        requires { 1 ≤ most }
+        ensures read { Parses (λ v. drop 1 v.items) result self.old self.new (further begins_kind kind_at (most - 1)) }
         ensures first { IfOk result (λ v. v.items ≡ first ∷ drop 1 v.items) }
+        ensures few { IfOk result (λ v. length v.items ≤ most) }
     {
         let mut kinds = Vec::new(alloc);
         kinds.push(first)?;
         'kinds: while self.sign_stands(b",") {
-            if kinds.len() == MOST_COLUMNS {
+            if kinds.len() == most {
                 return Err(self.too_many_kinds());
             }
             let kind = self.next_kind()?;
             kinds.push(kind)?;
         }
         Ok(kinds)
+    }
+
+    // The kinds behind the arrow, which stands next: one or more, at most so many.
+    fn kinds_behind(&mut self, alloc: Global, most: usize) -> Result<Vec<Kind>, Refusal>
+        requires { 1 ≤ most }
+        ensures read { Parses (λ v. kinds_in v.items) result self.old self.new (led same_shape arrow (listed same_shape comma begins_kind kind_at (most - 1))) }
+        ensures some { IfOk result (λ v. 1 ≤ length v.items) }
+    {
+        self.sign(b"->")?;
+        let first = self.kind()?;
+        let kinds = self.further_kinds(alloc, first, most)?;
+        Ok(kinds)
+    }
+
+    // The kinds of the value columns behind an arrow, or none. So many key columns stand before it.
+    #[tactic(auto, using(crate::proofs::Choice::trail_none, crate::proofs::Choice::trail_full, crate::proofs::Choice::trail_some))]
+    fn value_kinds(&mut self, alloc: Global, keys: usize) -> Result<Vec<Kind>, Refusal>
+        requires some { 1 ≤ keys }
+        requires few { keys ≤ most_columns }
+        ensures { Parses (λ v. v.items) result self.old self.new (trail same_shape arrow comma begins_kind kind_at (most_columns - keys)) }
+    {
+        if !self.sign_stands(b"->") {
+            return Ok(Vec::new(alloc));
+        }
+        if keys == MOST_COLUMNS {
+            return Err(self.too_many_kinds());
+        }
+        let kinds = self.kinds_behind(alloc, MOST_COLUMNS - keys)?;
+        Ok(kinds)
+    }
+
+    // The kinds of the key columns, and of the value columns.
+    #[tactic(auto, unfolding(lt_grammar::specs::Productions::columns_at))]
+    fn columns(&mut self, alloc: Global) -> Result<(Vec<Kind>, Vec<Kind>), Refusal>
+        ensures read { Parses (λ c. (kinds_in c.0.items, c.1.items)) result self.old self.new columns_at }
+        ensures some { IfOk result (λ c. 1 ≤ length c.0.items) }
+    {
+        let first = self.kind()?;
+        let keys = self.further_kinds(alloc, first, MOST_COLUMNS)?;
+        let values = self.value_kinds(alloc, keys.len())?;
+        Ok((keys, values))
     }
 
     #[tactic(auto, unfolding(lt_grammar::specs::Productions::program_at))]
@@ -107,17 +155,17 @@ impl<'a> Cursor<'a> {
 
     #[tactic(auto, unfolding(lt_grammar::specs::Productions::relation_at))]
     fn relation(&mut self, alloc: Global) -> Result<Item<'a>, Refusal>
-        ensures read { Parses item_of result self.old self.new (given (λ x. relation x.0 x.1.0 x.1.1) relation_at) }
+        ensures read { Parses item_of result self.old self.new (given (λ x. relation x.0 x.1.0.0 x.1.0.1 x.1.1) relation_at) }
         ensures kinds { IfOk result HasKinds }
     {
         self.word(b"relation")?;
         let name = self.name()?;
         self.sign(b"(")?;
-        let first = self.kind()?;
-        let kinds = self.further_kinds(alloc, first)?;
+        let columns = self.columns(alloc)?;
         self.sign(b")")?;
         self.sign(b";")?;
-        Ok(Item::Relation { name, kinds })
+        let (keys, values) = columns;
+        Ok(Item::Relation { name, keys, values })
     }
 
     // `at` and a number, or nothing.

@@ -57,6 +57,7 @@ pub fn sign_len(bytes: &[u8]) -> usize
 {
     match bytes {
         [b'!' | b'<' | b'>', b'=', ..] => 2,
+        [b'-', b'>', ..] => 2,
         [
             b'(' | b')' | b',' | b';' | b'=' | b'<' | b'>' | b'+' | b'-',
             ..

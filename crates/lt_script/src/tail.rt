@@ -19,7 +19,7 @@ pub fn goes_on(bytes: &[u8]) -> bool
         b'a'..=b'z' | b'_' => word_len(bytes) == bytes.len(),
         b'0'..=b'9' => digits_len(bytes) == bytes.len(),
         b'\'' => word_len(after) == after.len(),
-        b'!' | b'<' | b'>' => after.is_empty(),
+        b'!' | b'-' | b'<' | b'>' => after.is_empty(),
         _ => false,
     }
 }

@@ -82,12 +82,14 @@ pub struct Program<'a> {
     pub statements: Vec<Statement<'a>>,
 }
 
-/// A declaration of a relation, a batch of programs, or a question about a relation, at a version where there are digits.
+/// A declaration of a relation, by the kinds of its key columns and of its value columns; a batch of programs; or a question about a
+/// relation, at a version where there are digits.
 #[derive(Drop)]
 pub enum Item<'a> {
     Relation {
         name: Label<'a>,
-        kinds: Vec<Kind>,
+        keys: Vec<Kind>,
+        values: Vec<Kind>,
     },
     Batch {
         programs: Vec<Program<'a>>,

@@ -2,7 +2,7 @@ use Rattle.std.proofs.Common.{◌≡◌, ◌+◌, sym, ap, ◌∙◌}
 use Rattle.std.proofs.lemmas.List.{drop_all}
 use Rattle.std.proofs.lemmas.Result.{err_from_is_err_and}
 use Rattle.lt_model.specs.Check.{Good, checked, checked_from}
-use Rattle.lt_check.proofs.Fitting.{good_fits}
+use Rattle.lt_check.proofs.Fitting.{good_fits, good_inserts}
 use Rattle.lt_check.proofs.Statements.{after_all, checked_more, fault_of, after_all_good}
 use Rattle.lt_check.proofs.check.check.Goals as goal
 
@@ -28,4 +28,7 @@ pub returns-clause-good : goal.returns-clause-good
 returns-clause-good c = whole c
 
 pub returns-clause-fits : goal.returns-clause-fits
-returns-clause-fits c state fits = good_fits c.args.schema.now state c.args.program.now c.loop-place.prog c.requires fits (whole c)
+returns-clause-fits c state fits = good_fits c.args.schema.now state c.args.program.now c.loop-place.prog c.requires fits c.headings-keyed.ensures.keyed (whole c)
+
+pub returns-clause-keyed : goal.returns-clause-keyed
+returns-clause-keyed c = good_inserts c.args.schema.now c.args.program.now c.loop-place.prog c.requires (whole c)

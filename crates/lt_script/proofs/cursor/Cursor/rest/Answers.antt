@@ -1,5 +1,5 @@
 use Rattle.std.proofs.Common.{subst}
-use Rattle.lt_script.specs.Ahead.{Place, source_of, passed_tokens, IsBehind, IsBehindSemicolon}
+use Rattle.lt_script.specs.Ahead.{Place, passed_tokens, IsBehind, IsBehindSemicolon}
 use Rattle.lt_script.proofs.cursor.Cursor.rest.Goals as goal
 
 pub returns-clause-place : goal.returns-clause-place

@@ -1,6 +1,6 @@
 use Rattle.std.proofs.Common.{refl, ap, ◌≡◌, ◌∙◌, ℕ, length, arith}
 use Rattle.std.specs.Prelude.{min}
-use Rattle.lt_script.proofs.Feeds.{same_itself, same_feed, same_kept}
+use Rattle.lt_script.proofs.Feeds.{same_kept}
 use Rattle.lt_script.proofs.feed.Feed.forget_answered.Goals as goal
 
 pub returns-clause-same : goal.returns-clause-same

@@ -1,6 +1,6 @@
-use Rattle.std.proofs.Common.{List, ℕ, arith, sym, subst}
+use Rattle.std.proofs.Common.{List, ℕ, sym, subst}
 use Rattle.lt_script.specs.Pieces.{Leads}
-use Rattle.lt_script.specs.Feed.{kept_of, Finds}
+use Rattle.lt_script.specs.Feed.{Finds}
 use Rattle.lt_script.proofs.feed.Feed.look.Goals as goal
 
 pub returns : goal.returns

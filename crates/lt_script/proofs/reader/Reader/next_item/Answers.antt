@@ -1,4 +1,4 @@
-use Rattle.std.proofs.Common.{sym, subst, ap, ◌∙◌}
+use Rattle.std.proofs.Common.{subst, ap, ◌∙◌}
 use Rattle.lt_script.specs.Ahead.{Source, Place}
 use Rattle.lt_script.specs.Taken.{Takes, IsTaken}
 use Rattle.lt_script.proofs.Reading.{read_item, read_other}
