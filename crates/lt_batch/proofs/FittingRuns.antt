@@ -1,5 +1,5 @@
 -- What a program that fits the snapshot does on a correction that fits, fits.
-use Rattle.std.proofs.Common.{ℕ, ◌≤◌, List, [], ◌∷◌, sym}
+use Rattle.std.proofs.Common.{◌≤◌, List, [], ◌∷◌, sym}
 use Rattle.std.specs.List.{AllByRecursion}
 use Rattle.lt_face.specs.State.{Relation, State}
 use Rattle.lt_face.proofs.RowLemmas.{each_weaker}

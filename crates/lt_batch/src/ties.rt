@@ -55,6 +55,17 @@ fn written(stmt: &Stmt) -> u64 {
     }
 }
 
+/// The relation in which a statement's rows displace others.
+fn displacing(stmt: &Stmt) -> u64 {
+    match stmt {
+        Stmt::Insert { head, keys, .. } if *keys as usize != head.terms.len() => bit(head.relation),
+        Stmt::Replace { come, keys, .. } if *keys as usize != come.terms.len() => {
+            bit(come.relation)
+        }
+        _plain => 0,
+    }
+}
+
 /// The ties of each program of a batch.
 pub(crate) fn ties_of(alloc: Global, progs: &[Arc<Prog>]) -> Result<Vec<Ties>, NoMemory> {
     let mut ties = Vec::with_capacity(alloc, progs.len())?;
@@ -66,7 +77,8 @@ pub(crate) fn ties_of(alloc: Global, progs: &[Arc<Prog>]) -> Result<Vec<Ties>, N
         };
         for stmt in prog.as_slice() {
             let body = body_of(stmt);
-            tie.reads |= named(body.atoms.as_slice()) | named(body.absents.as_slice());
+            tie.reads |= named(body.atoms.as_slice());
+            tie.reads |= named(body.absents.as_slice()) | displacing(stmt);
             before |= written(stmt);
         }
         ties.push(tie)?;

@@ -16,7 +16,7 @@ use Rattle.lt_model.specs.Schema.{Schema}
 use Rattle.lt_model.specs.Check.{Checked, Good, Bad, after_good, checked, checked_from, code_of, normal, or_bad}
 use Rattle.lt_model.specs.Limits.{IsProgramWithin, IsWithinLimits}
 use Rattle.lt_model.specs.Marks.{Marks, and_then, laid}
-use Rattle.lt_model.specs.Effect.{Writes, Requires, Prints, effect}
+use Rattle.lt_model.specs.Effect.{Writes, Requires, Prints, Clashes, effect}
 use Rattle.lt_model.specs.Run.{Progress, run, run_from, run_on}
 use Rattle.lt_model.specs.Serial.{serial}
 use Rattle.lt_model.specs.Report.{Text, World, good_of, step}
@@ -44,6 +44,7 @@ prints_from n j (s ∷ program) state p few =
           let more : length (p.prints ++ printed ∷ []) ≡ length p.prints + 1 = length_push p.prints printed in
           let h : length (p.prints ++ printed ∷ []) + length program ≤ n = omega (arith, few, more) in
           prints_from n (j + 1) program state (record p { prints = p.prints ++ printed ∷ [] }) h
+      | Clashes ↦ tt
     ]
 
 few_of : (reply : Reply) → HasAtMost 64 reply → HasFewPrints reply
@@ -106,7 +107,7 @@ answered_few ((name, Good program) ∷ programs) [] = omega arith
 answered_few ((name, Good program) ∷ programs) (reply ∷ done) = let h = answered_few programs done in omega (arith, h)
 
 pub item_answers_few : (w : World) (item : Item) → IsWithinLimits item → length (answers_to w item) ≤ 256
-item_answers_few w (Relation name kinds) within = omega arith
+item_answers_few w (Relation name kinds keys) within = omega arith
 item_answers_few w (Batch programs) within =
     let few = answered_few (checks w programs) (serial (filter_map (λ check. good_of check.1) (checks w programs)) w.state).0 in
     let same : length (checks w programs) ≡ length programs = length-map programs (λ (p : Program). (p.name, checked p w.schema)) in

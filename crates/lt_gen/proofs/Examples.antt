@@ -39,7 +39,7 @@ group_sizes = refl
 whole_groups : map length (groups (numbers 128)) ≡ 64 ∷ 64 ∷ []
 whole_groups = refl
 
-one_of_each : bench_items 1 1 1 ≡ Relation (codes "stock") (Int ∷ Int ∷ []) ∷ Relation (codes "sale") (Int ∷ Int ∷ Int ∷ []) ∷ Batch (load (stocks 1 19 ∷ []) ∷ []) ∷ Batch (buy 1 4 1 1 ∷ []) ∷ []
+one_of_each : bench_items 1 1 1 ≡ Relation (codes "stock") (Int ∷ Int ∷ []) 2 ∷ Relation (codes "sale") (Int ∷ Int ∷ Int ∷ []) 3 ∷ Batch (load (stocks 1 19 ∷ []) ∷ []) ∷ Batch (buy 1 4 1 1 ∷ []) ∷ []
 one_of_each = refl
 
 -- ---- summaries

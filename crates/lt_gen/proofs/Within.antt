@@ -160,7 +160,7 @@ bench_within seed items programs some few few_programs =
     let few_loads : length (map load (groups rows)) ≤ 256 = omega (arith, loads, few) in
     let load_batch : IsWithinLimits (Batch (map load (groups rows))) = (all_mapped IsProgramWithin load (group_at rows) (range_with_len 0 ((length rows + 63) / 64)) (load_within rows each_row), few_loads) in
     let buy_batch : (j : ℕ) → IsWithinLimits (Batch (group_at buyers j)) = λ j. let h : length (group_at buyers j) ≤ 256 = omega (arith, few_in_group buyers j) in (all_group IsProgramWithin buyers j each_buyer, h) in
-    ((lit≤ tt, lit≤ tt), ((lit≤ tt, lit≤ tt), (load_batch, all_mapped IsWithinLimits Batch (group_at buyers) (range_with_len 0 ((length buyers + 63) / 64)) buy_batch)))
+    ((lit≤ tt, lit≤ tt, lit≤ tt, lit≤ tt), ((lit≤ tt, lit≤ tt, lit≤ tt, lit≤ tt), (load_batch, all_mapped IsWithinLimits Batch (group_at buyers) (range_with_len 0 ((length buyers + 63) / 64)) buy_batch)))
 
 pub bench_count : (seed items programs : ℕ) → programs ≤ 65536 → length (bench_items seed items programs) ≤ 1027
 bench_count seed items programs few =

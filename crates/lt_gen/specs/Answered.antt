@@ -30,7 +30,7 @@ checks w programs = map (λ (p : Program). (p.name, checked p w.schema)) program
 -- what an item's programs answer on a world
 abbrev pub answers_to : World → Item → List Answer
 answers_to w (Batch programs) = answered (checks w programs) (serial (filter_map (λ check. good_of check.1) (checks w programs)) w.state).0
-answers_to w (Relation name kinds) = []
+answers_to w (Relation name kinds keys) = []
 answers_to w (Show name version) = []
 
 -- and those of more items, each on what the items before it left

@@ -34,14 +34,14 @@ buyer seed items p =
     buy p (1 + draw seed (before + 1) 5) (1 + draw seed (before + 2) items) (1 + draw seed (before + 3) items)
 
 abbrev pub stock_item : Item
-stock_item = Relation (codes "stock") (Int ∷ Int ∷ [])
+stock_item = Relation (codes "stock") (Int ∷ Int ∷ []) 2
 
 abbrev pub sale_item : Item
-sale_item = Relation (codes "sale") (Int ∷ Int ∷ Int ∷ [])
+sale_item = Relation (codes "sale") (Int ∷ Int ∷ Int ∷ []) 3
 
 -- the relations of the script, by name
 abbrev pub bench_schema : Schema
-bench_schema = (codes "stock", Int ∷ Int ∷ []) ∷ (codes "sale", Int ∷ Int ∷ Int ∷ []) ∷ []
+bench_schema = (codes "stock", Int ∷ Int ∷ [], 2) ∷ (codes "sale", Int ∷ Int ∷ Int ∷ [], 3) ∷ []
 
 -- one batch, whose programs insert a row for each item
 abbrev pub load_item : ℕ → ℕ → Item

@@ -25,10 +25,12 @@ fn relations(alloc: Global) -> Result<ItemList, NoMemory>
     script.push(Item::Relation {
         name: Name::from_bytes(alloc, b"stock"),
         kinds: KindList::from_kinds(alloc, &[Kind::Int, Kind::Int]),
+        keys: 2,
     })?;
     script.push(Item::Relation {
         name: Name::from_bytes(alloc, b"sale"),
         kinds: KindList::from_kinds(alloc, &[Kind::Int, Kind::Int, Kind::Int]),
+        keys: 3,
     })?;
     Ok(script)
 }

@@ -1,6 +1,6 @@
 -- What a statement does on two states that have the same rows of the relations that it reads.
 use Rattle.std.proofs.Common.{◌≡◌, ℕ, ◌+◌, Bool, true, false, cond, not, ◌&&◌, List, [], ◌∷◌, map, Option, Some, None, refl, ap, ◌∙◌}
-use Rattle.std.specs.Prelude.{filter_map, flat_map}
+use Rattle.std.specs.Prelude.{filter, filter_map, flat_map, if◌then◌else◌}
 use Rattle.std.specs.List.{AllByRecursion, list_any}
 use Rattle.lt_face.specs.Rows.{has_row}
 use Rattle.lt_face.specs.State.{Row, State, rows_in}
@@ -10,10 +10,11 @@ use Rattle.lt_model.specs.declared.normal.Body.{Body}
 use Rattle.lt_model.specs.declared.normal.Stmt.{Stmt}
 use Rattle.lt_model.specs.declared.normal.Stmt.TheVariants.{Insert, Delete, Replace, Require, Print}
 use Rattle.lt_model.specs.Answers.{Assignment, cells_of, rows_under, holds, lacks, rows_eq, picks, answer_of, ascending, answers, fits_pick, assignment_of, some_answer}
-use Rattle.lt_model.specs.Effect.{Writes, Requires, Prints, marks_of, effect}
-use Rattle.lt_model.specs.Marks.{Marks, and_then, laid}
+use Rattle.lt_model.specs.Effect.{Effect, Writes, Requires, Prints, Clashes, same_row, key_terms, key_body, has_clash, displaced_by, displaced, marks_on, marks_of, is_plain, displacing, coming, behind, effect}
+use Rattle.lt_model.specs.Marks.{Marks, laid}
 use Rattle.lt_model.specs.Run.{Progress, run_on, run_from, run}
 use Rattle.lt_query.specs.Needs.{body_of}
+use Rattle.lt_program.specs.Run.{displacing_heads}
 
 -- the states have the same rows of each of these atoms' relations
 abbrev pub HaveSame : State → State → List Atom → Type 0
@@ -22,6 +23,10 @@ HaveSame s t atoms = AllByRecursion (λ (atom : Atom). rows_in s atom.relation �
 -- and of each relation that the body reads
 abbrev pub AreAlikeFor : State → State → Body → Type 0
 AreAlikeFor s t body = HaveSame s t body.atoms × HaveSame s t body.absents
+
+-- and of the relation of which the statement displaces rows
+abbrev pub AreAlikeIn : State → State → Stmt → Type 0
+AreAlikeIn s t stmt = AreAlikeFor s t (body_of stmt) × HaveSame s t (displacing_heads stmt)
 
 module _ (s t : State) where
   picks_alike : (atoms : List Atom) → HaveSame s t atoms → picks atoms s ≡ picks atoms t
@@ -54,21 +59,42 @@ module _ (s t : State) where
   marks_alike : (plus : Bool) (head : Atom) (body : Body) → AreAlikeFor s t body → marks_of plus head body s ≡ marks_of plus head body t
   marks_alike plus head body h = ap (map (λ row. record { relation = head.relation; row = row; plus = plus })) (answers_alike head.terms body h)
 
-  pub effect_alike : (stmt : Stmt) → AreAlikeFor s t (body_of stmt) → effect stmt s ≡ effect stmt t
-  effect_alike (Insert head body) h = ap Writes (marks_alike true head body h)
-  effect_alike (Delete head body) h = ap Writes (marks_alike false head body h)
-  effect_alike (Replace gone come body) h =
-      ap (λ m. Writes (and_then m (marks_of true come body s))) (marks_alike false gone body h)
-      ∙ ap (λ m. Writes (and_then (marks_of false gone body t) m)) (marks_alike true come body h)
-  effect_alike (Require true body) h = ap Requires (some_alike body h)
-  effect_alike (Require false body) h = ap (λ b. Requires (not b)) (some_alike body h)
-  effect_alike (Print terms kinds body) h = ap (Prints kinds) (answers_alike terms body h)
+  pub displaced_alike : (relation keys : ℕ) (rows : List Row) → rows_in s relation ≡ rows_in t relation → displaced relation keys s rows ≡ displaced relation keys t rows
+  displaced_alike relation keys rows h =
+      let each : displaced_by relation keys s ≡ displaced_by relation keys t = λ i. λ row. ap (filter (λ other. not (same_row other row))) (answers_alike (key_terms keys row) (key_body relation keys row) ((h, tt), tt)) i in
+      ap (λ (f : Row → List Row). ascending (flat_map f rows)) each
+
+  coming_alike : (head : Atom) (keys : ℕ) (rows : List Row) → HaveSame s t (if is_plain head keys then [] else head ∷ []) → coming head keys rows s ≡ coming head keys rows t
+  coming_alike head keys rows h =
+      elim (is_plain head keys) as (λ b. HaveSame s t (cond b [] (head ∷ [])) → cond b plain (keyed (displaced head.relation keys s rows)) ≡ cond b plain (keyed (displaced head.relation keys t rows))) [
+        | true ↦ λ same. refl
+        | false ↦ λ same. ap keyed (displaced_alike head.relation keys rows same.0)
+      ] h
+    where
+      plain : Effect
+      plain = Writes (marks_on head.relation true rows)
+
+      keyed : List Row → Effect
+      keyed gone = cond (has_clash keys rows) Clashes (Writes (displacing head.relation gone rows))
+
+  heads_alike : (head : Atom) (keys : ℕ) (body : Body) → AreAlikeFor s t body → HaveSame s t (if is_plain head keys then [] else head ∷ []) → coming head keys (answers head.terms body s) s ≡ coming head keys (answers head.terms body t) t
+  heads_alike head keys body h same = coming_alike head keys (answers head.terms body s) same ∙ ap (λ rows. coming head keys rows t) (answers_alike head.terms body h)
+
+  pub effect_alike : (stmt : Stmt) → AreAlikeIn s t stmt → effect stmt s ≡ effect stmt t
+  effect_alike (Insert head keys body) h = heads_alike head keys body h.0 h.1
+  effect_alike (Delete head body) h = ap Writes (marks_alike false head body h.0)
+  effect_alike (Replace gone come keys body) h =
+      ap (λ m. behind m (coming come keys (answers come.terms body s) s)) (marks_alike false gone body h.0)
+      ∙ ap (behind (marks_of false gone body t)) (heads_alike come keys body h.0 h.1)
+  effect_alike (Require true body) h = ap Requires (some_alike body h.0)
+  effect_alike (Require false body) h = ap (λ b. Requires (not b)) (some_alike body h.0)
+  effect_alike (Print terms kinds body) h = ap (Prints kinds) (answers_alike terms body h.0)
 
 -- ---- whole runs
 
--- whatever marks are laid on both, the states are alike for each statement's body
+-- whatever marks are laid on both, the states are alike for each statement
 abbrev pub StayAlikeFor : State → State → List Stmt → Type 0
-StayAlikeFor s t program = AllByRecursion (λ (stmt : Stmt). (marks : Marks) → AreAlikeFor (laid s marks) (laid t marks) (body_of stmt)) program
+StayAlikeFor s t program = AllByRecursion (λ (stmt : Stmt). (marks : Marks) → AreAlikeIn (laid s marks) (laid t marks) stmt) program
 
 run_from_alike : (j : ℕ) (program : List Stmt) (s t : State) (p : Progress) → StayAlikeFor s t program → run_from j program s p ≡ run_from j program t p
 run_from_alike j [] s t p h = refl

@@ -6,11 +6,15 @@ use Rattle.lt_model.specs.declared.normal.Atom.{Atom}
 use Rattle.lt_model.specs.declared.normal.Body.{Body}
 use Rattle.lt_model.specs.declared.normal.Stmt.{Stmt}
 use Rattle.lt_query.specs.Needs.{body_of}
-use Rattle.lt_program.specs.Run.{reads_rows}
+use Rattle.lt_program.specs.Run.{displacing_heads, reads_rows}
 
 -- it names no row
 abbrev pub IsBare : Body → Type 0
 IsBare body = (body.atoms ≡ []) × (body.absents ≡ [])
+
+-- its body names no row, and no row is displaced
+abbrev pub IsUnread : Stmt → Type 0
+IsUnread stmt = IsBare (body_of stmt) × (displacing_heads stmt ≡ [])
 
 abbrev pub bare_of : Body → Body
 bare_of body = record { atoms = []; absents = []; tests = body.tests; vars = body.vars }
@@ -28,7 +32,8 @@ empty : (atoms : List Atom) → nat_lt 0 (length atoms) ≡ false → atoms ≡ 
 empty [] h = refl
 empty (atom ∷ atoms) h = absurd (let e : nat_lt 0 (length (atom ∷ atoms)) ≡ true = grind (arith, nat_tests) in cc)
 
-pub reads_none : (stmt : Stmt) → reads_rows stmt ≡ false → IsBare (body_of stmt)
+pub reads_none : (stmt : Stmt) → reads_rows stmt ≡ false → IsUnread stmt
 reads_none stmt h =
-    let both = neither (nat_lt 0 (length (body_of stmt).atoms)) (nat_lt 0 (length (body_of stmt).absents)) h in
-    (empty (body_of stmt).atoms both.0, empty (body_of stmt).absents both.1)
+    let atoms = neither (nat_lt 0 (length (body_of stmt).atoms)) (nat_lt 0 (length (body_of stmt).absents) || nat_lt 0 (length (displacing_heads stmt))) h in
+    let others = neither (nat_lt 0 (length (body_of stmt).absents)) (nat_lt 0 (length (displacing_heads stmt))) atoms.1 in
+    ((empty (body_of stmt).atoms atoms.0, empty (body_of stmt).absents others.0), empty (displacing_heads stmt) others.1)

@@ -112,9 +112,9 @@ each_in P [] x there all = absurd there
 each_in P (y ∷ xs) x there all = elim there [ inl e ↦ subst P e all.0 | inr k ↦ each_in P xs x k all.1 ]
 
 pub body_fits : (state : State) (stmt : Stmt) → FitsStatement state stmt → IsBodyOf state (body_of stmt)
-body_fits state (Insert head body) h = h.0
+body_fits state (Insert head keys body) h = h.0
 body_fits state (Delete head body) h = h.0
-body_fits state (Replace gone come body) h = h.0
+body_fits state (Replace gone come keys body) h = h.0
 body_fits state (Require some body) h = h
 body_fits state (Print terms kinds body) h = h.0
 

@@ -15,10 +15,10 @@ use Rattle.lt_join.specs.Mended.{HaveTouched}
 use Rattle.lt_join.specs.MendedPlan.{mending_cost}
 use Rattle.lt_program.specs.declared.course.Course.{Course}
 use Rattle.lt_program.specs.declared.part.Part.{Part}
-use Rattle.lt_program.specs.Kept.{first_rows, second_rows, marks_past}
+use Rattle.lt_program.specs.Kept.{IsOrdered, marks_past}
 use Rattle.lt_program.specs.Sound.{tally_of, IsSound}
 use Rattle.lt_program.specs.Tally.{TallyView, IsPartOn, IsMendedPart, IsRun, is_next_sliced, is_sliced, is_sliced_at, mending_on, run_of_first, sense_of, state_before}
-use Rattle.lt_program.proofs.Recalls.{first_ascends, second_ascends, marks_recalled}
+use Rattle.lt_program.proofs.Recalls.{part_ordered, marks_recalled}
 use Rattle.lt_program.proofs.Sounds.{statement_fits}
 use Rattle.lt_program.proofs.Stays.{part_stays}
 use Rattle.lt_program.proofs.TallyGrows.{first_fits}
@@ -114,11 +114,8 @@ module _ (program : List Stmt) (base : List Table) (course : Course) (t : TallyV
     is_part : IsPartOn stmt (state_before n program (state_of base)) part
     is_part = sound.run.parts n stmt part stmt_at part_at
 
-    pub first_at : (q : Part) → q ≡ part → IsAscending (first_rows q.outcome)
-    first_at q e = subst (λ (p : Part). IsAscending (first_rows p.outcome)) (sym e) (first_ascends stmt (state_before n program (state_of base)) part is_part)
-
-    pub second_at : (q : Part) → q ≡ part → IsAscending (second_rows q.outcome)
-    second_at q e = subst (λ (p : Part). IsAscending (second_rows p.outcome)) (sym e) (second_ascends stmt (state_before n program (state_of base)) part is_part)
+    pub ordered_at : (q : Part) → q ≡ part → IsOrdered q.outcome
+    ordered_at q e = subst (λ (p : Part). IsOrdered p.outcome) (sym e) (part_ordered stmt (state_before n program (state_of base)) part is_part)
 
     after : (q : Part) (before marks : Marks) → q ≡ part → before ≡ (run_of_first n t.program (state_of t.base)).1 → marks ≡ marks_past stmt q.outcome before → marks ≡ (run_of_first (n + 1) program (state_of base)).1
     after q before marks e is_before made =

@@ -1,5 +1,5 @@
 -- Statements kept by slices, and their parts.
-use Rattle.std.proofs.Common.{◌≡◌, ℕ, ◌+◌, ◌<◌, ◌≤◌, true, false, List, [], ◌∷◌, ◌++◌, map, take, drop, length, refl, sym, ap, ◌∙◌, subst, inl, inr, arith}
+use Rattle.std.proofs.Common.{◌≡◌, ℕ, ◌+◌, ◌<◌, ◌≤◌, Bool, true, false, cond, List, [], ◌∷◌, ◌++◌, map, take, drop, length, refl, sym, ap, ◌∙◌, subst, inl, inr, arith}
 use Rattle.std.specs.Prelude.{nat_lt, nat_le, ◌&&◌}
 use Rattle.std.specs.List.{AllByRecursion, AllZip, flat_map}
 use Rattle.std.proofs.lemmas.Bool.{and_parts, true≢false, cases_lt, lt-ltb, le-ltb, ltb-true, leb-true}
@@ -12,6 +12,7 @@ use Rattle.lt_model.specs.declared.normal.Stmt.{Stmt}
 use Rattle.lt_model.specs.declared.normal.Stmt.TheVariants.{Insert, Delete, Replace, Require, Print}
 use Rattle.lt_model.specs.Answers.{answers, ascending}
 use Rattle.lt_model.specs.Bound.{are_bound}
+use Rattle.lt_model.specs.Effect.{is_plain, has_clash, key_body}
 use Rattle.lt_model.specs.Fits.{IsBodyOf, FitsStatement}
 use Rattle.lt_base.specs.Tables.{Table, has_index}
 use Rattle.lt_query.specs.declared.plans.Guide.{Guide}
@@ -41,7 +42,7 @@ use Rattle.lt_program.specs.declared.part.Outcome.{Outcome}
 use Rattle.lt_program.specs.declared.part.Outcome.TheVariants.{Both}
 use Rattle.lt_program.specs.declared.part.Part.{Part}
 use Rattle.lt_program.specs.Planned.{IsPlanned, ArePicked}
-use Rattle.lt_program.specs.Tally.{HasIndexesOf, IsPartOn, IsKeptAs, IsMendedPart, VouchesFor, outcome_on, has_level, is_sliced, slice_terms}
+use Rattle.lt_program.specs.Tally.{HasIndexesOf, IsPartOn, IsKeptAs, IsMendedPart, CertifiesKeys, VouchesFor, keyed_on, outcome_on, has_level, is_sliced, slice_terms}
 use Rattle.lt_program.proofs.IndexesMade.{body_fits}
 use Rattle.lt_program.proofs.Picked.{head_picked, print_picked}
 use Rattle.lt_program.proofs.TwoHeads.{both_picked, first_answers, second_answers}
@@ -77,18 +78,22 @@ level_there body n widths is =
       | inr le ↦ ap (nat_lt 0) is ∙ (le-ltb 0 (length body.atoms) le ∙ sym (no_level body (none_of body.atoms le)))
     ]
 
+none_and : (a b : Bool) → b ≡ false → (a && b) ≡ false
+none_and true b e = e
+none_and false b e = refl
+
 -- a statement that reads no relation isn't kept by slices
 pub not_sliced : (stmt : Stmt) → (body_of stmt).atoms ≡ [] → is_sliced stmt ≡ false
-not_sliced (Insert head body) e = no_level body e
+not_sliced (Insert head keys body) e = none_and (is_plain head keys) (has_level body) (no_level body e)
 not_sliced (Delete head body) e = no_level body e
-not_sliced (Replace gone come body) e = ap (λ b. b && nat_le (length gone.terms + length come.terms) 8) (no_level body e)
+not_sliced (Replace gone come keys body) e = none_and (is_plain come keys) (has_level body && nat_le (length gone.terms + length come.terms) 8) (ap (λ b. b && nat_le (length gone.terms + length come.terms) 8) (no_level body e))
 not_sliced (Require some body) e = refl
 not_sliced (Print terms kinds body) e = no_level body e
 
 pub sliced_level : (stmt : Stmt) → is_sliced stmt ≡ true → has_level (body_of stmt) ≡ true
-sliced_level (Insert head body) h = h
+sliced_level (Insert head keys body) h = (and_parts (is_plain head keys) (has_level body) h).1
 sliced_level (Delete head body) h = h
-sliced_level (Replace gone come body) h = (and_parts (has_level body) (nat_le (length gone.terms + length come.terms) 8) h).0
+sliced_level (Replace gone come keys body) h = (and_parts (has_level body) (nat_le (length gone.terms + length come.terms) 8) (and_parts (is_plain come keys) _ h).1).0
 sliced_level (Require some body) h = absurd (true≢false (sym h))
 sliced_level (Print terms kinds body) h = h
 
@@ -102,33 +107,44 @@ body_widths state stmt wide fits = widths_of state (body_of stmt) wide (body_fit
 
 -- the terms that the slices of a statement answer
 pub terms_picked : (state : State) (stmt : Stmt) → AreWide state → FitsStatement state stmt → is_sliced stmt ≡ true → ArePicked (body_of stmt) (slice_terms stmt)
-terms_picked state (Insert head body) wide fits sliced = head_picked state body head wide fits.0 fits.1
+terms_picked state (Insert head keys body) wide fits sliced = head_picked state body head wide fits.0 fits.1
 terms_picked state (Delete head body) wide fits sliced = head_picked state body head wide fits.0 fits.1
-terms_picked state (Replace gone come body) wide fits sliced =
+terms_picked state (Replace gone come keys body) wide fits sliced =
     both_picked body gone.terms come.terms (head_picked state body gone wide fits.0 fits.1) (head_picked state body come wide fits.0 fits.2)
-    (leb-true (length gone.terms + length come.terms) 8 (and_parts (has_level body) (nat_le (length gone.terms + length come.terms) 8) sliced).1)
+    (leb-true (length gone.terms + length come.terms) 8 (and_parts (has_level body) (nat_le (length gone.terms + length come.terms) 8) (and_parts (is_plain come keys) _ sliced).1).1)
 terms_picked state (Require some body) wide fits sliced = absurd (true≢false (sym sliced))
 terms_picked state (Print terms kinds body) wide fits sliced = print_picked body terms (length kinds) fits.1
 
 -- the outcome of a `replace`, of the answers of the terms of both heads
-pub both_by : (gone come : Atom) (body : Body) (state : State) (rows first second : List Row) (at : ℕ) → at ≡ length gone.terms → first ≡ ascending (map (take at) rows) → second ≡ ascending (map (drop at) rows) → rows ≡ answers (gone.terms ++ come.terms) body state → Both first second ≡ outcome_on (Replace gone come body) state
-both_by gone come body state rows first second at width a b found =
+pub both_by : (gone come : Atom) (keys : ℕ) (body : Body) (state : State) (rows first second : List Row) (at : ℕ) → is_plain come keys ≡ true → at ≡ length gone.terms → first ≡ ascending (map (take at) rows) → second ≡ ascending (map (drop at) rows) → rows ≡ answers (gone.terms ++ come.terms) body state → Both first second ≡ outcome_on (Replace gone come keys body) state
+both_by gone come keys body state rows first second at plain width a b found =
     let one : first ≡ answers gone.terms body state = first_answers gone.terms come.terms (gone.terms ++ come.terms) body state rows (map (take at) rows) first at refl width found refl a in
     let other : second ≡ answers come.terms body state = second_answers gone.terms come.terms (gone.terms ++ come.terms) body state rows (map (drop at) rows) second at refl width found refl b in
     ap (λ (x : List Row). Both x second) one ∙ ap (Both (answers gone.terms body state)) other
+    ∙ ap (λ p. cond p (Both (answers gone.terms body state) (answers come.terms body state)) (keyed_on come keys (answers gone.terms body state) (answers come.terms body state) state)) (sym plain)
 
-pub both_here : (stmt : Stmt) (gone come : Atom) (body : Body) (state : State) (rows first second : List Row) (at : ℕ) → stmt ≡ Replace gone come body → at ≡ length gone.terms → first ≡ ascending (map (take at) rows) → second ≡ ascending (map (drop at) rows)
+-- a `replace` that is kept by slices has key columns alone
+pub plain_sliced : (stmt : Stmt) (gone come : Atom) (keys : ℕ) (body : Body) → stmt ≡ Replace gone come keys body → is_sliced stmt ≡ true → is_plain come keys ≡ true
+plain_sliced stmt gone come keys body is sliced =
+    (and_parts (is_plain come keys) (has_level body && nat_le (length gone.terms + length come.terms) 8) (subst (λ (s : Stmt). is_sliced s ≡ true) is sliced)).0
+
+pub both_here : (stmt : Stmt) (gone come : Atom) (keys : ℕ) (body : Body) (state : State) (rows first second : List Row) (at : ℕ) → stmt ≡ Replace gone come keys body → is_plain come keys ≡ true → at ≡ length gone.terms → first ≡ ascending (map (take at) rows) → second ≡ ascending (map (drop at) rows)
     → rows ≡ answers (slice_terms stmt) (body_of stmt) state → Both first second ≡ outcome_on stmt state
-both_here stmt gone come body state rows first second at is width a b found =
+both_here stmt gone come keys body state rows first second at is plain width a b found =
     subst (λ (s : Stmt). Both first second ≡ outcome_on s state) (sym is)
-    (both_by gone come body state rows first second at width a b (subst (λ (s : Stmt). rows ≡ answers (slice_terms s) (body_of s) state) is found))
+    (both_by gone come keys body state rows first second at plain width a b (subst (λ (s : Stmt). rows ≡ answers (slice_terms s) (body_of s) state) is found))
 
 -- ---- parts
 
+-- where all columns are key columns no key is looked up
+plain_certifies : (sense : Sense) (head : Atom) (keys : ℕ) (rows : List Row) (state : State) → is_plain head keys ≡ true → CertifiesKeys sense head keys rows state
+plain_certifies sense head keys rows state plain =
+    subst (λ b. AllByRecursion (λ row. Certifies sense (key_body head.relation keys row) state) (cond b [] (cond (has_clash keys rows) [] rows))) (sym plain) tt
+
 vouches_by : (sense : Sense) (stmt : Stmt) (state : State) → is_sliced stmt ≡ true → Certifies sense (body_of stmt) state → VouchesFor sense stmt state
-vouches_by sense (Insert head body) state sliced h = h
+vouches_by sense (Insert head keys body) state sliced h = (h, plain_certifies sense head keys (answers head.terms body state) state (and_parts (is_plain head keys) (has_level body) sliced).0)
 vouches_by sense (Delete head body) state sliced h = h
-vouches_by sense (Replace gone come body) state sliced h = h
+vouches_by sense (Replace gone come keys body) state sliced h = (h, plain_certifies sense come keys (answers come.terms body state) state (and_parts (is_plain come keys) _ sliced).0)
 vouches_by sense (Require some body) state sliced h = absurd (true≢false (sym sliced))
 vouches_by sense (Print terms kinds body) state sliced h = h
 
@@ -162,12 +178,12 @@ kept_whole stmt state part not none = record { by_slices = λ yes. absurd (true�
 
 -- ---- two heads
 
-replace_narrow : (state : State) (gone come : Atom) (body : Body) → AreWide state → FitsStatement state (Replace gone come body) → (length gone.terms ≤ 8) × (length come.terms ≤ 8)
-replace_narrow state gone come body wide fits = ((head_picked state body gone wide fits.0 fits.1).narrow, (head_picked state body come wide fits.0 fits.2).narrow)
+replace_narrow : (state : State) (gone come : Atom) (keys : ℕ) (body : Body) → AreWide state → FitsStatement state (Replace gone come keys body) → (length gone.terms ≤ 8) × (length come.terms ≤ 8)
+replace_narrow state gone come keys body wide fits = ((head_picked state body gone wide fits.0 fits.1).narrow, (head_picked state body come wide fits.0 fits.2).narrow)
 
 -- the heads of a `replace` are narrow
-pub narrow_heads : (state : State) (stmt : Stmt) (gone come : Atom) (body : Body) → stmt ≡ Replace gone come body → AreWide state → FitsStatement state stmt → (length gone.terms ≤ 8) × (length come.terms ≤ 8)
-narrow_heads state stmt gone come body is wide fits = replace_narrow state gone come body wide (subst (FitsStatement state) is fits)
+pub narrow_heads : (state : State) (stmt : Stmt) (gone come : Atom) (keys : ℕ) (body : Body) → stmt ≡ Replace gone come keys body → AreWide state → FitsStatement state stmt → (length gone.terms ≤ 8) × (length come.terms ≤ 8)
+narrow_heads state stmt gone come keys body is wide fits = replace_narrow state gone come keys body wide (subst (FitsStatement state) is fits)
 
 -- ---- joins
 

@@ -3,6 +3,7 @@ pub mod MarkedRows
 pub mod BoundCells
 pub mod ReadingNone
 pub mod FittingRuns
+pub mod KeysStay
 pub mod RunGrows
 pub mod TallyGrows
 pub mod NoAtoms
@@ -19,5 +20,15 @@ pub mod LaterMarks
 pub mod TwoHeads
 pub mod KeptSlices
 pub mod Bare
+pub mod FirstCells
+pub mod Around
+pub mod KeyRuns
+pub mod KeyWalk
+pub mod Clashes
+pub mod KeysLooked
+pub mod KeysAll
+pub mod Noted
+pub mod Parts
+pub mod SenseGrows
 pub mod Alike
 pub mod ReadingMarked

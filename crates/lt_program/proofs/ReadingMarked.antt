@@ -1,7 +1,7 @@
 -- A program that reads no relation with a mark does the same with the marks laid.
 use Rattle.std.proofs.Common.{◌≡◌, ◌≢◌, ℕ, zero, suc, Bool, false, true, inl, inr, List, [], ◌∷◌, length, refl, sym, ap, ◌∙◌, arith}
 use mathlib.Core.Bool.{true≢false}
-use Rattle.std.specs.Prelude.{◌==◌, IsTrue}
+use Rattle.std.specs.Prelude.{◌==◌, ◌||◌, IsTrue}
 use Rattle.std.specs.List.{AllByRecursion, list_any}
 use Rattle.std.proofs.lemmas.Bool.{eq-eqb, ne_eqb, or_left, or_right}
 use Rattle.lt_face.specs.Lists.{AnyByRecursion}
@@ -13,9 +13,9 @@ use Rattle.lt_model.specs.Marks.{Marks, write, change, lay, laid}
 use Rattle.lt_model.specs.Run.{run}
 use Rattle.lt_model.proofs.Laws.{change_length}
 use Rattle.lt_query.specs.Needs.{body_of}
-use Rattle.lt_program.specs.Run.{is_marked, are_marked, reads_marked_in}
+use Rattle.lt_program.specs.Run.{displacing_heads, is_marked, are_marked, reads_marked_in}
 use Rattle.lt_program.proofs.Bare.{neither}
-use Rattle.lt_program.proofs.Alike.{HaveSame, AreAlikeFor, StayAlikeFor, run_alike}
+use Rattle.lt_program.proofs.Alike.{HaveSame, StayAlikeFor, run_alike}
 
 -- ---- whether a relation has a mark
 
@@ -78,8 +78,9 @@ module _ (s : State) (marks : Marks) where
   all_alike [] h = tt
   all_alike (stmt ∷ program) h =
       let both = neither (reads_marked_in marks stmt) (list_any (reads_marked_in marks) program) h in
-      let parts = neither (are_marked marks (body_of stmt).atoms) (are_marked marks (body_of stmt).absents) both.0 in
-      (λ more. (all_same more (body_of stmt).atoms parts.0, all_same more (body_of stmt).absents parts.1), all_alike program both.1)
+      let atoms = neither (are_marked marks (body_of stmt).atoms) (are_marked marks (body_of stmt).absents || are_marked marks (displacing_heads stmt)) both.0 in
+      let others = neither (are_marked marks (body_of stmt).absents) (are_marked marks (displacing_heads stmt)) atoms.1 in
+      (λ more. ((all_same more (body_of stmt).atoms atoms.0, all_same more (body_of stmt).absents others.0), all_same more (displacing_heads stmt) others.1), all_alike program both.1)
 
   pub run-unmarked : (program : List Stmt) → list_any (reads_marked_in marks) program ≡ false → run program s ≡ run program (laid s marks)
   run-unmarked program h = run_alike program s (laid s marks) (all_alike program h)

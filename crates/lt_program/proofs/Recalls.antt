@@ -1,51 +1,131 @@
 -- What a statement does, by its outcome alone, is what it does on the state.
-use Rattle.std.proofs.Common.{◌≡◌, ℕ, suc, ◌+◌, ◌<◌, Bool, true, false, not, [], ◌∷◌, ◌++◌, length, Some, refl, sym, ap, ◌∙◌, subst}
-use Rattle.std.specs.Prelude.{slice_get, if◌then◌else◌}
+use Rattle.std.proofs.Common.{◌≡◌, ℕ, suc, ◌+◌, ◌<◌, Bool, true, false, cond, not, List, [], ◌∷◌, ◌++◌, length, Some, refl, sym, ap, ◌∙◌, subst}
+use Rattle.std.specs.Prelude.{slice_get, flat_map, if◌then◌else◌}
 use Rattle.lt_face.specs.Rows.{IsAscending}
-use Rattle.lt_face.specs.State.{State}
+use Rattle.lt_face.specs.State.{Row, State}
+use Rattle.lt_model.specs.Answers.{answers}
+use Rattle.lt_model.specs.declared.normal.Term.{Term}
+use Rattle.lt_model.specs.declared.normal.Atom.{Atom}
+use Rattle.lt_model.specs.declared.normal.Body.{Body}
 use Rattle.lt_model.specs.declared.normal.Stmt.{Stmt}
 use Rattle.lt_model.specs.declared.normal.Stmt.TheVariants.{Insert, Delete, Replace, Require, Print}
+use Rattle.lt_model.specs.declared.reply.Printed.{Printed}
 use Rattle.lt_model.specs.declared.reply.Reply.{Reply}
 use Rattle.lt_model.specs.declared.reply.Reply.TheVariants.{Done, Refused}
-use Rattle.lt_model.specs.Effect.{Effect, Requires, effect}
-use Rattle.lt_model.specs.Marks.{Marks, laid}
+use Rattle.lt_model.specs.Effect.{Effect, Writes, Requires, Clashes, marks_on, is_plain, displacing, displaced_by, displaced, has_clash, coming, behind, effect}
+use Rattle.lt_model.specs.Marks.{Marks, and_then, laid}
 use Rattle.lt_base.specs.Tables.{state_of}
 use Rattle.lt_program.specs.declared.course.Course.{Course}
 use Rattle.lt_program.specs.declared.part.Outcome.{Outcome}
+use Rattle.lt_program.specs.declared.part.Outcome.TheVariants.{Rows, Both, Keyed}
 use Rattle.lt_program.specs.declared.part.Part.{Part}
-use Rattle.lt_program.specs.Kept.{first_rows, second_rows, refused_by, marks_past, effect_by}
-use Rattle.lt_program.specs.Tally.{TallyView, IsPartOn, IsRun, Grows, outcome_on, is_refused, next, run_of_first, state_before}
+use Rattle.lt_program.specs.Kept.{IsOrdered, first_rows, second_rows, displaced_rows, clashes_in, written_by, refused_by, marks_past, effect_by}
+use Rattle.lt_program.specs.Tally.{TallyView, IsPartOn, IsRun, Grows, looked_up, keyed_on, outcome_on, is_refused, next, run_of_first, state_before}
+use Rattle.lt_query.proofs.Ascending.{IsAscending-ascending}
+use Rattle.lt_query.proofs.Wide.{answers_wide}
+use Rattle.lt_program.specs.Displacing.{HaveOneWidth}
 use Rattle.lt_program.proofs.Picked.{answers_rise}
 use Rattle.lt_program.proofs.RunGrows.{first_more}
 
 first_rise : (stmt : Stmt) (state : State) → IsAscending (first_rows (outcome_on stmt state))
-first_rise (Insert head body) state = answers_rise head.terms body state _ refl
+first_rise (Insert head keys body) state =
+    elim (is_plain head keys) as (λ b. IsAscending (first_rows (cond b (Rows (answers head.terms body state)) (keyed_on head keys [] (answers head.terms body state) state)))) [ true ↦ answers_rise head.terms body state _ refl | false ↦ tt ]
 first_rise (Delete head body) state = answers_rise head.terms body state _ refl
-first_rise (Replace gone come body) state = answers_rise gone.terms body state _ refl
+first_rise (Replace gone come keys body) state =
+    elim (is_plain come keys) as (λ b. IsAscending (first_rows (cond b (Both (answers gone.terms body state) (answers come.terms body state)) (keyed_on come keys (answers gone.terms body state) (answers come.terms body state) state)))) [
+      | true ↦ answers_rise gone.terms body state _ refl
+      | false ↦ answers_rise gone.terms body state _ refl
+    ]
 first_rise (Require some body) state = tt
 first_rise (Print terms kinds body) state = answers_rise terms body state _ refl
 
 second_rise : (stmt : Stmt) (state : State) → IsAscending (second_rows (outcome_on stmt state))
-second_rise (Insert head body) state = tt
+second_rise (Insert head keys body) state =
+    elim (is_plain head keys) as (λ b. IsAscending (second_rows (cond b (Rows (answers head.terms body state)) (keyed_on head keys [] (answers head.terms body state) state)))) [ true ↦ tt | false ↦ answers_rise head.terms body state _ refl ]
 second_rise (Delete head body) state = tt
-second_rise (Replace gone come body) state = answers_rise come.terms body state _ refl
+second_rise (Replace gone come keys body) state =
+    elim (is_plain come keys) as (λ b. IsAscending (second_rows (cond b (Both (answers gone.terms body state) (answers come.terms body state)) (keyed_on come keys (answers gone.terms body state) (answers come.terms body state) state)))) [
+      | true ↦ answers_rise come.terms body state _ refl
+      | false ↦ answers_rise come.terms body state _ refl
+    ]
 second_rise (Require some body) state = tt
 second_rise (Print terms kinds body) state = tt
 
-pub first_ascends : (stmt : Stmt) (state : State) (part : Part) → IsPartOn stmt state part → IsAscending (first_rows part.outcome)
-first_ascends stmt state part is = subst (λ (o : Outcome). IsAscending (first_rows o)) (sym is.outcome) (first_rise stmt state)
+displaced_rise : (stmt : Stmt) (state : State) → IsAscending (displaced_rows (outcome_on stmt state))
+displaced_rise (Insert head keys body) state =
+    elim (is_plain head keys) as (λ b. IsAscending (displaced_rows (cond b (Rows (answers head.terms body state)) (keyed_on head keys [] (answers head.terms body state) state)))) [
+      | true ↦ tt
+      | false ↦ IsAscending-ascending (flat_map (displaced_by head.relation keys state) (looked_up head keys (answers head.terms body state)))
+    ]
+displaced_rise (Delete head body) state = tt
+displaced_rise (Replace gone come keys body) state =
+    elim (is_plain come keys) as (λ b. IsAscending (displaced_rows (cond b (Both (answers gone.terms body state) (answers come.terms body state)) (keyed_on come keys (answers gone.terms body state) (answers come.terms body state) state)))) [
+      | true ↦ tt
+      | false ↦ IsAscending-ascending (flat_map (displaced_by come.relation keys state) (looked_up come keys (answers come.terms body state)))
+    ]
+displaced_rise (Require some body) state = tt
+displaced_rise (Print terms kinds body) state = tt
 
-pub second_ascends : (stmt : Stmt) (state : State) (part : Part) → IsPartOn stmt state part → IsAscending (second_rows part.outcome)
-second_ascends stmt state part is = subst (λ (o : Outcome). IsAscending (second_rows o)) (sym is.outcome) (second_rise stmt state)
+none_even : HaveOneWidth []
+none_even = record { width = 0; each = tt }
+
+answers_even : (terms : List Term) (body : Body) (state : State) → HaveOneWidth (answers terms body state)
+answers_even terms body state = record { width = length terms; each = answers_wide terms body state }
+
+second_even : (stmt : Stmt) (state : State) → HaveOneWidth (second_rows (outcome_on stmt state))
+second_even (Insert head keys body) state =
+    elim (is_plain head keys) as (λ b. HaveOneWidth (second_rows (cond b (Rows (answers head.terms body state)) (keyed_on head keys [] (answers head.terms body state) state)))) [ true ↦ none_even | false ↦ answers_even head.terms body state ]
+second_even (Delete head body) state = none_even
+second_even (Replace gone come keys body) state =
+    elim (is_plain come keys) as (λ b. HaveOneWidth (second_rows (cond b (Both (answers gone.terms body state) (answers come.terms body state)) (keyed_on come keys (answers gone.terms body state) (answers come.terms body state) state)))) [
+      | true ↦ answers_even come.terms body state
+      | false ↦ answers_even come.terms body state
+    ]
+second_even (Require some body) state = none_even
+second_even (Print terms kinds body) state = none_even
+
+pub part_ordered : (stmt : Stmt) (state : State) (part : Part) → IsPartOn stmt state part → IsOrdered part.outcome
+part_ordered stmt state part is =
+    subst IsOrdered (sym is.outcome) (record { first = first_rise stmt state; second = second_rise stmt state; displaced = displaced_rise stmt state; even = second_even stmt state })
 
 twice_not : (b : Bool) → not (not b) ≡ b
 twice_not true = refl
 twice_not false = refl
 
+-- where two of the rows have one key, no key is looked up, and it is a clash
+clash_first : (head : Atom) (keys : ℕ) (rows : List Row) (state : State) (wrap : Marks → Marks) (b : Bool)
+    → cond b Clashes (Writes (wrap (displacing head.relation (displaced head.relation keys state (cond b [] rows)) rows))) ≡ cond b Clashes (Writes (wrap (displacing head.relation (displaced head.relation keys state rows) rows)))
+clash_first head keys rows state wrap true = refl
+clash_first head keys rows state wrap false = refl
+
+inserted_on : (head : Atom) (keys : ℕ) (body : Body) (rows : List Row) (state : State) → effect_by (Insert head keys body) (if is_plain head keys then Rows rows else keyed_on head keys [] rows state) ≡ coming head keys rows state
+inserted_on head keys body rows state =
+    elim (is_plain head keys) as (λ b. effect_by (Insert head keys body) (cond b (Rows rows) (Keyed [] rows (displaced head.relation keys state (cond b [] (cond (has_clash keys rows) [] rows)))))
+    ≡ cond b (Writes (marks_on head.relation true rows)) (cond (has_clash keys rows) Clashes (Writes (displacing head.relation (displaced head.relation keys state rows) rows)))) [
+      | true ↦ refl
+      | false ↦ clash_first head keys rows state (λ marks. marks) (has_clash keys rows)
+    ]
+
+replaced_on : (gone come : Atom) (keys : ℕ) (body : Body) (left rows : List Row) (state : State)
+    → effect_by (Replace gone come keys body) (if is_plain come keys then Both left rows else keyed_on come keys left rows state) ≡ behind (marks_on gone.relation false left) (coming come keys rows state)
+replaced_on gone come keys body left rows state =
+    elim (is_plain come keys) as (λ b. effect_by (Replace gone come keys body) (cond b (Both left rows) (Keyed left rows (displaced come.relation keys state (cond b [] (cond (has_clash keys rows) [] rows)))))
+    ≡ behind (marks_on gone.relation false left) (cond b (Writes (marks_on come.relation true rows)) (cond (has_clash keys rows) Clashes (Writes (displacing come.relation (displaced come.relation keys state rows) rows))))) [
+      | true ↦ refl
+      | false ↦ clash_first come keys rows state (and_then before) (has_clash keys rows) ∙ behind_cond (has_clash keys rows) (displacing come.relation (displaced come.relation keys state rows) rows)
+    ]
+  where
+    before : Marks
+    before = marks_on gone.relation false left
+
+    behind_cond : (b : Bool) (marks : Marks) → cond b Clashes (Writes (and_then before marks)) ≡ behind before (cond b Clashes (Writes marks))
+    behind_cond true marks = refl
+    behind_cond false marks = refl
+
 effect_on : (stmt : Stmt) (state : State) → effect_by stmt (outcome_on stmt state) ≡ effect stmt state
-effect_on (Insert head body) state = refl
+effect_on (Insert head keys body) state = inserted_on head keys body (answers head.terms body state) state
 effect_on (Delete head body) state = refl
-effect_on (Replace gone come body) state = refl
+effect_on (Replace gone come keys body) state = replaced_on gone come keys body (answers gone.terms body state) (answers come.terms body state) state
 effect_on (Require true body) state = rw twice_not refl
 effect_on (Require false body) state = refl
 effect_on (Print terms kinds body) state = refl
@@ -66,11 +146,19 @@ grows_kept base number stmt part e old new is is_effect parts reply marks_are =
       marks = marks_are ∙ ap (λ f. (next number f (old.reply, old.marks)).1) told;
     }
 
+marks_coming : (number : ℕ) (b : Bool) (marks : Marks) (prints : List Printed) (before : Marks) → (next number (cond b Clashes (Writes marks)) (Done prints, before)).1 ≡ cond b [] (and_then before marks)
+marks_coming number true marks prints before = refl
+marks_coming number false marks prints before = refl
+
+refused_coming : (number : ℕ) (b : Bool) (marks : Marks) (prints : List Printed) (before : Marks) → is_refused (next number (cond b Clashes (Writes marks)) (Done prints, before)).0 ≡ b
+refused_coming number true marks prints before = refl
+refused_coming number false marks prints before = refl
+
 next_marks : (number : ℕ) (stmt : Stmt) (outcome : Outcome) (reply : Reply) (before : Marks) → is_refused reply ≡ false → (next number (effect_by stmt outcome) (reply, before)).1 ≡ marks_past stmt outcome before
 next_marks number stmt outcome (Refused j) before going = cc
-next_marks number (Insert head body) outcome (Done prints) before going = refl
+next_marks number (Insert head keys body) outcome (Done prints) before going = marks_coming number (clashes_in keys outcome) (written_by (Insert head keys body) outcome) prints before
 next_marks number (Delete head body) outcome (Done prints) before going = refl
-next_marks number (Replace gone come body) outcome (Done prints) before going = refl
+next_marks number (Replace gone come keys body) outcome (Done prints) before going = marks_coming number (clashes_in keys outcome) (written_by (Replace gone come keys body) outcome) prints before
 next_marks number (Require some body) outcome (Done prints) before going = by (refused_by (Require some body) outcome)
   where
     by : (b : Bool) → (next number (Requires (not b)) (Done prints, before)).1 ≡ (if b then [] else before)
@@ -80,9 +168,9 @@ next_marks number (Print terms kinds body) outcome (Done prints) before going = 
 
 next_refused : (number : ℕ) (stmt : Stmt) (outcome : Outcome) (reply : Reply) (before : Marks) → is_refused reply ≡ false → is_refused (next number (effect_by stmt outcome) (reply, before)).0 ≡ refused_by stmt outcome
 next_refused number stmt outcome (Refused j) before going = cc
-next_refused number (Insert head body) outcome (Done prints) before going = refl
+next_refused number (Insert head keys body) outcome (Done prints) before going = refused_coming number (clashes_in keys outcome) (written_by (Insert head keys body) outcome) prints before
 next_refused number (Delete head body) outcome (Done prints) before going = refl
-next_refused number (Replace gone come body) outcome (Done prints) before going = refl
+next_refused number (Replace gone come keys body) outcome (Done prints) before going = refused_coming number (clashes_in keys outcome) (written_by (Replace gone come keys body) outcome) prints before
 next_refused number (Require some body) outcome (Done prints) before going = by (refused_by (Require some body) outcome)
   where
     by : (b : Bool) → is_refused (next number (Requires (not b)) (Done prints, before)).0 ≡ b

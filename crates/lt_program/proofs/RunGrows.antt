@@ -8,7 +8,7 @@ use Rattle.lt_face.specs.State.{State}
 use Rattle.lt_model.specs.declared.normal.Stmt.{Stmt}
 use Rattle.lt_model.specs.declared.reply.Reply.{Reply}
 use Rattle.lt_model.specs.declared.reply.Reply.TheVariants.{Done, Refused}
-use Rattle.lt_model.specs.Effect.{Effect, Writes, Requires, Prints, effect}
+use Rattle.lt_model.specs.Effect.{Effect, Writes, Requires, Prints, Clashes, effect}
 use Rattle.lt_model.specs.Marks.{Marks, and_then, laid}
 use Rattle.lt_model.specs.Run.{Progress, run_on, run_from, run}
 use Rattle.lt_program.specs.Tally.{next, is_refused, run_of_first, state_before}
@@ -29,6 +29,7 @@ module _ (base : State) (s : Stmt) where
       on (Writes marks) later = later (record p { marks = and_then p.marks marks })
       on (Requires true) later = later p
       on (Requires false) later = refl
+      on Clashes later = refl
       on (Prints kinds rows) later = later (record p { prints = p.prints ++ record { statement = j; kinds = kinds; rows = rows } ∷ [] })
 
 pub first_more : (n : ℕ) (program : List Stmt) (s : Stmt) (state : State) → slice_get program n ≡ Some s

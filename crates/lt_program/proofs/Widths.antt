@@ -11,7 +11,7 @@ use Rattle.lt_model.specs.Marks.{Marks, write, change, lay, laid}
 use Rattle.lt_delta.proofs.Kept.{IsWide-change}
 use Rattle.lt_query.specs.Runnable.{AreWide}
 
-IsWide-laid : (state : State) (marks : Marks) (r w : ℕ) → IsWide state r w → IsWide (laid state marks) r w
+pub IsWide-laid : (state : State) (marks : Marks) (r w : ℕ) → IsWide state r w → IsWide (laid state marks) r w
 IsWide-laid state [] r w h = h
 IsWide-laid state (m ∷ marks) r w h = IsWide-laid (lay state m) marks r w (IsWide-change m.relation (write m) state r w h)
 
@@ -43,9 +43,9 @@ module _ (state : State) (marks : Marks) where
   head_laid body head h = record { fits = atom_laid body.vars head h.fits; is_bound = h.is_bound }
 
   pub FitsStatement-laid : (stmt : Stmt) → FitsStatement state stmt → FitsStatement (laid state marks) stmt
-  FitsStatement-laid (Insert head body) h = (body_laid body h.0, head_laid body head h.1)
+  FitsStatement-laid (Insert head keys body) h = (body_laid body h.0, head_laid body head h.1, h.2)
   FitsStatement-laid (Delete head body) h = (body_laid body h.0, head_laid body head h.1)
-  FitsStatement-laid (Replace gone come body) h = (body_laid body h.0, head_laid body gone h.1, head_laid body come h.2)
+  FitsStatement-laid (Replace gone come keys body) h = (body_laid body h.0, head_laid body gone h.1, head_laid body come h.2, h.3)
   FitsStatement-laid (Require some body) h = body_laid body h
   FitsStatement-laid (Print terms kinds body) h = (body_laid body h.0, h.1)
 

@@ -1,8 +1,8 @@
 -- What a tally keeps of the run of a program.
 use Rattle.std.specs.Prelude.{◌≡◌, ℕ, zero, suc, ◌+◌, ◌<◌, ◌≤◌, ◌==◌, ◌||◌, ◌&&◌, Bool, true, false, nat_lt, nat_le, if◌then◌else◌, List, [], ◌∷◌, ◌++◌, length, take, slice_get, Option, Some, None}
-use Rattle.std.specs.List.{AllByRecursion}
+use Rattle.std.specs.List.{AllByRecursion, sum_by}
 use Rattle.lt_face.specs.Limits.{most_columns}
-use Rattle.lt_face.specs.State.{State}
+use Rattle.lt_face.specs.State.{Row, State}
 use Rattle.lt_model.specs.declared.normal.Term.{Term}
 use Rattle.lt_model.specs.declared.normal.Atom.{Atom}
 use Rattle.lt_model.specs.declared.normal.Body.{Body}
@@ -13,7 +13,7 @@ use Rattle.lt_model.specs.declared.reply.Reply.{Reply}
 use Rattle.lt_model.specs.declared.reply.Reply.TheVariants.{Done, Refused}
 use Rattle.lt_model.specs.Answers.{answers, some_answer}
 use Rattle.lt_model.specs.Marks.{Marks, AreMarks, and_then, laid}
-use Rattle.lt_model.specs.Effect.{Effect, effect}
+use Rattle.lt_model.specs.Effect.{Effect, has_clash, key_terms, key_body, displaced, is_plain, effect}
 use Rattle.lt_model.specs.Run.{run, run_on}
 use Rattle.lt_base.specs.Tables.{Table, state_of, has_index}
 use Rattle.lt_query.specs.declared.plans.Guide.{Guide}
@@ -31,24 +31,38 @@ use Rattle.lt_join.specs.Sliced.{united}
 use Rattle.lt_program.specs.declared.course.Course.{Course}
 use Rattle.lt_program.specs.declared.course.Laid.{Laid}
 use Rattle.lt_program.specs.declared.part.Outcome.{Outcome}
-use Rattle.lt_program.specs.declared.part.Outcome.TheVariants.{Rows, Both, Truth}
+use Rattle.lt_program.specs.declared.part.Outcome.TheVariants.{Rows, Both, Keyed, Truth}
 use Rattle.lt_program.specs.declared.part.Part.{Part}
 
 -- ---- one statement
 
+-- the rows whose keys are looked up: none where all columns are key columns, and none where two of them have one key
+abbrev pub looked_up : Atom → ℕ → List Row → List Row
+looked_up head keys rows = if is_plain head keys then [] else (if has_clash keys rows then [] else rows)
+
+-- rows that come into a relation with value columns, those that go before them, and those that they displace
+abbrev pub keyed_on : Atom → ℕ → List Row → List Row → State → Outcome
+keyed_on head keys gone come state = Keyed gone come (displaced head.relation keys state (looked_up head keys come))
+
 -- what the evaluation of a statement on a state gives
 abbrev pub outcome_on : Stmt → State → Outcome
-outcome_on (Insert head body) state = Rows (answers head.terms body state)
+outcome_on (Insert head keys body) state = if is_plain head keys then Rows (answers head.terms body state) else keyed_on head keys [] (answers head.terms body state) state
 outcome_on (Delete head body) state = Rows (answers head.terms body state)
-outcome_on (Replace gone come body) state = Both (answers gone.terms body state) (answers come.terms body state)
+outcome_on (Replace gone come keys body) state =
+    if is_plain come keys then Both (answers gone.terms body state) (answers come.terms body state)
+    else keyed_on come keys (answers gone.terms body state) (answers come.terms body state) state
 outcome_on (Require some body) state = Truth (some_answer body state)
 outcome_on (Print terms kinds body) state = Rows (answers terms body state)
 
+-- the sense stands for what was looked up by the keys of rows
+abbrev pub CertifiesKeys : Sense → Atom → ℕ → List Row → State → Type 0
+CertifiesKeys sense head keys rows state = AllByRecursion (λ row. Certifies sense (key_body head.relation keys row) state) (looked_up head keys rows)
+
 -- what the outcome was sensitive to, on this state
 abbrev pub VouchesFor : Sense → Stmt → State → Type 0
-VouchesFor sense (Insert head body) state = Certifies sense body state
+VouchesFor sense (Insert head keys body) state = Certifies sense body state × CertifiesKeys sense head keys (answers head.terms body state) state
 VouchesFor sense (Delete head body) state = Certifies sense body state
-VouchesFor sense (Replace gone come body) state = Certifies sense body state
+VouchesFor sense (Replace gone come keys body) state = Certifies sense body state × CertifiesKeys sense come keys (answers come.terms body state) state
 VouchesFor sense (Require some body) state = Vouches sense body state
 VouchesFor sense (Print terms kinds body) state = Certifies sense body state
 
@@ -59,19 +73,19 @@ abbrev pub has_level : Body → Bool
 has_level body = nat_lt 0 (length (stated_plan body).levels)
 
 -- whether the statement is kept by slices of its body: not a requirement, nor a `replace` whose heads' cells have no room in
--- one row
+-- one row, nor one whose rows come into a relation with value columns
 abbrev pub is_sliced : Stmt → Bool
-is_sliced (Insert head body) = has_level body
+is_sliced (Insert head keys body) = is_plain head keys && has_level body
 is_sliced (Delete head body) = has_level body
-is_sliced (Replace gone come body) = has_level body && nat_le (length gone.terms + length come.terms) most_columns
+is_sliced (Replace gone come keys body) = is_plain come keys && (has_level body && nat_le (length gone.terms + length come.terms) most_columns)
 is_sliced (Require some body) = false
 is_sliced (Print terms kinds body) = has_level body
 
 -- the terms that its slices answer: the head's, of a `replace` those of both heads, one after the other
 abbrev pub slice_terms : Stmt → List Term
-slice_terms (Insert head body) = head.terms
+slice_terms (Insert head keys body) = head.terms
 slice_terms (Delete head body) = head.terms
-slice_terms (Replace gone come body) = gone.terms ++ come.terms
+slice_terms (Replace gone come keys body) = gone.terms ++ come.terms
 slice_terms (Require some body) = []
 slice_terms (Print terms kinds body) = terms
 
@@ -103,9 +117,15 @@ pub record IsPartOn (stmt : Stmt) (state : State) (part : Part) : Type 0 where
   pub tight : IsTight (sense_of part) state
   pub sliced : IsKeptAs stmt state part
 
--- so many moves its evaluation may take: what the join of its body may take, of a `replace` once for each head
+-- so many moves the look-ups by the keys of rows may take: of each row one, and one for each row of the state with its key
+abbrev pub keys_cost : Atom → ℕ → List Row → State → ℕ
+keys_cost head keys rows state = sum_by (λ row. 1 + length (answers (key_terms keys row) (key_body head.relation keys row) state)) (looked_up head keys rows)
+
+-- so many moves its evaluation may take: what the join of its body may take, of a `replace` once for each head, and the look-ups
+-- by the keys of the rows that come
 abbrev pub statement_cost : Stmt → State → ℕ
-statement_cost (Replace gone come body) state = bound body (stated_plan body) state + bound body (stated_plan body) state
+statement_cost (Insert head keys body) state = bound body (stated_plan body) state + keys_cost head keys (answers head.terms body state) state
+statement_cost (Replace gone come keys body) state = bound body (stated_plan body) state + bound body (stated_plan body) state + keys_cost come keys (answers come.terms body state) state
 statement_cost stmt state = bound (body_of stmt) (stated_plan (body_of stmt)) state
 
 -- ---- the statements of a program
@@ -164,7 +184,7 @@ pub record TallyView : Type 0 where
   pub reply : Reply
   pub marks : Marks
 
--- every statement was evaluated, or a requirement was false
+-- every statement was evaluated, or one was a false requirement or a clash
 abbrev pub has_ended : TallyView → Bool
 has_ended t = is_refused t.reply || length t.parts == length t.program
 
@@ -178,7 +198,7 @@ ArePartsOf t =
     (j : ℕ) (stmt : Stmt) (part : Part) → slice_get t.program j ≡ Some stmt → slice_get t.parts j ≡ Some part →
     IsPartOn stmt (state_before j t.program (state_of t.base)) part
 
--- The tally is the run of the statements evaluated. Only the last of them can be a requirement that was false.
+-- The tally is the run of the statements evaluated. Only the last of them can be a false requirement or a clash.
 pub record IsRun (t : TallyView) : Type 0 where
   pub evaluated : length t.parts ≤ length t.program
   pub reply : t.reply ≡ (run_of_first (length t.parts) t.program (state_of t.base)).0

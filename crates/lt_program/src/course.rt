@@ -273,6 +273,7 @@ impl Course {
                 Ok(())
             }
             Effect::Requires(false) => self.refuse(number, part),
+            Effect::Clashes => self.refuse(number, part),
             Effect::Prints(kinds, rows) => self.print(
                 part,
                 Printed {

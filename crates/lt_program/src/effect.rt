@@ -9,12 +9,13 @@ use lt_model::kind::KindList;
 use lt_model::mark::Mark;
 use std::alloc::Global;
 
-/// Marks, a truth, or a printed list.
+/// Marks, a truth, a printed list, or a clash.
 #[derive(Drop)]
 pub enum Effect {
     Writes(Marks),
     Requires(bool),
     Prints(KindList, RowList),
+    Clashes,
 }
 
 /// A mark for each row.

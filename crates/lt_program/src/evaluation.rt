@@ -1,9 +1,11 @@
 //! The evaluation of a statement on a database, by a join. What is said of its moves holds also where memory is refused.
-ghost use Rattle.std.specs.Prelude.{◌≡◌, ◌+◌, ◌≤◌, true, false, [], IfOk};
+ghost use Rattle.std.specs.Prelude.{◌≡◌, ◌+◌, ◌≤◌, true, false, [], length, IfOk};
+ghost use Rattle.std.specs.List.{AllByRecursion};
+ghost use Rattle.lt_face.specs.Rows.{IsAscending, IsRow};
 ghost use Rattle.lt_face.specs.State.{State};
 ghost use Rattle.lt_model.specs.Answers.{answers as answers_of, some_answer};
-ghost use Rattle.lt_model.specs.Effect.{effect as effect_of};
-ghost use Rattle.lt_model.specs.Fits.{IsBodyOf, FitsStatement};
+ghost use Rattle.lt_model.specs.Effect.{effect as effect_of, is_plain as is_plain_in};
+ghost use Rattle.lt_model.specs.Fits.{IsWide, IsBodyOf, IsHeadOf, AreKeysOf, FitsStatement};
 ghost use Rattle.lt_base.specs.Tables.{state_of};
 ghost use Rattle.lt_query.specs.Lists.{IsRising};
 ghost use Rattle.lt_query.specs.Needs.{body_of as body_in};
@@ -15,22 +17,24 @@ ghost use Rattle.lt_join.specs.Certify.{Certifies, Vouches};
 ghost use Rattle.lt_join.specs.Cost.{bound};
 ghost use Rattle.lt_join.specs.Mended.{HaveTouched};
 ghost use Rattle.lt_join.specs.MendedPlan.{mending_cost};
+ghost use Rattle.lt_join.specs.Walked.{Grows};
 ghost use Rattle.lt_program.specs.Effect.{view};
 ghost use Rattle.lt_program.specs.Planned.{IsPlanned, ArePicked};
-ghost use Rattle.lt_program.specs.Tally.{HasIndexesOf, IsPartOn, IsMendedPart, is_sliced as is_sliced_in, sense_of, statement_cost};
+ghost use Rattle.lt_program.specs.Tally.{HasIndexesOf, IsPartOn, IsMendedPart, CertifiesKeys, is_sliced as is_sliced_in, keyed_on, keys_cost, sense_of, statement_cost};
 
+use crate::displacing::{clash, displaced_by_all};
 use crate::effect::Effect;
 use crate::heads::{Pair, found, found_both};
 use crate::kept::effect_by;
 use crate::part::{Outcome, Part};
-use crate::slicing::{is_sliced, join_slices, mend_slices};
+use crate::slicing::{is_plain, is_sliced, join_slices, mend_slices};
 use lt_base::Database;
-use lt_face::items::Items;
+use lt_face::items::{Items, RowList};
 use lt_face::key::Key;
 use lt_face::memory::NoMemory;
 use lt_face::moves::Moves;
 use lt_join::some_unsealed;
-use lt_model::normal::{Body, Stmt, TermList};
+use lt_model::normal::{Atom, Body, Stmt, TermList};
 use lt_query::laws::plans_of_bodies;
 use lt_query::planning::plan_by;
 use lt_query::{Plan, Route, body_of};
@@ -134,6 +138,127 @@ fn replaced<L>(
     Ok(part_whole(alloc, Outcome::Both(first, second), sense))
 }
 
+/// The part of a statement whose rows come into a relation with value columns, of the rows that go and those that come.
+fn keyed<L>(
+    alloc: Global,
+    tables: &Database,
+    head: &Atom,
+    keys: u32,
+    gone: RowList,
+    come: RowList,
+    mut sense: Sense,
+    moves: &mut Moves<L>,
+) -> Result<Part, NoMemory>
+    requires keyed { is_plain_in head.now keys ≡ false }
+    requires keys { AreKeysOf head.now keys }
+    requires wide { IsWide (state_of tables.now) head.now.relation (length head.now.terms) }
+    requires ascend { IsAscending come }
+    requires rows { AllByRecursion (IsRow (length head.now.terms)) come }
+    ensures outcome { IfOk result (λ part. part.outcome ≡ keyed_on head.now keys gone come (state_of tables.now)) }
+    ensures grows { IfOk result (λ part. Grows sense (sense_of part)) }
+    ensures keys { IfOk result (λ part. CertifiesKeys (sense_of part) head.now keys come (state_of tables.now)) }
+    ensures tight { IfOk result (λ part. IsTight sense (state_of tables.now) → IsTight (sense_of part) (state_of tables.now)) }
+    ensures slices { IfOk result (λ part. part.slices ≡ []) }
+    ensures cost { moves.new ≤ moves.old + keys_cost head.now keys come (state_of tables.now) }
+    ensures moves { moves.old ≤ moves.new }
+{
+    let count = keys as usize;
+    if clash(&come, count) {
+        let none = Items::new(alloc);
+        return Ok(part_whole(alloc, Outcome::Keyed(gone, come, none), sense));
+    }
+    let displaced = displaced_by_all(
+        alloc,
+        tables,
+        head.relation,
+        count,
+        head.terms.len(),
+        &come,
+        &mut sense,
+        moves,
+    )?;
+    Ok(part_whole(alloc, Outcome::Keyed(gone, come, displaced), sense))
+}
+
+/// The answers of the head of an `insert` into a relation with value columns, and the rows that they displace.
+fn inserted<L>(
+    alloc: Global,
+    tables: &Database,
+    head: &Atom,
+    keys: u32,
+    body: &Body,
+    plan: &Plan,
+    moves: &mut Moves<L>,
+) -> Result<Part, NoMemory>
+    requires plan { IsPlanned body.now plan.now }
+    requires wide { AreWide (state_of tables.now) }
+    requires indexes { HasIndexesOf tables.now body.now }
+    requires fits { IsBodyOf (state_of tables.now) body.now }
+    requires head { IsHeadOf (state_of tables.now) body.now head.now }
+    requires keys { AreKeysOf head.now keys }
+    requires keyed { is_plain_in head.now keys ≡ false }
+    ensures outcome { IfOk result (λ part. part.outcome ≡ keyed_on head.now keys [] (answers_of head.now.terms body.now (state_of tables.now)) (state_of tables.now)) }
+    ensures certified { IfOk result (λ part. Certifies (sense_of part) body.now (state_of tables.now)) }
+    ensures keys { IfOk result (λ part. CertifiesKeys (sense_of part) head.now keys (answers_of head.now.terms body.now (state_of tables.now)) (state_of tables.now)) }
+    ensures tight { IfOk result (λ part. IsTight (sense_of part) (state_of tables.now)) }
+    ensures slices { IfOk result (λ part. part.slices ≡ []) }
+    ensures cost { moves.new ≤ moves.old + (bound body.now (stated_plan body.now) (state_of tables.now) + keys_cost head.now keys (answers_of head.now.terms body.now (state_of tables.now)) (state_of tables.now)) }
+    ensures moves { moves.old ≤ moves.new }
+{
+    tables.look_over();
+    let found = found(alloc, tables, body, plan, &head.terms, moves)?;
+    let (come, sense) = found;
+    let part = keyed(
+        alloc,
+        tables,
+        head,
+        keys,
+        Items::new(alloc),
+        come,
+        sense,
+        moves,
+    )?;
+    Ok(part)
+}
+
+/// The answers of the heads of a `replace` whose rows come into a relation with value columns, and the rows that they displace.
+fn replaced_by_key<L>(
+    alloc: Global,
+    tables: &Database,
+    gone: &Atom,
+    come: &Atom,
+    keys: u32,
+    body: &Body,
+    plan: &Plan,
+    moves: &mut Moves<L>,
+) -> Result<Part, NoMemory>
+    requires plan { IsPlanned body.now plan.now }
+    requires wide { AreWide (state_of tables.now) }
+    requires indexes { HasIndexesOf tables.now body.now }
+    requires fits { IsBodyOf (state_of tables.now) body.now }
+    requires gone { IsHeadOf (state_of tables.now) body.now gone.now }
+    requires come { IsHeadOf (state_of tables.now) body.now come.now }
+    requires keys { AreKeysOf come.now keys }
+    requires keyed { is_plain_in come.now keys ≡ false }
+    ensures outcome { IfOk result (λ part. part.outcome ≡ keyed_on come.now keys (answers_of gone.now.terms body.now (state_of tables.now)) (answers_of come.now.terms body.now (state_of tables.now)) (state_of tables.now)) }
+    ensures certified { IfOk result (λ part. Certifies (sense_of part) body.now (state_of tables.now)) }
+    ensures keys { IfOk result (λ part. CertifiesKeys (sense_of part) come.now keys (answers_of come.now.terms body.now (state_of tables.now)) (state_of tables.now)) }
+    ensures tight { IfOk result (λ part. IsTight (sense_of part) (state_of tables.now)) }
+    ensures slices { IfOk result (λ part. part.slices ≡ []) }
+    ensures cost { moves.new ≤ moves.old + (bound body.now (stated_plan body.now) (state_of tables.now) + bound body.now (stated_plan body.now) (state_of tables.now) + keys_cost come.now keys (answers_of come.now.terms body.now (state_of tables.now)) (state_of tables.now)) }
+    ensures moves { moves.old ≤ moves.new }
+{
+    tables.look_over();
+    let pair = found_both(alloc, tables, body, plan, &gone.terms, &come.terms, moves)?;
+    let Pair {
+        first,
+        second,
+        sense,
+    } = pair;
+    let part = keyed(alloc, tables, come, keys, first, second, sense, moves)?;
+    Ok(part)
+}
+
 /// Whether the conditions of a requirement can be met.
 fn required<L>(
     alloc: Global,
@@ -175,16 +300,29 @@ fn evaluate_whole<L>(
     ensures moves { moves.old ≤ moves.new }
 {
     match stmt {
-        Stmt::Insert { head, body } => {
-            let part = answered(alloc, tables, body, plan, &head.terms, moves)?;
+        Stmt::Insert { head, keys, body } => {
+            if is_plain(head, *keys) {
+                let part = answered(alloc, tables, body, plan, &head.terms, moves)?;
+                return Ok(part);
+            }
+            let part = inserted(alloc, tables, head, *keys, body, plan, moves)?;
             Ok(part)
         }
         Stmt::Delete { head, body } => {
             let part = answered(alloc, tables, body, plan, &head.terms, moves)?;
             Ok(part)
         }
-        Stmt::Replace { gone, come, body } => {
-            let part = replaced(alloc, tables, &gone.terms, &come.terms, body, plan, moves)?;
+        Stmt::Replace {
+            gone,
+            come,
+            keys,
+            body,
+        } => {
+            if is_plain(come, *keys) {
+                let part = replaced(alloc, tables, &gone.terms, &come.terms, body, plan, moves)?;
+                return Ok(part);
+            }
+            let part = replaced_by_key(alloc, tables, gone, come, *keys, body, plan, moves)?;
             Ok(part)
         }
         Stmt::Require { some: _, body } => {

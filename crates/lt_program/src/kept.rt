@@ -1,10 +1,13 @@
 //! What a statement does, by its outcome alone.
-ghost use Rattle.std.specs.Prelude.{◌≡◌, IfOk};
+ghost use Rattle.std.specs.Prelude.{◌≡◌, false, true, IfOk};
 ghost use Rattle.lt_face.specs.Rows.{IsAscending};
+ghost use Rattle.lt_program.specs.Displacing.{HaveOneWidth};
 ghost use Rattle.lt_program.specs.Effect.{view};
-ghost use Rattle.lt_program.specs.Kept.{first_rows, second_rows, truth_in, marks_on as marks_on_rows, written_by as writes, refused_by as refuses, marks_past as marks_after, effect_by as does};
+ghost use Rattle.lt_model.specs.Effect.{displacing, marks_on as marks_on_rows};
+ghost use Rattle.lt_program.specs.Kept.{IsOrdered, first_rows, second_rows, displaced_rows, truth_in, is_keyed as is_keyed_in, clashes_in, inserted_by, replaced_by, coming_by, written_by as writes, refused_by as refuses, marks_past as marks_after, effect_by as does};
 
 use crate::copying::copied;
+use crate::displacing::clash;
 use crate::effect::{Effect, marked};
 use crate::part::Outcome;
 use lt_delta::Marks;
@@ -30,6 +33,10 @@ fn marked_first(
             Ok(marks)
         }
         Outcome::Both(gone, _) => {
+            let marks = marked(alloc, relation, plus, gone)?;
+            Ok(marks)
+        }
+        Outcome::Keyed(gone, _, _) => {
             let marks = marked(alloc, relation, plus, gone)?;
             Ok(marks)
         }
@@ -59,10 +66,77 @@ fn marked_second(
             let marks = marked(alloc, relation, plus, come)?;
             Ok(marks)
         }
+        Outcome::Keyed(_, come, _) => {
+            let marks = marked(alloc, relation, plus, come)?;
+            Ok(marks)
+        }
         Outcome::Truth(_) => {
             let none = Marks::empty(alloc)?;
             Ok(none)
         }
+    }
+}
+
+/// A mark for each displaced row.
+fn marked_displaced(alloc: Global, relation: u32, outcome: &Outcome) -> Result<Marks, NoMemory>
+    requires { IsAscending (displaced_rows outcome.now) }
+    ensures { IfOk result (λ marks. marks ≡ marks_on_rows relation false (displaced_rows outcome.now)) }
+{
+    match outcome {
+        Outcome::Rows(_) => {
+            let none = Marks::empty(alloc)?;
+            Ok(none)
+        }
+        Outcome::Both(_, _) => {
+            let none = Marks::empty(alloc)?;
+            Ok(none)
+        }
+        Outcome::Keyed(_, _, displaced) => {
+            let marks = marked(alloc, relation, false, displaced)?;
+            Ok(marks)
+        }
+        Outcome::Truth(_) => {
+            let none = Marks::empty(alloc)?;
+            Ok(none)
+        }
+    }
+}
+
+/// The marks of the displaced rows, and then those of the rows that come.
+fn marked_coming(alloc: Global, relation: u32, outcome: &Outcome) -> Result<Marks, NoMemory>
+    requires second { IsAscending (second_rows outcome.now) }
+    requires displaced { IsAscending (displaced_rows outcome.now) }
+    ensures { IfOk result (λ marks. marks ≡ displacing relation (displaced_rows outcome.now) (second_rows outcome.now)) }
+{
+    let minus = marked_displaced(alloc, relation, outcome)?;
+    let plus = marked_second(alloc, relation, true, outcome)?;
+    let marks = Marks::and_then(&minus, &plus)?;
+    Ok(marks)
+}
+
+/// Whether rows came into a relation with value columns.
+fn is_keyed(outcome: &Outcome) -> bool
+    ensures { result ≡ is_keyed_in outcome.now }
+{
+    match outcome {
+        Outcome::Keyed(_, _, _) => true,
+        Outcome::Rows(_) => false,
+        Outcome::Both(_, _) => false,
+        Outcome::Truth(_) => false,
+    }
+}
+
+/// Whether two of the rows that come have one key.
+fn clashes(keys: u32, outcome: &Outcome) -> bool
+    requires second { IsAscending (second_rows outcome.now) }
+    requires even { HaveOneWidth (second_rows outcome.now) }
+    ensures { result ≡ clashes_in keys outcome.now }
+{
+    match outcome {
+        Outcome::Keyed(_, come, _) => clash(come, keys as usize),
+        Outcome::Rows(_) => false,
+        Outcome::Both(_, _) => false,
+        Outcome::Truth(_) => false,
     }
 }
 
@@ -79,6 +153,10 @@ fn shown(alloc: Global, outcome: &Outcome) -> Result<RowList, NoMemory>
             let rows = copied(alloc, gone.as_slice())?;
             Ok(rows)
         }
+        Outcome::Keyed(gone, _, _) => {
+            let rows = copied(alloc, gone.as_slice())?;
+            Ok(rows)
+        }
         Outcome::Truth(_) => Ok(Items::new(alloc)),
     }
 }
@@ -90,19 +168,49 @@ fn is_met(outcome: &Outcome) -> bool
     match outcome {
         Outcome::Rows(_) => false,
         Outcome::Both(_, _) => false,
+        Outcome::Keyed(_, _, _) => false,
         Outcome::Truth(truth) => *truth,
     }
 }
 
+/// The marks of an `insert`.
+fn inserted(alloc: Global, relation: u32, outcome: &Outcome) -> Result<Marks, NoMemory>
+    requires { IsOrdered outcome.now }
+    ensures { IfOk result (λ marks. marks ≡ inserted_by relation outcome.now) }
+{
+    if is_keyed(outcome) {
+        let marks = marked_coming(alloc, relation, outcome)?;
+        return Ok(marks);
+    }
+    let marks = marked_first(alloc, relation, true, outcome)?;
+    Ok(marks)
+}
+
+/// The marks of the second head of a `replace`.
+fn replaced(alloc: Global, relation: u32, outcome: &Outcome) -> Result<Marks, NoMemory>
+    requires { IsOrdered outcome.now }
+    ensures { IfOk result (λ marks. marks ≡ replaced_by relation outcome.now) }
+{
+    if is_keyed(outcome) {
+        let marks = marked_coming(alloc, relation, outcome)?;
+        return Ok(marks);
+    }
+    let marks = marked_second(alloc, relation, true, outcome)?;
+    Ok(marks)
+}
+
 /// The marks that the statement writes.
 fn written_by(alloc: Global, stmt: &Stmt, outcome: &Outcome) -> Result<Marks, NoMemory>
-    requires first { IsAscending (first_rows outcome.now) }
-    requires second { IsAscending (second_rows outcome.now) }
+    requires { IsOrdered outcome.now }
     ensures { IfOk result (λ marks. marks ≡ writes stmt.now outcome.now) }
 {
     match stmt {
-        Stmt::Insert { head, body: _ } => {
-            let marks = marked_first(alloc, head.relation, true, outcome)?;
+        Stmt::Insert {
+            head,
+            keys: _,
+            body: _,
+        } => {
+            let marks = inserted(alloc, head.relation, outcome)?;
             Ok(marks)
         }
         Stmt::Delete { head, body: _ } => {
@@ -112,10 +220,11 @@ fn written_by(alloc: Global, stmt: &Stmt, outcome: &Outcome) -> Result<Marks, No
         Stmt::Replace {
             gone,
             come,
+            keys: _,
             body: _,
         } => {
             let minus = marked_first(alloc, gone.relation, false, outcome)?;
-            let plus = marked_second(alloc, come.relation, true, outcome)?;
+            let plus = replaced(alloc, come.relation, outcome)?;
             let marks = Marks::and_then(&minus, &plus)?;
             Ok(marks)
         }
@@ -134,8 +243,9 @@ fn written_by(alloc: Global, stmt: &Stmt, outcome: &Outcome) -> Result<Marks, No
     }
 }
 
-/// Whether the statement is a requirement that isn't met.
+/// Whether the statement is a requirement that isn't met, or two of its rows have one key.
 fn refused_by(stmt: &Stmt, outcome: &Outcome) -> bool
+    requires { IsOrdered outcome.now }
     ensures { result ≡ refuses stmt.now outcome.now }
 {
     match stmt {
@@ -146,13 +256,18 @@ fn refused_by(stmt: &Stmt, outcome: &Outcome) -> bool
                 is_met(outcome)
             }
         }
-        Stmt::Insert { head: _, body: _ } => false,
+        Stmt::Insert {
+            head: _,
+            keys,
+            body: _,
+        } => clashes(*keys, outcome),
         Stmt::Delete { head: _, body: _ } => false,
         Stmt::Replace {
             gone: _,
             come: _,
+            keys,
             body: _,
-        } => false,
+        } => clashes(*keys, outcome),
         Stmt::Print {
             terms: _,
             kinds: _,
@@ -168,8 +283,7 @@ pub(crate) fn marks_past(
     outcome: &Outcome,
     before: &Marks,
 ) -> Result<Marks, NoMemory>
-    requires first { IsAscending (first_rows outcome.now) }
-    requires second { IsAscending (second_rows outcome.now) }
+    requires { IsOrdered outcome.now }
     ensures { IfOk result (λ marks. marks ≡ marks_after stmt.now outcome.now before.now) }
 {
     if refused_by(stmt, outcome) {
@@ -181,16 +295,31 @@ pub(crate) fn marks_past(
     Ok(marks)
 }
 
+/// The effect of a statement whose rows come into a relation.
+fn coming(alloc: Global, stmt: &Stmt, outcome: &Outcome) -> Result<Effect, NoMemory>
+    requires { IsOrdered outcome.now }
+    ensures { IfOk result (λ e. view e ≡ coming_by stmt.now outcome.now) }
+{
+    if refused_by(stmt, outcome) {
+        return Ok(Effect::Clashes);
+    }
+    let marks = written_by(alloc, stmt, outcome)?;
+    Ok(Effect::Writes(marks))
+}
+
 /// The effect of the statement.
 pub(crate) fn effect_by(alloc: Global, stmt: &Stmt, outcome: &Outcome) -> Result<Effect, NoMemory>
-    requires first { IsAscending (first_rows outcome.now) }
-    requires second { IsAscending (second_rows outcome.now) }
+    requires { IsOrdered outcome.now }
     ensures { IfOk result (λ e. view e ≡ does stmt.now outcome.now) }
 {
     match stmt {
-        Stmt::Insert { head: _, body: _ } => {
-            let marks = written_by(alloc, stmt, outcome)?;
-            Ok(Effect::Writes(marks))
+        Stmt::Insert {
+            head: _,
+            keys: _,
+            body: _,
+        } => {
+            let effect = coming(alloc, stmt, outcome)?;
+            Ok(effect)
         }
         Stmt::Delete { head: _, body: _ } => {
             let marks = written_by(alloc, stmt, outcome)?;
@@ -199,10 +328,11 @@ pub(crate) fn effect_by(alloc: Global, stmt: &Stmt, outcome: &Outcome) -> Result
         Stmt::Replace {
             gone: _,
             come: _,
+            keys: _,
             body: _,
         } => {
-            let marks = written_by(alloc, stmt, outcome)?;
-            Ok(Effect::Writes(marks))
+            let effect = coming(alloc, stmt, outcome)?;
+            Ok(effect)
         }
         Stmt::Require { some: _, body: _ } => Ok(Effect::Requires(!refused_by(stmt, outcome))),
         Stmt::Print {

@@ -3,11 +3,14 @@
 
 mod copying;
 mod course;
+mod displacing;
 mod effect;
 mod evaluation;
 mod heads;
 mod indexing;
 mod kept;
+pub mod laws;
+mod noting;
 mod part;
 mod reading;
 mod slicing;

@@ -16,6 +16,10 @@ pub enum Outcome {
     Rows(RowList),
     /// The answers of the two heads of a `replace`: of the one whose rows go, and of the one whose rows come.
     Both(RowList, RowList),
+    /// Of an `insert` into a relation with value columns, or a `replace` whose rows come into one: the answers of the head whose rows
+    /// go, of an `insert` none; those of the head whose rows come; and the rows that these displace, none where two of them have one
+    /// key.
+    Keyed(RowList, RowList, RowList),
     /// Whether the conditions of a `require` can be met.
     Truth(bool),
 }

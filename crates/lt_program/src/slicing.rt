@@ -4,6 +4,7 @@ ghost use Rattle.std.specs.Prelude.{◌≡◌, ◌+◌, ◌≤◌, true, length,
 ghost use Rattle.lt_face.specs.Limits.{most_columns};
 ghost use Rattle.lt_face.specs.State.{State};
 ghost use Rattle.lt_model.specs.Answers.{answers as answers_of};
+ghost use Rattle.lt_model.specs.Effect.{is_plain as is_plain_in};
 ghost use Rattle.lt_model.specs.Fits.{FitsStatement};
 ghost use Rattle.lt_base.specs.Tables.{state_of};
 ghost use Rattle.lt_query.specs.Lists.{IsRising};
@@ -25,7 +26,7 @@ use lt_face::limits::MOST_COLUMNS;
 use lt_face::memory::NoMemory;
 use lt_face::moves::Moves;
 use lt_join::{SharedSlices, mend, rows_of_slices, slices_unsealed};
-use lt_model::normal::{Body, Stmt, TermList};
+use lt_model::normal::{Atom, Body, Stmt, TermList};
 use lt_query::{Plan, body_of};
 use lt_sense::Sense;
 use std::alloc::Global;
@@ -47,6 +48,13 @@ fn have_room(first: &TermList, second: &TermList) -> bool
     first.len() + second.len() <= MOST_COLUMNS
 }
 
+/// Whether all columns of the head's relation are key columns.
+pub(crate) fn is_plain(head: &Atom, keys: u32) -> bool
+    ensures { result ≡ is_plain_in head.now keys }
+{
+    keys as usize == head.terms.len()
+}
+
 /// Whether the statement is kept by slices.
 pub(crate) fn is_sliced(stmt: &Stmt) -> bool
     requires fits { (state : State) × AreWide state × FitsStatement state stmt.now }
@@ -54,13 +62,18 @@ pub(crate) fn is_sliced(stmt: &Stmt) -> bool
 {
     let some = has_level(body_of(stmt));
     match stmt {
-        Stmt::Insert { head: _, body: _ } => some,
+        Stmt::Insert {
+            head,
+            keys,
+            body: _,
+        } => is_plain(head, *keys) && some,
         Stmt::Delete { head: _, body: _ } => some,
         Stmt::Replace {
             gone,
             come,
+            keys,
             body: _,
-        } => some && have_room(&gone.terms, &come.terms),
+        } => is_plain(come, *keys) && (some && have_room(&gone.terms, &come.terms)),
         Stmt::Require { some: _, body: _ } => false,
         Stmt::Print {
             terms: _,
@@ -75,7 +88,11 @@ fn slice_terms(alloc: Global, stmt: &Stmt) -> Result<TermList, NoMemory>
     ensures { IfOk result (λ terms. terms ≡ slice_terms_of stmt.now) }
 {
     match stmt {
-        Stmt::Insert { head, body: _ } => {
+        Stmt::Insert {
+            head,
+            keys: _,
+            body: _,
+        } => {
             let terms = head.terms.copy()?;
             Ok(terms)
         }
@@ -86,6 +103,7 @@ fn slice_terms(alloc: Global, stmt: &Stmt) -> Result<TermList, NoMemory>
         Stmt::Replace {
             gone,
             come,
+            keys: _,
             body: _,
         } => {
             let both = terms_of_both(&gone.terms, &come.terms)?;
@@ -109,11 +127,16 @@ fn outcome_by(alloc: Global, stmt: &Stmt, rows: RowList) -> Result<Outcome, NoMe
     ensures { IfOk result (λ outcome. (state : State) → rows ≡ answers_of (slice_terms_of stmt.now) (body_in stmt.now) state → outcome ≡ outcome_on stmt.now state) }
 {
     match stmt {
-        Stmt::Insert { head: _, body: _ } => Ok(Outcome::Rows(rows)),
+        Stmt::Insert {
+            head: _,
+            keys: _,
+            body: _,
+        } => Ok(Outcome::Rows(rows)),
         Stmt::Delete { head: _, body: _ } => Ok(Outcome::Rows(rows)),
         Stmt::Replace {
             gone,
             come: _,
+            keys: _,
             body: _,
         } => {
             let both = split_answers(alloc, &rows, gone.terms.len())?;

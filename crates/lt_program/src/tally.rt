@@ -50,7 +50,7 @@ impl Model for Tally {
     ghost invariant = { λ t. IsSound (arc_value t.prog) t.base t.course };
 }
 
-/// Whether a requirement was false.
+/// Whether a requirement was false, or two rows of one statement clashed.
 fn is_refusal(reply: &Reply) -> bool
     ensures { result ≡ is_refused reply.now }
 {
@@ -200,7 +200,7 @@ impl Tally {
         Ok(marks)
     }
 
-    /// Whether every statement was evaluated, or a requirement was false. Then the reply and the marks are the program's.
+    /// Whether every statement was evaluated, or one was a false requirement or a clash. Then the reply and the marks are the program's.
     pub fn ended(&self) -> bool
         ensures value { result ≡ has_ended self.now }
         ensures reply { IsTrue result → self.now.reply ≡ (run_of self.now.program (state_of self.now.base)).0 }

@@ -34,9 +34,9 @@ module _ (s t : State) (wide : HasRelations s t) where
   head_fits body head h = record { fits = atom_fits body.vars head h.fits; is_bound = h.is_bound }
 
   statement_fits : (stmt : Stmt) → FitsStatement s stmt → FitsStatement t stmt
-  statement_fits (Insert head body) h = (body_fits body h.0, head_fits body head h.1)
+  statement_fits (Insert head keys body) h = (body_fits body h.0, head_fits body head h.1, h.2)
   statement_fits (Delete head body) h = (body_fits body h.0, head_fits body head h.1)
-  statement_fits (Replace gone come body) h = (body_fits body h.0, head_fits body gone h.1, head_fits body come h.2)
+  statement_fits (Replace gone come keys body) h = (body_fits body h.0, head_fits body gone h.1, head_fits body come h.2, h.3)
   statement_fits (Require some body) h = body_fits body h
   statement_fits (Print terms kinds body) h = (body_fits body h.0, h.1)
 

@@ -7,3 +7,4 @@ pub mod MarkedCells
 pub mod RunSteps
 pub mod BareStates
 pub mod Ready
+pub mod Displaced

@@ -54,9 +54,9 @@ head_of state body head narrow fits h = record {
 }
 
 pub statement_of : (state : State) (stmt : Stmt) → IsNarrow state → FitsStatement state stmt → IsReady stmt
-statement_of state (Insert head body) narrow h = (body_of state body narrow h.0, head_of state body head narrow h.0 h.1)
+statement_of state (Insert head keys body) narrow h = (body_of state body narrow h.0, head_of state body head narrow h.0 h.1, h.2)
 statement_of state (Delete head body) narrow h = (body_of state body narrow h.0, head_of state body head narrow h.0 h.1)
-statement_of state (Replace gone come body) narrow h = (body_of state body narrow h.0, head_of state body gone narrow h.0 h.1, head_of state body come narrow h.0 h.2)
+statement_of state (Replace gone come keys body) narrow h = (body_of state body narrow h.0, head_of state body gone narrow h.0 h.1, head_of state body come narrow h.0 h.2, h.3)
 statement_of state (Require some body) narrow h = body_of state body narrow h
 statement_of state (Print terms kinds body) narrow h = (
   body_of state body narrow h.0,

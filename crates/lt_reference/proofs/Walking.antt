@@ -1,7 +1,6 @@
 -- Row by row of its atoms, a body's answers are those over all picks.
-use Rattle.std.proofs.Common.{◌≡◌, ◌≢◌, ℕ, Bool, true, false, cond, ◌&&◌, List, [], ◌∷◌, ◌++◌, Option, Some, None, refl, sym, ap, ◌∙◌, subst, inl, inr}
-use Rattle.std.specs.Prelude.{◌==◌, is_some, option_and_then, flat_map, unwrap_or}
-use Rattle.std.specs.List.{list_all}
+use Rattle.std.proofs.Common.{◌≡◌, ◌≢◌, ℕ, Bool, true, false, cond, ◌&&◌, List, [], ◌∷◌, ◌++◌, Some, None, refl, sym, ap, ◌∙◌, subst, inl, inr}
+use Rattle.std.specs.Prelude.{◌==◌, is_some, option_and_then, flat_map}
 use Rattle.std.specs.Ordering.{is_eq, nat_cmp}
 use Rattle.std.proofs.lemmas.Bool.{eq-eqb}
 use Rattle.std.proofs.lemmas.Bool.Decides.{eqb_tells}
@@ -10,11 +9,8 @@ use Rattle.lt_face.specs.State.{Row, State}
 use Rattle.lt_model.specs.declared.normal.Term.{Term}
 use Rattle.lt_model.specs.declared.normal.Term.TheVariants.{Var, Cell}
 use Rattle.lt_model.specs.declared.normal.Atom.{Atom}
-use Rattle.lt_model.specs.declared.syntax.Op.TheVariants.{Eq}
 use Rattle.lt_model.specs.declared.normal.Test.{Test}
-use Rattle.lt_model.specs.declared.normal.Test.TheVariants.{Cmp, Sum}
-use Rattle.lt_model.specs.Answers.{Assignment, Values, cell_of, cells_of, rows_under, passes, or_else, value_at, terms_of, term_value, give_value, give, give_all, rows_eq}
-use Rattle.lt_model.specs.Cells.{sum_of}
+use Rattle.lt_model.specs.Answers.{Assignment, Values, cell_of, cells_of, rows_under, or_else, value_at, terms_of, give_all, rows_eq}
 use Rattle.lt_join.specs.Values.{assigned, with_value}
 use Rattle.lt_reference.specs.Values.{with_cell, accept, matched}
 use Rattle.lt_reference.specs.Walk.{bears, begun, assignment_from, fits_from, answer_from}

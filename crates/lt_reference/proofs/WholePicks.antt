@@ -1,8 +1,8 @@
 -- The picks of a body, row by row of its first atom.
-use Rattle.std.proofs.Common.{◌≡◌, ℕ, zero, suc, Bool, true, false, cond, ◌&&◌, ◌||◌, List, [], ◌∷◌, ◌++◌, map, Option, Some, None, refl, sym, ap, ◌∙◌, arith}
+use Rattle.std.proofs.Common.{◌≡◌, ℕ, Bool, true, false, cond, ◌&&◌, ◌||◌, List, [], ◌∷◌, ◌++◌, map, Option, Some, None, refl, sym, ap, ◌∙◌, arith}
 use Rattle.std.specs.Prelude.{filter_map, flat_map}
 use Rattle.std.specs.List.{AllByRecursion, cons_option, list_all, list_any}
-use Rattle.std.proofs.lemmas.Bool.{and_parts, and_from}
+use Rattle.std.proofs.lemmas.Bool.{and_from}
 use Rattle.std.proofs.lemmas.Bool.Decides.{nat_tests}
 use Rattle.std.proofs.lemmas.List.Elements.{filter_map-append}
 use Rattle.std.proofs.lemmas.List.Folds.{list_any-append}
@@ -122,7 +122,7 @@ rows_are : (rows : List Row) → AreRows rows → list_all (λ row. list_all is_
 rows_are [] h = refl
 rows_are (row ∷ rows) h = and_from (list_all is_cell row) (list_all (λ row. list_all is_cell row) rows) (row_is row h.0) (rows_are rows h.1)
 
-has_cells : (relations : List (List Row)) → AreCells relations → HasCells (bare relations)
+pub has_cells : (relations : List (List Row)) → AreCells relations → HasCells (bare relations)
 has_cells relations h = bare_each (AllByRecursion (AllByRecursion IsCell)) relations h
 
 -- no value is there

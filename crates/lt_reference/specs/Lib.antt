@@ -1,4 +1,5 @@
 pub mod Values
 pub mod Walk
 pub mod Ready
+pub mod Rivals
 pub mod Run

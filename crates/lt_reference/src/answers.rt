@@ -19,7 +19,7 @@ use lt_model::normal::{Atom, Body, Term, Test};
 use std::alloc::Global;
 
 /// The rows of a relation. One that isn't there has none.
-fn rows_of(relations: &[RowList], relation: u32) -> &[Row]
+pub(crate) fn rows_of(relations: &[RowList], relation: u32) -> &[Row]
     ensures { result.now ≡ rows_in (bare relations.now) relation }
 {
     match relations.get(relation as usize) {

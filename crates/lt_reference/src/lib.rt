@@ -8,6 +8,7 @@ mod laying;
 mod matching;
 mod plain;
 mod progress;
+mod rivals;
 
 pub use laying::lay;
 pub use plain::run_plain;

@@ -1,9 +1,7 @@
 //! How far a run has come.
-ghost use Rattle.std.specs.Prelude.{◌≡◌, false, IfOk, MatchBool};
-ghost use Rattle.lt_model.specs.Effect as model;
+ghost use Rattle.std.specs.Prelude.{IfOk, MatchBool};
 ghost use Rattle.lt_model.specs.Laws.{Rises};
-ghost use Rattle.lt_program.specs.Effect.{view};
-ghost use Rattle.lt_reference.specs.Run.{Follows};
+ghost use Rattle.lt_reference.specs.Run.{Follows, Stops};
 ghost use Rattle.lt_reference.specs.Walk.{bare};
 
 use crate::laying::lay;
@@ -22,10 +20,10 @@ pub(crate) struct Progress {
 }
 
 impl Progress {
-    /// Takes in the effect of statement `number`. False where that is a requirement that isn't met.
+    /// Takes in the effect of statement `number`. False where that is a requirement that isn't met, or a clash.
     pub(crate) fn accept(&mut self, number: u32, effect: Effect) -> Result<bool, NoMemory>
         requires { Rises (bare self.old.relations.items) }
-        ensures { IfOk result (λ met. MatchBool met (Follows number effect self.old self.new) (view effect ≡ model.Requires false)) }
+        ensures { IfOk result (λ goes_on. MatchBool goes_on (Follows number effect self.old self.new) (Stops number effect self.old)) }
     {
         match effect {
             Effect::Writes(marks) => {
@@ -34,6 +32,7 @@ impl Progress {
                 Ok(true)
             }
             Effect::Requires(met) => Ok(met),
+            Effect::Clashes => Ok(false),
             Effect::Prints(kinds, rows) => {
                 self.prints.push(Printed {
                     statement: number,

@@ -14,10 +14,10 @@ pub print_parts : (p : Printed) (rows : List Row) (kinds : List Kind) → rows �
     → print_text p ≡ line_of (codes "print" ∷ decimal p.statement ∷ decimal (length rows) ∷ []) ++ rows_text kinds rows
 print_parts p rows kinds is same = rw (is, same) refl
 
-pub mark_parts : (schema : Schema) (m : Mark) (heading : List ℕ × List Kind) (kinds : List Kind) → heading ≡ heading_of schema m.relation → kinds ≡ heading.1
+pub mark_parts : (schema : Schema) (m : Mark) (heading : List ℕ × List Kind × ℕ) (kinds : List Kind) → heading ≡ heading_of schema m.relation → kinds ≡ heading.1
     → mark_text schema m ≡ joined 0 ((sign_text m.plus ∷ heading.0 ∷ []) ++ cell_texts kinds m.row) ++ 10 ∷ []
 mark_parts schema m heading kinds is same =
-    ap (λ (h : List ℕ × List Kind). line_of ((sign_text m.plus ∷ h.0 ∷ []) ++ cell_texts h.1 m.row)) (sym is)
+    ap (λ (h : List ℕ × List Kind × ℕ). line_of ((sign_text m.plus ∷ h.0 ∷ []) ++ cell_texts h.1 m.row)) (sym is)
     ∙ ap (λ (ks : List Kind). line_of ((sign_text m.plus ∷ heading.0 ∷ []) ++ cell_texts ks m.row)) (sym same)
     ∙ ap (λ (s : List ℕ). s ++ 10 ∷ []) (join_joined ((sign_text m.plus ∷ heading.0 ∷ []) ++ cell_texts kinds m.row))
 
@@ -33,6 +33,6 @@ index_any [] i x d h = absurd (omega (arith, h))
 index_any (y ∷ xs) zero x d h = refl
 index_any (y ∷ xs) (suc i) x d h = let further : i < length xs = omega (arith, h) in index_any xs i x d further
 
-pub heading_there : (schema list : Schema) (relation : ℕ) (heading : List ℕ × List Kind) → list ≡ schema → relation < length schema → heading ≡ get_or list relation heading → heading ≡ heading_of schema relation
+pub heading_there : (schema list : Schema) (relation : ℕ) (heading : List ℕ × List Kind × ℕ) → list ≡ schema → relation < length schema → heading ≡ get_or list relation heading → heading ≡ heading_of schema relation
 heading_there schema list relation heading same there at =
-    at ∙ ap (λ (s : Schema). get_or s relation heading) same ∙ index_any schema relation heading ([], []) there
+    at ∙ ap (λ (s : Schema). get_or s relation heading) same ∙ index_any schema relation heading ([], [], 0) there

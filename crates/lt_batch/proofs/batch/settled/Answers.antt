@@ -1,4 +1,4 @@
-use Rattle.std.proofs.Common.{◌≡◌, ◌∙◌, rules, ap, sym, subst, arith}
+use Rattle.std.proofs.Common.{◌∙◌, rules, ap, sym, subst, arith}
 use Rattle.lt_base.specs.Tables.{state_of}
 use Rattle.lt_circuit.specs.Circuit.{IsReplay}
 use Rattle.lt_batch.specs.Work.{BatchView, IsLeaf, AreRunnable}

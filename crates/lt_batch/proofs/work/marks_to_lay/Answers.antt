@@ -1,4 +1,4 @@
-use Rattle.std.proofs.Common.{List, sym, ap, subst}
+use Rattle.std.proofs.Common.{sym, ap, subst}
 use Rattle.lt_model.specs.Fits.{FitMarks}
 use Rattle.lt_model.specs.Marks.{Marks, laid}
 use Rattle.lt_model.specs.Run.{run}

@@ -5,7 +5,7 @@ use Rattle.lt_model.specs.Fits.{IsBodyOf}
 use Rattle.lt_query.specs.Planned.{route_of}
 use Rattle.lt_program.specs.Planned.{IsPlanned}
 use Rattle.lt_program.proofs.IndexesMade.{body_fits}
-use Rattle.lt_program.proofs.Recalls.{first_ascends, second_ascends, effect_recalled}
+use Rattle.lt_program.proofs.Recalls.{part_ordered, effect_recalled}
 use Rattle.lt_program.proofs.evaluation.mended.Goals as goal
 
 pub planned-requires-clause-fits : goal.planned-requires-clause-fits
@@ -17,11 +17,8 @@ planned-requires-clause-route g c = c.requires.route ∙ ap route_of (sym c.body
 pub mend_slices-requires-clause-plan : goal.mend_slices-requires-clause-plan
 mend_slices-requires-clause-plan g c = subst (λ (b : Body). IsPlanned b c.in_ok-plan.plan) c.body_of.ensures c.in_ok-plan.ensures
 
-pub effect_by-requires-clause-first : goal.effect_by-requires-clause-first
-effect_by-requires-clause-first g c = first_ascends c.args.stmt.now (state_of c.args.tables.now) c.in_ok-part.part c.in_ok-part.ensures.part
-
-pub effect_by-requires-clause-second : goal.effect_by-requires-clause-second
-effect_by-requires-clause-second g c = second_ascends c.args.stmt.now (state_of c.args.tables.now) c.in_ok-part.part c.in_ok-part.ensures.part
+pub effect_by-requires : goal.effect_by-requires
+effect_by-requires g c = part_ordered c.args.stmt.now (state_of c.args.tables.now) c.in_ok-part.part c.in_ok-part.ensures.part
 
 pub returns-clause-effect : goal.returns-clause-effect
 returns-clause-effect g c = c.in_ok-effect.ensures ∙ effect_recalled c.args.stmt.now (state_of c.args.tables.now) c.in_ok-part.part c.in_ok-part.ensures.part

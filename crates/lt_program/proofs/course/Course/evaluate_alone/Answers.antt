@@ -14,3 +14,6 @@ returns-clause-cost g c = cost_alone (state_of c.args.base.now) c.args.self.now.
 
 pub returns-clause-laid : goal.returns-clause-laid
 returns-clause-laid g c = c.in_ok-accept.ensures.laid c.args.base.now c.requires.laid
+
+pub returns-in_err-part-clause-cost : goal.returns-in_err-part-clause-cost
+returns-in_err-part-clause-cost g c = cost_alone (state_of c.args.base.now) c.args.self.now.marks c.args.stmt.now c.args.moves.now c.evaluated.new.moves c.requires.reads c.evaluated.ensures.cost

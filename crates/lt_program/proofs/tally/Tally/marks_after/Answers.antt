@@ -1,16 +1,11 @@
 use Rattle.std.proofs.Common.{◌∙◌}
 use Rattle.std.specs.Arc.{arc_value}
-use Rattle.lt_program.proofs.Keeps.{first_at, second_at, after_is, after_fits}
+use Rattle.lt_program.proofs.Keeps.{ordered_at, after_is, after_fits}
 use Rattle.lt_program.proofs.tally.Tally.marks_after.Goals as goal
 
-pub marks_past-requires-clause-first : goal.marks_past-requires-clause-first
-marks_past-requires-clause-first c =
-    first_at (arc_value c.self.inside.prog) c.self.inside.base c.self.inside.course c.args.self.now c.self.view_is c.self.invariant
-    c.args.place c.statements.result.now c.index-statements-place.result c.as_slice.result.now c.index-as_slice-place.result c.requires.there (c.statements.ensures ∙ c.deref.ensures) c.index-statements-place.is c.as_slice.ensures c.index-as_slice-place.is c.part.result.now c.part.ensures
-
-pub marks_past-requires-clause-second : goal.marks_past-requires-clause-second
-marks_past-requires-clause-second c =
-    second_at (arc_value c.self.inside.prog) c.self.inside.base c.self.inside.course c.args.self.now c.self.view_is c.self.invariant
+pub marks_past-requires : goal.marks_past-requires
+marks_past-requires c =
+    ordered_at (arc_value c.self.inside.prog) c.self.inside.base c.self.inside.course c.args.self.now c.self.view_is c.self.invariant
     c.args.place c.statements.result.now c.index-statements-place.result c.as_slice.result.now c.index-as_slice-place.result c.requires.there (c.statements.ensures ∙ c.deref.ensures) c.index-statements-place.is c.as_slice.ensures c.index-as_slice-place.is c.part.result.now c.part.ensures
 
 pub returns-clause-value : goal.returns-clause-value
