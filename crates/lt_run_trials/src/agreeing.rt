@@ -8,7 +8,7 @@ use crate::comparing::{is_refused, is_same_reply};
 use crate::random::Random;
 use crate::sampled::text;
 use crate::serial::{Ran, no_rows, one_run};
-use crate::texts::{bare, joined, program};
+use crate::texts::{Pairs, bare, joined, program, program_over};
 use lt_delta::Marks;
 use lt_face::memory::NoMemory;
 use lt_model::normal::Prog;
@@ -49,17 +49,22 @@ fn does<R: Threads + Sync>(rt: &R, alloc: Global, prog: Prog, ran: Ran) -> Resul
 }
 
 /// The next program at random.
-fn sampled(alloc: Global, random: &mut Random) -> Result<Prog, NoMemory>
+fn sampled(alloc: Global, pairs: Pairs, random: &mut Random) -> Result<Prog, NoMemory>
     ensures { IfOk result FitsBoth }
 {
     let text = text(alloc, random)?;
-    let prog = program(alloc, &text)?;
+    let prog = program_over(alloc, pairs, &text)?;
     Ok(prog)
 }
 
 /// Whether the two runs of the next program agree.
-fn agrees<R: Threads + Sync>(rt: &R, alloc: Global, random: &mut Random) -> Result<bool, NoMemory> {
-    let prog = sampled(alloc, random)?;
+fn agrees<R: Threads + Sync>(
+    rt: &R,
+    alloc: Global,
+    pairs: Pairs,
+    random: &mut Random,
+) -> Result<bool, NoMemory> {
+    let prog = sampled(alloc, pairs, random)?;
     let ran = defined(alloc, &prog)?;
     does(rt, alloc, prog, ran)
 }
@@ -69,7 +74,17 @@ fn joins_answer_as_defined(rt: HostRuntime) -> Result<(), NoMemory> {
     let alloc = rt.alloc();
     let mut random = Random::new();
     for _ in 0..200 {
-        holds(&rt, agrees(&rt, alloc, &mut random)?);
+        holds(&rt, agrees(&rt, alloc, Pairs::Plain, &mut random)?);
+    }
+    Ok(())
+}
+
+#[test]
+fn rows_are_displaced_as_defined(rt: HostRuntime) -> Result<(), NoMemory> {
+    let alloc = rt.alloc();
+    let mut random = Random::new();
+    for _ in 0..200 {
+        holds(&rt, agrees(&rt, alloc, Pairs::Keyed, &mut random)?);
     }
     Ok(())
 }
@@ -79,6 +94,7 @@ fn is_part_of_refused(part: &Part) -> bool {
     match &part.outcome {
         Outcome::Rows(rows) => rows.len() == 1,
         Outcome::Both(..) => false,
+        Outcome::Keyed(..) => false,
         Outcome::Truth(met) => *met && part.sense.hit_count() == 1,
     }
 }

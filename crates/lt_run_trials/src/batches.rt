@@ -8,9 +8,10 @@ ghost use Rattle.lt_run_trials.specs.Fitting.{FitsBoth};
 use crate::agree::{holds, same};
 use crate::comparing::{are_marks, is_same_reply};
 use crate::serial::{Ran, Serial, one_after_another};
-use crate::texts::{ZERO, programs, stocked};
+use crate::texts::{Pairs, ZERO, bare, programs, programs_over, stocked};
 use lt_base::Database;
-use lt_batch::{Outcome, run_batch};
+use lt_batch::{BatchWork, Outcome, run_batch};
+use lt_circuit::LeafWork;
 use lt_delta::Marks;
 use lt_edges::OpenGate;
 use lt_face::items::RowList;
@@ -189,6 +190,77 @@ fn dear_agree<R: Threads + Wait + Sync>(
     let progs = programs(alloc, &DEAR, count)?;
     let serial = one_after_another(alloc, PAIRS, &progs)?;
     does(rt, alloc, PAIRS, &progs, &serial, workers)
+}
+
+/// Programs that insert into e as a relation with a key column and a value column, on two rows of one key, too.
+const KEYED: [&str; 6] = [
+    "insert e(1, 5);",
+    "insert e(1, 6); print (y) where e(1, y);",
+    "insert e(x, 7) where r(x); print (x, y) where e(x, y);",
+    "replace e(x, y) by e(x, z) where e(x, y), z = y + 1;",
+    "insert e(2, x) where r(x);",
+    "require some e(1, 8); delete e(1, y) where e(1, y);",
+];
+
+/// Whether a batch of such programs does what they do one after another, where e had two rows of one key.
+fn keys_agree<R: Threads + Wait + Sync>(
+    rt: &R,
+    alloc: Global,
+    count: usize,
+    workers: u32,
+) -> Result<bool, NoMemory>
+    requires few { count ≤ 256 }
+    requires workers { (1 ≤ workers) × (workers ≤ 16) }
+{
+    let stock = "insert r(1); insert r(4); insert e(2, 3); insert e(2, 4);";
+    let progs = programs_over(alloc, Pairs::Keyed, &KEYED, count)?;
+    let serial = one_after_another(alloc, stock, &progs)?;
+    does(rt, alloc, stock, &progs, &serial, workers)
+}
+
+/// Two programs give one key values, and then others.
+#[test]
+fn batches_that_give_keys_values_are_serial(rt: HostRuntime) -> Result<(), NoMemory> {
+    for count in [2usize, 3, 6, 32] {
+        for workers in [1u32, 2, 4] {
+            holds(&rt, keys_agree(&rt, rt.alloc(), count, workers)?);
+        }
+    }
+    Ok(())
+}
+
+/// Two programs that insert rows of one key.
+const INSERTING: [&str; 2] = ["insert e(1, 5);", "insert e(1, 6);"];
+
+/// Whether the second of these programs can begin on the snapshot for good, as it reads nothing that the first writes.
+#[tactic(auto, using(crate::proofs::Fitting::all_fit))]
+fn is_free<R: Threads + Sync>(rt: &R, alloc: Global, progs: &[Arc<Prog>]) -> Result<bool, NoMemory>
+    requires { AllByRecursion FitsBoth (map arc_value progs.now) }
+{
+    let db = bare(alloc)?;
+    let work = BatchWork::new(rt, alloc, &db, progs)?;
+    let is_free = work.is_free(1);
+    drop(work);
+    Ok(is_free)
+}
+
+/// Whether the second of two inserts is, where e is declared so.
+fn is_second_free<R: Threads + Sync>(
+    rt: &R,
+    alloc: Global,
+    pairs: Pairs,
+) -> Result<bool, NoMemory> {
+    let progs = programs_over(alloc, pairs, &INSERTING, 2)?;
+    is_free(rt, alloc, &progs)
+}
+
+/// A plain insert reads nothing, and one that displaces rows reads its own relation.
+#[test]
+fn a_displacing_insert_waits_for_others(rt: HostRuntime) -> Result<(), NoMemory> {
+    let alloc = rt.alloc();
+    holds(&rt, is_second_free(&rt, alloc, Pairs::Plain)?);
+    holds(&rt, !is_second_free(&rt, alloc, Pairs::Keyed)?);
+    Ok(())
 }
 
 #[test]

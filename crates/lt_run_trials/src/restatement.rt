@@ -1,21 +1,26 @@
 //! Programs run where marks are laid on a base, and restated where others are.
-ghost use Rattle.std.specs.Prelude.{◌≡◌, true, IfOk};
+ghost use Rattle.std.specs.Prelude.{◌≡◌, ◌⊎◌, ℕ, true, IfOk, OnOk};
 ghost use Rattle.std.specs.Arc.{arc_value};
+ghost use Rattle.lt_face.specs.Lists.{IsIn};
+ghost use Rattle.lt_face.specs.State.{Row as RowView};
+ghost use Rattle.lt_model.specs.declared.mark.Mark.{Mark as MarkView};
 ghost use Rattle.lt_model.specs.Fits.{Fits, FitMarks};
 ghost use Rattle.lt_model.specs.Marks.{laid};
 ghost use Rattle.lt_base.specs.Tables.{state_of};
 ghost use Rattle.lt_program.specs.Tally.{HasIndexes, has_ended};
-ghost use Rattle.lt_run_trials.specs.Fitting.{AreBoth};
+ghost use Rattle.lt_restate.specs.Walked.{is_named};
+ghost use Rattle.lt_run_trials.specs.Fitting.{AreBoth, FitsBoth};
 
 use crate::texts::{joined, program, routed, stocked};
-use lt_base::Database;
+use lt_base::{Database, differing};
 use lt_delta::Marks;
+use lt_face::items::{Changes, Items};
 use lt_face::memory::NoMemory;
 use lt_face::moves::Moves;
 use lt_model::normal::Prog;
 use lt_program::{Tally, indexed, run};
 use lt_query::Planned;
-use lt_restate::{Touches, restate_marks};
+use lt_restate::{Touches, restate, restate_marks};
 use std::alloc::Global;
 use std::sync::Arc;
 use std::thread::Threads;
@@ -132,9 +137,104 @@ pub(crate) fn restated_by<R: Threads + Sync>(
     first: &str,
     second: &str,
 ) -> Result<Restatement, NoMemory> {
+    let prog = program(alloc, statements)?;
+    restated_over(rt, alloc, stock, prog, first, second)
+}
+
+/// The same of a program. What was there and what corrects it comes of plain inserts, so e may have two rows of one key.
+pub(crate) fn restated_over<R: Threads + Sync>(
+    rt: &R,
+    alloc: Global,
+    stock: &str,
+    prog: Prog,
+    first: &str,
+    second: &str,
+) -> Result<Restatement, NoMemory>
+    requires { FitsBoth prog }
+{
     let base = stocked(rt, alloc, stock)?;
     let first = marks_of(rt, alloc, &base, first)?;
     let second = marks_of(rt, alloc, &base, second)?;
-    let prog = program(alloc, statements)?;
     restated(rt, alloc, &base, prog, &first, &second)
+}
+
+/// Adds the rows of the marks.
+fn add_named(named: &mut Changes, marks: &Marks) -> Result<(), NoMemory>
+    ensures stay { OnOk result ((change : ℕ × RowView) → IsIn change named.old → IsIn change named.new) }
+    ensures all { OnOk result ((mark : MarkView) → IsIn mark marks.now → IsIn (mark.relation, mark.row) named.new) }
+{
+    for i in 0..marks.len() {
+        let mark = marks.mark(i);
+        named.push((mark.relation, mark.row.copy_row()))?;
+    }
+    Ok(())
+}
+
+/// The rows that one of two lists marks.
+fn named_by(alloc: Global, first: &Marks, second: &Marks) -> Result<Changes, NoMemory>
+    ensures { IfOk result (λ named. (relation : ℕ) (row : RowView) → (is_named first.now relation row ≡ true) ⊎ (is_named second.now relation row ≡ true) → IsIn (relation, row) named) }
+{
+    let mut named = Items::new(alloc);
+    add_named(&mut named, first)?;
+    add_named(&mut named, second)?;
+    Ok(named)
+}
+
+/// As `again`, by the rows that one of the lists marks and that changed.
+fn again_by_name(
+    db: &Database,
+    prog: &Arc<Planned>,
+    old: &Tally,
+    first: &Marks,
+    second: &Marks,
+) -> Result<(Tally, Touches), NoMemory>
+    requires fits { Fits (state_of db.now) (arc_value prog.now) }
+    requires indexes { HasIndexes db.now (arc_value prog.now) }
+    requires first { FitMarks (state_of db.now) first.now }
+    requires second { FitMarks (state_of db.now) second.now }
+    requires program { old.now.program ≡ arc_value prog.now }
+    requires base { state_of old.now.base ≡ laid (state_of db.now) first.now }
+    requires ended { has_ended old.now ≡ true }
+{
+    differing();
+    let next = corrected(db, prog, second)?;
+    let all = named_by(prog.allocator(), first, second)?;
+    let named = Database::changes(old.base(), &next, &all)?;
+    let mut moves: Moves<()> = Moves::new();
+    let out = restate(old, &next, &named, &mut moves)?;
+    Ok(out)
+}
+
+/// The program of some statements run where others left rows, and restated by name where one more program has run.
+pub(crate) fn restated_by_name<R: Threads + Sync>(
+    rt: &R,
+    alloc: Global,
+    stock: &str,
+    statements: &str,
+    inserts: &str,
+) -> Result<(Tally, Touches), NoMemory> {
+    let base = stocked(rt, alloc, stock)?;
+    let first = marks_of(rt, alloc, &base, "")?;
+    let second = marks_of(rt, alloc, &base, inserts)?;
+    let prog = program(alloc, statements)?;
+    renamed(rt, alloc, &base, prog, &first, &second)
+}
+
+/// The program run where the first marks are laid on the base, and restated by name where the second are.
+fn renamed<R: Threads + Sync>(
+    rt: &R,
+    alloc: Global,
+    base: &Database,
+    prog: Prog,
+    first: &Marks,
+    second: &Marks,
+) -> Result<(Tally, Touches), NoMemory>
+    requires fits { Fits (state_of base.now) prog }
+    requires first { FitMarks (state_of base.now) first.now }
+    requires second { FitMarks (state_of base.now) second.now }
+{
+    let shared = routed(alloc, base, prog)?;
+    let db = indexed(rt, base, &shared)?;
+    let old = ran(&db, &shared, first)?;
+    again_by_name(&db, &shared, &old, first, second)
 }

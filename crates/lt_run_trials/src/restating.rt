@@ -2,11 +2,12 @@
 ghost use Rattle.lt_model.specs.Fits.{FitMarks};
 ghost use Rattle.lt_base.specs.Tables.{state_of};
 
-use crate::agree::holds;
+use crate::agree::{holds, same};
 use crate::comparing::{int_row, is_same_reply};
 use crate::random::Random;
-use crate::restatement::{Restatement, restated_by};
+use crate::restatement::{Restatement, restated_by, restated_by_name, restated_over};
 use crate::sampled::{joining, writing};
+use crate::texts::{Pairs, program_over};
 use lt_base::Database;
 use lt_delta::Marks;
 use lt_face::memory::NoMemory;
@@ -88,6 +89,42 @@ const MANY_WITH_TWENTY: &str =
 fn an_insert_past_a_pinned_key_does_not_touch(rt: HostRuntime) -> Result<(), NoMemory> {
     holds(&rt, keeps_one(&rt, rt.alloc(), TWENTY)?);
     holds(&rt, keeps_one(&rt, rt.alloc(), MANY_WITH_TWENTY)?);
+    Ok(())
+}
+
+/// How often the inserts touch a print by name, and whether what it prints then is what a run prints.
+fn touches_by_name<R: Threads + Sync>(
+    rt: &R,
+    alloc: Global,
+    stock: &str,
+    print: &str,
+    inserts: &str,
+) -> Result<usize, NoMemory> {
+    let (tally, touches) = restated_by_name(rt, alloc, stock, print, inserts)?;
+    let out = restated_by(rt, alloc, stock, print, "", inserts)?;
+    let is_same = is_same_reply(tally.reply(), out.anew.reply());
+    let count = if is_same { touches.len() } else { usize::MAX };
+    drop(out);
+    drop(tally);
+    Ok(count)
+}
+
+/// An insert into a gap touches, one past a pinned key doesn't, and one past the last edge of a triangle does.
+#[test]
+fn changed_rows_touch_by_name(rt: HostRuntime) -> Result<(), NoMemory> {
+    let alloc = rt.alloc();
+    let two = "insert r(1); insert r(9);";
+    let edges = "insert e(1, 2); insert e(2, 3); insert e(1, 3);";
+    let triangle = "print (a, b, c) where e(a, b), e(b, c), e(a, c);";
+    let above = "print (x) where r(x), x > 3;";
+    let pinned = "print (x) where r(x), x = 1;";
+    same(&rt, touches_by_name(&rt, alloc, two, above, FIVE)?, 1);
+    same(&rt, touches_by_name(&rt, alloc, two, pinned, TWENTY)?, 0);
+    same(
+        &rt,
+        touches_by_name(&rt, alloc, edges, triangle, "insert e(3, 4);")?,
+        1,
+    );
     Ok(())
 }
 
@@ -372,13 +409,15 @@ fn corrections(alloc: Global, random: &mut Random) -> Result<String, NoMemory> {
 fn sampled<R: Threads + Sync>(
     rt: &R,
     alloc: Global,
+    pairs: Pairs,
     random: &mut Random,
 ) -> Result<Restatement, NoMemory> {
     let stock = writing(alloc, random, 8)?;
     let first = corrections(alloc, random)?;
     let second = corrections(alloc, random)?;
     let statements = joining(alloc, random, 5)?;
-    restated_by(rt, alloc, &stock, &statements, &first, &second)
+    let prog = program_over(alloc, pairs, &statements)?;
+    restated_over(rt, alloc, &stock, prog, &first, &second)
 }
 
 /// How many statements kept their parts, and how many didn't.
@@ -407,10 +446,11 @@ fn is_as_run(out: &Restatement) -> bool {
 fn agrees<R: Threads + Sync>(
     rt: &R,
     alloc: Global,
+    pairs: Pairs,
     random: &mut Random,
     counts: &mut Counts,
 ) -> Result<bool, NoMemory> {
-    let out = sampled(rt, alloc, random)?;
+    let out = sampled(rt, alloc, pairs, random)?;
     counts.add(out.new.evaluated(), out.touches.len());
     let are_so = are_restated(alloc, &out)?;
     let is_so = are_so && is_as_run(&out);
@@ -418,17 +458,35 @@ fn agrees<R: Threads + Sync>(
     Ok(is_so)
 }
 
-#[test]
-fn programs_are_restated_as_they_are_run(rt: HostRuntime) -> Result<(), NoMemory> {
-    let alloc = rt.alloc();
+/// Whether so many programs at random are restated as they are run, and enough statements kept their parts, and enough didn't.
+fn all_agree<R: Threads + Sync>(
+    rt: &R,
+    alloc: Global,
+    pairs: Pairs,
+    count: usize,
+) -> Result<bool, NoMemory> {
     let mut random = Random::new();
     let mut counts = Counts {
         kept: 0,
         touched: 0,
     };
-    for _ in 0..200 {
-        holds(&rt, agrees(&rt, alloc, &mut random, &mut counts)?);
+    for _ in 0..count {
+        if !agrees(rt, alloc, pairs, &mut random, &mut counts)? {
+            return Ok(false);
+        }
     }
-    holds(&rt, counts.kept > 100 && counts.touched > 100);
+    Ok(counts.kept > 100 && counts.touched > 100)
+}
+
+#[test]
+fn programs_are_restated_as_they_are_run(rt: HostRuntime) -> Result<(), NoMemory> {
+    holds(&rt, all_agree(&rt, rt.alloc(), Pairs::Plain, 200)?);
+    Ok(())
+}
+
+/// The look-ups of rows with a key are restated, too.
+#[test]
+fn displaced_rows_are_restated_as_they_are_run(rt: HostRuntime) -> Result<(), NoMemory> {
+    holds(&rt, all_agree(&rt, rt.alloc(), Pairs::Keyed, 200)?);
     Ok(())
 }

@@ -10,13 +10,13 @@ ghost use Rattle.lt_batch.specs.Work.{IsLeaf};
 ghost use Rattle.lt_run_trials.specs.Fitting.{FitsBoth};
 
 use crate::agree::holds;
-use crate::circuits::{backwards, dirtied, overtaken};
+use crate::circuits::{backwards, claims, dirtied, finishes, overtaken};
 use crate::comparing::{are_marks, is_refused, is_same_reply};
 use crate::floor::Floor;
 use crate::random::Random;
 use crate::sample::{SERIAL, Sample};
 use crate::serial::{Serial, one_after_another};
-use crate::texts::{bare, programs, stocked};
+use crate::texts::{Pairs, bare, programs, programs_over, stocked};
 use lt_batch::{BatchWork, Outcome, run_batch};
 use lt_circuit::{Circuit, Entry, Event, JobName, LeafWork};
 use lt_delta::Marks;
@@ -109,11 +109,12 @@ struct Batch {
 }
 
 /// So many of the programs.
-fn batch_of(alloc: Global, count: usize) -> Result<Batch, NoMemory>
+fn batch_of(alloc: Global, pairs: Pairs, texts: &[&str], count: usize) -> Result<Batch, NoMemory>
+    requires { 1 ≤ length texts.now }
     ensures many { IfOk result (λ batch. length batch.progs.items ≡ count) }
     ensures fit { IfOk result (λ batch. AllByRecursion FitsBoth (map arc_value batch.progs.items)) }
 {
-    let progs = programs(alloc, &MEETING, count)?;
+    let progs = programs_over(alloc, pairs, texts, count)?;
     let serial = one_after_another(alloc, "", &progs)?;
     Ok(Batch { progs, serial })
 }
@@ -188,7 +189,7 @@ fn follows<R: Threads + Sync>(
 #[test]
 fn a_batch_bears_what_is_given_up(rt: HostRuntime) -> Result<(), NoMemory> {
     let alloc = rt.alloc();
-    let batch = batch_of(alloc, 4)?;
+    let batch = batch_of(alloc, Pairs::Plain, &MEETING, 4)?;
     for (entries, could) in [
         (overtaken().as_slice(), 6usize),
         (dirtied().as_slice(), 8),
@@ -215,9 +216,17 @@ fn plays<R: Threads + Sync>(
     ends_serial(floor, &batch.serial, 6)
 }
 
-/// Whether so many lists of events at random end in what the programs do one after another.
-fn all_play<R: Threads + Sync>(rt: &R, alloc: Global, lists: u32) -> Result<bool, NoMemory> {
-    let batch = batch_of(alloc, 6)?;
+/// Whether so many lists of events at random end in what six programs do one after another.
+fn all_play<R: Threads + Sync>(
+    rt: &R,
+    alloc: Global,
+    pairs: Pairs,
+    texts: &[&str],
+    lists: u32,
+) -> Result<bool, NoMemory>
+    requires { 1 ≤ length texts.now }
+{
+    let batch = batch_of(alloc, pairs, texts, 6)?;
     let mut random = Random::new();
     for i in 0..lists {
         if !plays(rt, alloc, &batch, &mut random, i % 60)? {
@@ -229,7 +238,52 @@ fn all_play<R: Threads + Sync>(rt: &R, alloc: Global, lists: u32) -> Result<bool
 
 #[test]
 fn any_events_of_a_batch_are_serial(rt: HostRuntime) -> Result<(), NoMemory> {
-    holds(&rt, all_play(&rt, rt.alloc(), 300)?);
+    let is_so = all_play(&rt, rt.alloc(), Pairs::Plain, &MEETING, 300)?;
+    holds(&rt, is_so);
+    Ok(())
+}
+
+/// Programs that give keys values. Two of them clash where r has two rows.
+const GIVING: [&str; 6] = [
+    "insert e(1, 5); insert r(1);",
+    "insert e(1, 6); insert r(2);",
+    "insert e(1, 7); print (y) where e(1, y);",
+    "insert e(x, 8) where r(x); print (x, y) where e(x, y);",
+    "replace e(x, y) by e(3, z) where e(x, y), z = y + x;",
+    "insert e(2, x) where r(x), r(y), y <= x; delete r(1);",
+];
+
+/// The third program runs on a correction that lays two rows of one key, as neither of the first two knew of the other.
+fn two_of_one_key() -> [Entry; 12] {
+    [
+        claims(0, JobName::Leaf(0)),
+        claims(1, JobName::Leaf(1)),
+        finishes(0, JobName::Leaf(0)),
+        finishes(1, JobName::Leaf(1)),
+        claims(0, JobName::Merge(1)),
+        finishes(0, JobName::Merge(1)),
+        claims(0, JobName::Correct(0)),
+        finishes(0, JobName::Correct(0)),
+        claims(0, JobName::Correct(4)),
+        finishes(0, JobName::Correct(4)),
+        claims(0, JobName::Leaf(2)),
+        finishes(0, JobName::Leaf(2)),
+    ]
+}
+
+#[test]
+fn a_correction_may_lay_two_rows_of_one_key(rt: HostRuntime) -> Result<(), NoMemory> {
+    let alloc = rt.alloc();
+    let batch = batch_of(alloc, Pairs::Keyed, &GIVING, 4)?;
+    let is_so = follows(&rt, alloc, &batch, &two_of_one_key(), 12)?;
+    holds(&rt, is_so);
+    Ok(())
+}
+
+#[test]
+fn any_events_of_given_keys_are_serial(rt: HostRuntime) -> Result<(), NoMemory> {
+    let is_so = all_play(&rt, rt.alloc(), Pairs::Keyed, &GIVING, 300)?;
+    holds(&rt, is_so);
     Ok(())
 }
 

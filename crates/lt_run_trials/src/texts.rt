@@ -1,4 +1,4 @@
-//! Programs as text, over the relations r(int) and e(int, int), and databases with these.
+//! Programs as text, over the relations r(int) and e(int, int) or e(int -> int), and databases with these.
 ghost use Rattle.std.specs.Prelude.{◌≡◌, ◌≤◌, [], ◌∷◌, length, map, IfOk, IfSome};
 ghost use Rattle.std.specs.Arc.{arc_value};
 ghost use Rattle.std.specs.List.{AllByRecursion};
@@ -28,15 +28,36 @@ use std::thread::Threads;
 /// The cell of the int 0.
 pub(crate) const ZERO: Key = 9_223_372_036_854_775_809;
 
+/// How e is declared.
+#[derive(Clone, Copy)]
+pub(crate) enum Pairs {
+    /// As e(int, int).
+    Plain,
+    /// As e(int -> int).
+    Keyed,
+}
+
+impl Pairs {
+    /// How many key columns e has.
+    fn keys(self) -> u32
+        ensures { (1 ≤ result) × (result ≤ 2) }
+    {
+        match self {
+            Pairs::Plain => 2,
+            Pairs::Keyed => 1,
+        }
+    }
+}
+
 /// The relations by name.
-fn schema(alloc: Global) -> Result<Schema, DeclareFault>
+fn schema(alloc: Global, pairs: Pairs) -> Result<Schema, DeclareFault>
     ensures { IfOk result (λ schema. map (λ heading. length heading.1) schema ≡ 1 ∷ 2 ∷ []) }
 {
     let mut schema = Schema::new(alloc);
     let r = KindList::from_kinds(alloc, &[Kind::Int]);
-    schema.declare(Name::from_bytes(alloc, &[b'r']), r)?;
+    schema.declare(Name::from_bytes(alloc, &[b'r']), r, 1)?;
     let e = KindList::from_kinds(alloc, &[Kind::Int, Kind::Int]);
-    schema.declare(Name::from_bytes(alloc, &[b'e']), e)?;
+    schema.declare(Name::from_bytes(alloc, &[b'e']), e, pairs.keys())?;
     Ok(schema)
 }
 
@@ -60,11 +81,11 @@ fn programs_of(alloc: Global, script: &str) -> Option<ProgramList>
 }
 
 /// The check of a first program. Where none is, the answer is as if memory had ended.
-fn checked(alloc: Global, programs: &ProgramList) -> Result<Prog, CheckFault>
+fn checked(alloc: Global, programs: &ProgramList, pairs: Pairs) -> Result<Prog, CheckFault>
     requires { AllByRecursion IsProgramWithin programs.now }
     ensures { IfOk result FitsBoth }
 {
-    let Ok(schema) = schema(alloc) else {
+    let Ok(schema) = schema(alloc, pairs) else {
         return Err(CheckFault::NoMemory);
     };
     match programs.as_slice() {
@@ -73,21 +94,29 @@ fn checked(alloc: Global, programs: &ProgramList) -> Result<Prog, CheckFault>
     }
 }
 
-/// The program of these statements. Where they have a fault or a code, the answer is as if memory had ended.
+/// The program of these statements where e is a plain relation.
 pub(crate) fn program(alloc: Global, statements: &str) -> Result<Prog, NoMemory>
+    ensures { IfOk result FitsBoth }
+{
+    let prog = program_over(alloc, Pairs::Plain, statements)?;
+    Ok(prog)
+}
+
+/// The program of these statements. Where they have a fault or a code, the answer is as if memory had ended.
+pub(crate) fn program_over(alloc: Global, pairs: Pairs, statements: &str) -> Result<Prog, NoMemory>
     ensures { IfOk result FitsBoth }
 {
     let script = script_of(alloc, statements)?;
     let Some(programs) = programs_of(alloc, &script) else {
         return Err(NoMemory);
     };
-    match checked(alloc, &programs) {
+    match checked(alloc, &programs, pairs) {
         Ok(prog) => Ok(prog),
         Err(_) => Err(NoMemory),
     }
 }
 
-/// So many programs, in the order of these texts, and after the last again from the first.
+/// So many programs, in the order of these texts, and after the last again from the first, where e is a plain relation.
 pub(crate) fn programs(
     alloc: Global,
     texts: &[&str],
@@ -97,9 +126,24 @@ pub(crate) fn programs(
     ensures many { IfOk result (λ progs. length progs.items ≡ count) }
     ensures fit { IfOk result (λ progs. AllByRecursion FitsBoth (map arc_value progs.items)) }
 {
+    let progs = programs_over(alloc, Pairs::Plain, texts, count)?;
+    Ok(progs)
+}
+
+/// So many programs, in the order of these texts, and after the last again from the first.
+pub(crate) fn programs_over(
+    alloc: Global,
+    pairs: Pairs,
+    texts: &[&str],
+    count: usize,
+) -> Result<Vec<Arc<Prog>>, NoMemory>
+    requires { 1 ≤ length texts.now }
+    ensures many { IfOk result (λ progs. length progs.items ≡ count) }
+    ensures fit { IfOk result (λ progs. AllByRecursion FitsBoth (map arc_value progs.items)) }
+{
     let mut progs = Vec::new(alloc);
     for i in 0..count {
-        let prog = program(alloc, texts[i % texts.len()])?;
+        let prog = program_over(alloc, pairs, texts[i % texts.len()])?;
         let prog = Arc::new(alloc, prog)?;
         progs.push(prog)?;
     }

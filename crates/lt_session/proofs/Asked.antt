@@ -1,5 +1,5 @@
 -- Readers ask one after another.
-use Rattle.std.proofs.Common.{◌≡◌, ℕ, suc, ◌+◌, ◌<◌, List, [], ◌∷◌, ◌++◌, length, map, Some, slice_get, refl, sym, ap, subst, ◌∙◌, arith}
+use Rattle.std.proofs.Common.{◌≡◌, ℕ, ◌+◌, ◌<◌, List, [], ◌∷◌, ◌++◌, length, map, refl, sym, ap, subst, ◌∙◌, arith}
 use Rattle.std.specs.List.{AllByRecursion}
 use Rattle.std.proofs.lemmas.List.{length-append}
 use mathlib.Core.List.{IsPrefix}
@@ -31,7 +31,7 @@ answer_later program xs ys pre answer a = record { place = a.place; version = a.
 pub answers_later : (program : List Stmt) (xs ys : List Version) (answers : List (ℕ × Reply)) → IsPrefix xs ys → AllByRecursion (IsAnswer program xs) answers → AllByRecursion (IsAnswer program ys) answers
 answers_later program xs ys answers pre all = each_weaker (IsAnswer program xs) (IsAnswer program ys) (answer_later program xs ys pre) answers all
 
-each_push : {X : Type 0} (P : X → Type 0) (xs : List X) (x : X) → AllByRecursion P xs → P x → AllByRecursion P (xs ++ x ∷ [])
+pub each_push : {X : Type 0} (P : X → Type 0) (xs : List X) (x : X) → AllByRecursion P xs → P x → AllByRecursion P (xs ++ x ∷ [])
 each_push P [] x all p = (p, tt)
 each_push P (y ∷ xs) x all p = (all.0, each_push P xs x all.1 p)
 

@@ -70,7 +70,7 @@ all_told marks schema (p ∷ programs) dones = one_told marks schema p (checked 
 
 -- ---- the state that they leave
 
-widths-serial : (programs : List (List Stmt)) (state : State) → map (λ (r : Relation). r.width) (serial programs state).1 ≡ map (λ (r : Relation). r.width) state
+pub widths-serial : (programs : List (List Stmt)) (state : State) → map (λ (r : Relation). r.width) (serial programs state).1 ≡ map (λ (r : Relation). r.width) state
 widths-serial [] state = refl
 widths-serial (program ∷ programs) state = widths-serial programs (laid state (run program state).1) ∙ widths-laid state (run program state).1
 
@@ -96,7 +96,7 @@ module _ (w : World) (m : model.World) (programs : List Program) (cs : List Chec
       let gs : List (List Stmt) = filter_map (λ (check : Text × Checked). good_of check.1) (named m.schema programs) in
       let done : List (Reply × Marks) × State = serial gs m.state in
       let state : done.1 ≡ state_of db = ap (λ (d : List (Reply × Marks) × State). d.1) same_runs ∙ sym left in
-      let widths : map (λ (r : Relation). r.width) done.1 ≡ map (λ (h : List ℕ × List _). length h.1) m.schema = widths-serial gs m.state ∙ s.widths in
+      let widths : IsStateOf m.schema done.1 = widths-serial gs m.state ∙ s.widths in
       record {
         schema = s.schema ∙ sym schema;
         some = s.some;

@@ -19,22 +19,22 @@ use Rattle.lt_report.specs.Texts.{held}
 use Rattle.lt_session.specs.Versions.{IsFront}
 
 abbrev Heading : Type 0
-Heading = List ℕ × List Kind
+Heading = List ℕ × List Kind × ℕ
 
 -- ---- the columns of a relation that is there
 
 found_heading : (schema : Schema) (name : List ℕ) (n : ℕ) → number_of schema name ≡ Some n → n < length schema
-found_heading schema name n e = (position-Some (λ heading. bytes_eq heading.0 name) schema n ([], []) e).0
+found_heading schema name n e = (position-Some (λ heading. bytes_eq heading.0 name) schema n ([], [], 0) e).0
 
-columns_found : (schema : Schema) (name : List ℕ) (n : ℕ) → number_of schema name ≡ Some n → columns_of schema name ≡ (get_or schema n ([], [])).1
+columns_found : (schema : Schema) (name : List ℕ) (n : ℕ) → number_of schema name ≡ Some n → columns_of schema name ≡ (get_or schema n ([], [], 0)).1
 columns_found schema name n found =
     ap (λ o. unwrap_or (option_map (λ heading. heading.1) (option_and_then (slice_get schema) o)) []) found
-    ∙ ap (λ o. unwrap_or (option_map (λ heading. heading.1) o) []) (slice_get-get_or schema n ([], []) (found_heading schema name n found))
+    ∙ ap (λ o. unwrap_or (option_map (λ heading. heading.1) o) []) (slice_get-get_or schema n ([], [], 0) (found_heading schema name n found))
 
 pub some_columns : (schema : Schema) (name : List ℕ) (n : ℕ) → AllByRecursion (λ (heading : Heading). 1 ≤ length heading.1) schema → number_of schema name ≡ Some n → 1 ≤ length (columns_of schema name)
 some_columns schema name n some found =
     subst (λ (ks : List Kind). 1 ≤ length ks) (sym (columns_found schema name n found))
-    (each_at (λ (heading : Heading). 1 ≤ length heading.1) schema n ([], []) some (found_heading schema name n found))
+    (each_at (λ (heading : Heading). 1 ≤ length heading.1) schema n ([], [], 0) some (found_heading schema name n found))
 
 -- ---- the relations of a state in front of a schema
 
@@ -64,7 +64,7 @@ pub front_then : (m : World) (at : Option ℕ) → IsStateOf m.schema m.state �
 front_then m None widths older = IsFront-now m.schema m.state widths
 front_then m (Some v) widths older = front_at m.schema ([] ∷ m.versions) v (tt, older)
 
-front_width : (schema : Schema) (state : State) (n : ℕ) (r : Relation) → IsFront schema state → Some r ≡ slice_get state n → r.width ≡ length (get_or schema n ([], [])).1
+front_width : (schema : Schema) (state : State) (n : ℕ) (r : Relation) → IsFront schema state → Some r ≡ slice_get state n → r.width ≡ length (get_or schema n ([], [], 0)).1
 front_width schema [] n r h e = absurd cc
 front_width [] (x ∷ state) n r h e = absurd h
 front_width (heading ∷ schema) (x ∷ state) zero r h e = let same : r ≡ x = cc in ap (λ (y : Relation). y.width) same ∙ h.0

@@ -1,20 +1,24 @@
 -- The replies of readers are those on the versions that they name.
-use Rattle.std.proofs.Common.{◌≡◌, ◌⊎◌, ℕ, zero, suc, ◌+◌, ◌<◌, ◌≤◌, Bool, true, List, [], ◌∷◌, length, map, Some, None, slice_get, refl, sym, ap, subst, ◌∙◌, arith, ⊎_elim}
+use Rattle.std.proofs.Common.{◌≡◌, ◌⊎◌, ℕ, zero, suc, ◌+◌, ◌<◌, ◌↔◌, Bool, true, false, List, [], ◌∷◌, ◌++◌, length, map, get_or, Some, None, slice_get, refl, sym, ap, subst, ◌∙◌, arith, ⊎_elim}
+use Rattle.std.specs.Prelude.{IsTrue}
 use Rattle.std.specs.List.{AllByRecursion}
+use Rattle.std.proofs.lemmas.List.{length_push}
 use mathlib.Core.List.{IsPrefix}
-use lib.Pointwise.{pointwise}
+use lib.Dec.{eqb}
+use lib.Pointwise.{bytes_decides, pointwise, pointwise_decides}
 use Rattle.lt_face.specs.State.{State}
 use Rattle.lt_face.proofs.RowLemmas.{each_weaker}
 use Rattle.lt_model.specs.declared.normal.Stmt.{Stmt}
 use Rattle.lt_model.specs.declared.reply.Reply.{Reply}
 use Rattle.lt_model.specs.Fits.{Fits}
+use Rattle.lt_delta.proofs.Owners.{own_same}
 use Rattle.lt_base.specs.Tables.{Table, state_of}
 use Rattle.lt_readers.specs.declared.version.Version.{Version}
 use Rattle.lt_readers.specs.Lists.{IsHistory}
 use Rattle.lt_readers.proofs.Beginnings.{prefix_get, prefix_self, some_same}
 use Rattle.lt_readers.proofs.Fitting.{fits_at}
-use Rattle.lt_session.specs.Reading.{IsAllPosted, IsAnswer, IsReady, IsRight, MayCompare}
-use Rattle.lt_session.proofs.Asked.{ready_fits}
+use Rattle.lt_session.specs.Reading.{CountsAll, IsAllPosted, IsAnswer, IsReady, IsRight, MayCompare}
+use Rattle.lt_session.proofs.Asked.{answers_later, each_push, ready_fits}
 use Rattle.lt_session.proofs.Posted.{mapped_get}
 
 got_there : (log : List Version) (i : ℕ) → i < length log → (v : Version) × (slice_get log i ≡ Some v)
@@ -45,16 +49,24 @@ module _ (program : List Stmt) (versions : List (List Table)) (log all : List Ve
         reply = a.reply;
       }
 
-  pub right_answers : (answers : List (ℕ × Reply)) → AllByRecursion (IsAnswer program all) answers → AllByRecursion (IsRight program versions) answers
+  right_answers : (answers : List (ℕ × Reply)) → AllByRecursion (IsAnswer program all) answers → AllByRecursion (IsRight program versions) answers
   right_answers answers each = each_weaker (IsAnswer program all) (IsRight program versions) right_answer answers each
 
 -- what was learnt goes on what was seen and what was told
-pub learnt : (old told new : List Version) → ((new ≡ told) × IsPrefix old told) ⊎ ((new ≡ old) × IsPrefix told old) → IsPrefix told new × IsPrefix old new
+learnt : (old told new : List Version) → ((new ≡ told) × IsPrefix old told) ⊎ ((new ≡ old) × IsPrefix told old) → IsPrefix told new × IsPrefix old new
 learnt old told new either =
     ⊎_elim
     (λ (t : (new ≡ told) × IsPrefix old told). (subst (IsPrefix told) (sym t.0) (prefix_self told), subst (IsPrefix old) (sym t.0) t.1))
     (λ (t : (new ≡ old) × IsPrefix told old). (subst (IsPrefix told) (sym t.0) t.1, subst (IsPrefix old) (sym t.0) (prefix_self old)))
     either
+
+-- all of a reader's replies are right, once it has learnt what was posted
+pub all_right : (program : List Stmt) (versions : List (List Table)) (log was told new : List Version) (answers : List (ℕ × Reply)) → IsAllPosted versions log → IsReady program log → told ≡ log
+    → ((new ≡ told) × IsPrefix was told) ⊎ ((new ≡ was) × IsPrefix told was) → IsHistory new → AllByRecursion (IsAnswer program was) answers → AllByRecursion (IsRight program versions) answers
+all_right program versions log was told new answers posted ready is either history each =
+    let both = learnt was told new either in
+    let pre : IsPrefix log new = subst (λ (l : List Version). IsPrefix l new) is both.0 in
+    right_answers program versions log new posted ready history pre answers (answers_later program was new answers both.1 each)
 
 pub may_compare : (program : List Stmt) (versions : List (List Table)) (answer : ℕ × Reply) → IsRight program versions answer → MayCompare program versions answer.0
 may_compare program versions answer r state there = let same : r.state ≡ state = cc (r.there, there) in subst (λ (s : State). Fits s program) same r.fits
@@ -72,10 +84,39 @@ right_state program versions answer db r there = let here = mapped_get state_of 
 pub none_right : (program : List Stmt) (versions : List (List Table)) (answer : ℕ × Reply) → IsRight program versions answer → slice_get versions answer.0 ≡ None → ⊥
 none_right program versions answer r none = let gone = not_mapped state_of versions answer.0 none in absurd (cc (r.there, gone))
 
--- equal lists are found equal
-pub same_pointwise : {X : Type 0} (E : X → X → Bool) (xs ys : List X) → xs ≡ ys → ((x : X) → E x x ≡ true) → pointwise E xs ys ≡ true
-same_pointwise E xs ys is own = subst (λ (zs : List _). pointwise E xs zs ≡ true) is (itself E xs own)
-  where
-    itself : {X : Type 0} (E : X → X → Bool) (xs : List X) → ((x : X) → E x x ≡ true) → pointwise E xs xs ≡ true
-    itself E [] own = refl
-    itself E (x ∷ xs) own = rw (own x) (itself E xs own)
+-- ---- what is equal
+
+-- equal lists have the same at each place
+pub same_at : {X : Type 0} (xs ys : List X) (i : ℕ) (x y : X) → i < length xs → i < length ys → x ≡ get_or xs i x → y ≡ get_or ys i y → xs ≡ ys → x ≡ y
+same_at xs ys i x y in_xs in_ys is_x is_y same = own_same (λ z. z) xs ys i x y in_xs in_ys is_x is_y (ap (map (λ z. z)) same)
+
+pub rows_decide : (xs ys : List (List ℕ)) → (pointwise (pointwise eqb) xs ys ≡ true → xs ≡ ys) × (xs ≡ ys → pointwise (pointwise eqb) xs ys ≡ true)
+rows_decide = pointwise_decides bytes_decides
+
+-- ---- how many are right
+
+each_before : {X : Type 0} (P : X → Type 0) (xs : List X) (x : X) → AllByRecursion P (xs ++ x ∷ []) → AllByRecursion P xs × P x
+each_before P [] x all = (tt, all.0)
+each_before P (y ∷ xs) x all = let rest = each_before P xs x all.1 in ((all.0, rest.0), rest.1)
+
+pub counts_none : {X : Type 0} (P : X → Type 0) → CountsAll P [] 0
+counts_none P = record { within = omega arith; all = λ h. refl; only = λ h. tt }
+
+pub counts_more : {X : Type 0} (P : X → Type 0) (xs : List X) (x : X) (same : Bool) (before after : ℕ) → (IsTrue same ↔ P x) → (same ≡ true → after ≡ before + 1) → (same ≡ false → after ≡ before)
+    → CountsAll P xs before → CountsAll P (xs ++ x ∷ []) after
+counts_more P xs x true before after told more stays c =
+    let n = length_push xs x in
+    let grown = more refl in
+    record {
+      within = omega (arith, c.within, grown, n);
+      all = λ h. let parts = each_before P xs x h in omega (arith, c.all parts.0, grown, n);
+      only = λ h. each_push P xs x (c.only (omega (arith, h, grown, n))) (told.0 refl);
+    }
+counts_more P xs x false before after told more stays c =
+    let n = length_push xs x in
+    let kept = stays refl in
+    record {
+      within = omega (arith, c.within, kept, n);
+      all = λ h. let parts = each_before P xs x h in let never : false ≡ true = told.1 parts.1 in absurd cc;
+      only = λ h. absurd (omega (arith, h, kept, n, c.within));
+    }

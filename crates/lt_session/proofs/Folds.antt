@@ -14,11 +14,11 @@ not_found None h = refl
 not_found (Some x) h = absurd (h refl)
 
 -- a new name, and room for it
-pub declares : (m : World) (name : List ℕ) (kinds : List Kind) → number_of m.schema name ≡ None → length m.schema < 64
-    → with_relation m name kinds (number_of m.schema name) ≡ record m { schema = m.schema ++ (name, kinds) ∷ []; state = m.state ++ record { width = length kinds; rows = [] } ∷ [] }
-declares m name kinds none room =
+pub declares : (m : World) (name : List ℕ) (kinds : List Kind) (keys : ℕ) → number_of m.schema name ≡ None → length m.schema < 64
+    → with_relation m name kinds keys (number_of m.schema name) ≡ record m { schema = m.schema ++ (name, kinds, keys) ∷ []; state = m.state ++ record { width = length kinds; rows = [] } ∷ [] }
+declares m name kinds keys none room =
     let few : nat_le 64 (length m.schema) ≡ false = grind (arith, nat_tests, room) in
-    ap (λ o. with_relation m name kinds o) none ∙ rw few refl
+    ap (λ o. with_relation m name kinds keys o) none ∙ rw few refl
 
 -- a relation that is there, now or at a version that is there
 pub shows : (m : World) (name : List ℕ) (n : ℕ) (at : Option ℕ) → number_of m.schema name ≡ Some n → nat_lt (length m.versions) (unwrap_or at 0) ≡ false
@@ -31,28 +31,28 @@ pub shows_none : (m : World) (name : List ℕ) (n : ℕ) (at : Option ℕ) → n
 shows_none m name n at e later = ap (λ o. shown m name at o) e ∙ rw later refl
 
 -- a name that is there, or no room for it
-taken_with : (m : World) (name : List ℕ) (kinds : List Kind) (o : Option ℕ) → IsSome o → with_relation m name kinds o ≡ says m (bad_text 24)
-taken_with m name kinds None h = absurd cc
-taken_with m name kinds (Some n) h = refl
+taken_with : (m : World) (name : List ℕ) (kinds : List Kind) (keys : ℕ) (o : Option ℕ) → IsSome o → with_relation m name kinds keys o ≡ says m (bad_text 24)
+taken_with m name kinds keys None h = absurd cc
+taken_with m name kinds keys (Some n) h = refl
 
-pub taken : (m : World) (name : List ℕ) (kinds : List Kind) → IsSome (number_of m.schema name) → with_relation m name kinds (number_of m.schema name) ≡ says m (bad_text 24)
-taken m name kinds h = taken_with m name kinds (number_of m.schema name) h
+pub taken : (m : World) (name : List ℕ) (kinds : List Kind) (keys : ℕ) → IsSome (number_of m.schema name) → with_relation m name kinds keys (number_of m.schema name) ≡ says m (bad_text 24)
+taken m name kinds keys h = taken_with m name kinds keys (number_of m.schema name) h
 
-pub full : (m : World) (name : List ℕ) (kinds : List Kind) → number_of m.schema name ≡ None → length m.schema ≡ 64 → with_relation m name kinds (number_of m.schema name) ≡ says m (bad_text 25)
-full m name kinds none room =
+pub full : (m : World) (name : List ℕ) (kinds : List Kind) (keys : ℕ) → number_of m.schema name ≡ None → length m.schema ≡ 64 → with_relation m name kinds keys (number_of m.schema name) ≡ says m (bad_text 25)
+full m name kinds keys none room =
     let many : nat_le 64 (length m.schema) ≡ true = grind (arith, nat_tests, room) in
-    ap (λ o. with_relation m name kinds o) none ∙ rw many refl
+    ap (λ o. with_relation m name kinds keys o) none ∙ rw many refl
 
 -- ---- what is written of them
 
-pub taken_said : (marks : Bool) (m : World) (name : List ℕ) (kinds : List Kind) → IsSome (number_of m.schema name) → said marks m (Relation name kinds) ≡ bad_text 24
-taken_said marks m name kinds h = ap (λ (v : World). v.text) (taken (unwritten m) name kinds h)
+pub taken_said : (marks : Bool) (m : World) (name : List ℕ) (kinds : List Kind) (keys : ℕ) → IsSome (number_of m.schema name) → said marks m (Relation name kinds keys) ≡ bad_text 24
+taken_said marks m name kinds keys h = ap (λ (v : World). v.text) (taken (unwritten m) name kinds keys h)
 
-pub full_said : (marks : Bool) (m : World) (name : List ℕ) (kinds : List Kind) → number_of m.schema name ≡ None → length m.schema ≡ 64 → said marks m (Relation name kinds) ≡ bad_text 25
-full_said marks m name kinds none room = ap (λ (v : World). v.text) (full (unwritten m) name kinds none room)
+pub full_said : (marks : Bool) (m : World) (name : List ℕ) (kinds : List Kind) (keys : ℕ) → number_of m.schema name ≡ None → length m.schema ≡ 64 → said marks m (Relation name kinds keys) ≡ bad_text 25
+full_said marks m name kinds keys none room = ap (λ (v : World). v.text) (full (unwritten m) name kinds keys none room)
 
-pub declared_said : (marks : Bool) (m : World) (name : List ℕ) (kinds : List Kind) → number_of m.schema name ≡ None → length m.schema < 64 → said marks m (Relation name kinds) ≡ []
-declared_said marks m name kinds none room = ap (λ (v : World). v.text) (declares (unwritten m) name kinds none room)
+pub declared_said : (marks : Bool) (m : World) (name : List ℕ) (kinds : List Kind) (keys : ℕ) → number_of m.schema name ≡ None → length m.schema < 64 → said marks m (Relation name kinds keys) ≡ []
+declared_said marks m name kinds keys none room = ap (λ (v : World). v.text) (declares (unwritten m) name kinds keys none room)
 
 pub unknown_said : (marks : Bool) (m : World) (name : List ℕ) (at : Option ℕ) → number_of m.schema name ≡ None → said marks m (Show name at) ≡ bad_text 20
 unknown_said marks m name at none = ap (λ (o : Option ℕ). (shown (unwritten m) name at o).text) none

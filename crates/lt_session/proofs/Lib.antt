@@ -3,6 +3,7 @@ pub mod Versions
 pub mod Folds
 pub mod Said
 pub mod Batches
+pub mod KeysStay
 pub mod Goods
 pub mod Telling
 pub mod Showing

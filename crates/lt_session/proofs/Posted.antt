@@ -1,8 +1,8 @@
 -- Versions that are posted as they are made.
-use Rattle.std.proofs.Common.{◌≡◌, ℕ, zero, suc, ◌+◌, ◌<◌, ◌≤◌, List, [], ◌∷◌, ◌++◌, length, map, false, Some, slice_get, refl, sym, ap, subst, ◌∙◌, append-nil, append_assoc, arith}
+use Rattle.std.proofs.Common.{◌≡◌, ℕ, zero, suc, ◌+◌, ◌<◌, List, [], ◌∷◌, ◌++◌, length, map, false, Some, slice_get, refl, sym, ap, subst, ◌∙◌, append-nil, append_assoc, arith}
 use Rattle.std.specs.List.{AllByRecursion}
 use Rattle.std.proofs.lemmas.List.{length-append, map-append}
-use Rattle.lt_face.specs.State.{Relation, State}
+use Rattle.lt_face.specs.State.{State}
 use Rattle.lt_model.specs.declared.syntax.Item.{Item}
 use Rattle.lt_model.specs.declared.syntax.Item.TheVariants.{Batch}
 use Rattle.lt_model.specs.declared.syntax.Program.{Program}
@@ -11,9 +11,9 @@ use Rattle.lt_model.specs.Report as model
 use Rattle.lt_model.specs.Report.{step}
 use Rattle.lt_model.specs.Schema.{Schema}
 use Rattle.lt_check.specs.States.{IsStateOf}
-use Rattle.lt_base.specs.Tables.{Table, state_of}
+use Rattle.lt_base.specs.Tables.{state_of}
 use Rattle.lt_readers.specs.declared.version.Version.{Version}
-use Rattle.lt_readers.specs.Lists.{EndsIn, HasRelations, IsHistory, MayFollow}
+use Rattle.lt_readers.specs.Lists.{EndsIn, HasRelations, MayFollow}
 use Rattle.lt_readers.proofs.Adding.{history_snoc, may_follow}
 use Rattle.lt_readers.proofs.Beginnings.{last_get, prefix_get}
 use Rattle.lt_gen.specs.Answered.{Answer, answers_to}

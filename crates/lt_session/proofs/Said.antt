@@ -24,9 +24,9 @@ declared : (b : Bool) (m : World) (t : Text) (v : World) (x : World) → v.text 
 declared true m t v x e f = refl
 declared false m t v x e f = e ∙ sym (append-nil m.text) ∙ ap (λ (u : Text). m.text ++ u) (sym f)
 
-related : (m : World) (name : Text) (kinds : List Kind) (o : Option ℕ) → (with_relation m name kinds o).text ≡ m.text ++ (with_relation (unwritten m) name kinds o).text
-related m name kinds (Some relation) = refl
-related m name kinds None = declared (nat_le 64 (length m.schema)) m (bad_text 25) _ _ refl refl
+related : (m : World) (name : Text) (kinds : List Kind) (keys : ℕ) (o : Option ℕ) → (with_relation m name kinds keys o).text ≡ m.text ++ (with_relation (unwritten m) name kinds keys o).text
+related m name kinds keys (Some relation) = refl
+related m name kinds keys None = declared (nat_le 64 (length m.schema)) m (bad_text 25) _ _ refl refl
 
 then_at : (m : World) (version : Option ℕ) → at_version (unwritten m) version ≡ at_version m version
 then_at m None = refl
@@ -39,7 +39,7 @@ shows_text m name version (Some relation) =
 
 -- a step adds it
 pub step_says : (marks : Bool) (m : World) (item : Item) → (step marks m item).text ≡ m.text ++ said marks m item
-step_says marks m (Relation name kinds) = related m name kinds (number_of m.schema name)
+step_says marks m (Relation name kinds keys) = related m name kinds keys (number_of m.schema name)
 step_says marks m (Batch programs) = refl
 step_says marks m (Show name version) = shows_text m name version (number_of m.schema name)
 

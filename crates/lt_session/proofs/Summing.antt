@@ -9,9 +9,8 @@ use Rattle.lt_face.specs.State.{Relation, State, rows_in}
 use Rattle.lt_model.specs.declared.kind.Kind.{Kind}
 use Rattle.lt_model.specs.declared.syntax.Item.{Item}
 use Rattle.lt_model.specs.declared.syntax.Item.TheVariants.{Batch, Relation as Declares, Show}
-use Rattle.lt_model.specs.declared.syntax.Program.{Program}
 use Rattle.lt_model.specs.Limits.{IsWithinLimits}
-use Rattle.lt_model.specs.Schema.{Schema, columns_of, number_of}
+use Rattle.lt_model.specs.Schema.{Schema, number_of}
 use Rattle.lt_model.specs.Report as model
 use Rattle.lt_model.specs.Report.{at_version, bad_text, opening, says, show_text, shown, step, with_relation}
 use Rattle.lt_base.specs.Tables.{state_of}
@@ -36,9 +35,9 @@ either_now : (b : Bool) (u v w x : model.World) → now_of u ≡ now_of w → no
 either_now true u v w x e f = e
 either_now false u v w x e f = f
 
-related_now : (m : model.World) (name : List ℕ) (kinds : List Kind) (o : Option ℕ) → now_of (with_relation (now_of m) name kinds o) ≡ now_of (with_relation m name kinds o)
-related_now m name kinds (Some n) = refl
-related_now m name kinds None = either_now (nat_le 64 (length m.schema)) _ _ _ _ refl refl
+related_now : (m : model.World) (name : List ℕ) (kinds : List Kind) (keys : ℕ) (o : Option ℕ) → now_of (with_relation (now_of m) name kinds keys o) ≡ now_of (with_relation m name kinds keys o)
+related_now m name kinds keys (Some n) = refl
+related_now m name kinds keys None = either_now (nat_le 64 (length m.schema)) _ _ _ _ refl refl
 
 shown_now : (m : model.World) (name : List ℕ) (at o : Option ℕ) → now_of (shown m name at o) ≡ now_of m
 shown_now m name at None = refl
@@ -46,13 +45,13 @@ shown_now m name at (Some n) = either_now (nat_lt (length m.versions) (unwrap_or
 
 -- a step goes where it would with versions
 pub now_step : (m : model.World) (item : Item) → now_of (step false (now_of m) item) ≡ now_of (step false m item)
-now_step m (Declares name kinds) = related_now m name kinds (number_of m.schema name)
+now_step m (Declares name kinds keys) = related_now m name kinds keys (number_of m.schema name)
 now_step m (Batch programs) = refl
 now_step m (Show name at) = shown_now (now_of m) name at (number_of m.schema name) ∙ sym (shown_now m name at (number_of m.schema name))
 
 -- and its programs answer the same
 pub answers_now : (m : model.World) (item : Item) → answers_to (now_of m) item ≡ answers_to m item
-answers_now m (Declares name kinds) = refl
+answers_now m (Declares name kinds keys) = refl
 answers_now m (Batch programs) = refl
 answers_now m (Show name at) = refl
 

@@ -26,5 +26,5 @@ pub record HasCome (items : List Item) (come : Come) : Type 0 where
 
 abbrev pub IsBatch : Item → Type 0
 IsBatch (Batch programs) = ⊤
-IsBatch (Relation name kinds) = ⊥
+IsBatch (Relation name kinds keys) = ⊥
 IsBatch (Show name version) = ⊥

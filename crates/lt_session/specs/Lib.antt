@@ -2,6 +2,7 @@ pub mod Batches
 pub mod Versions
 pub mod World
 pub mod Reports
+pub mod Keyed
 pub mod Input
 pub mod Reads
 pub mod Stops

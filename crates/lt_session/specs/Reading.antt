@@ -1,5 +1,5 @@
 -- What readers are answered beside the batches.
-use Rattle.std.specs.Prelude.{◌≡◌, ◌≤◌, ◌<◌, ℕ, List, [], ◌∷◌, length, map, slice_get, Some}
+use Rattle.std.specs.Prelude.{◌≡◌, ◌≤◌, ℕ, List, [], ◌∷◌, length, map, slice_get, Some}
 use Rattle.std.specs.List.{AllByRecursion}
 use Rattle.logbook.specs.Pages.{Book}
 use Rattle.lt_face.specs.State.{State}
@@ -57,3 +57,9 @@ pub record IsRight (program : List Stmt) (versions : List (List Table)) (answer 
   pub there : slice_get (map state_of versions) answer.0 ≡ Some state
   pub fits : Fits state program
   pub reply : answer.1 ≡ (run program state).0
+
+-- as many were counted as there are exactly where each of them is so
+pub record CountsAll {X : Type 0} (P : X → Type 0) (xs : List X) (count : ℕ) : Type 0 where
+  pub within : count ≤ length xs
+  pub all : AllByRecursion P xs → count ≡ length xs
+  pub only : count ≡ length xs → AllByRecursion P xs

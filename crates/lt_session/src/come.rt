@@ -99,8 +99,8 @@ pub fn count_kept<R: Threads + Wait + Sync, G: Gate>(
     ensures programs { OnOk result (summary.new.programs ≡ summary.old.programs) }
 {
     match item {
-        Item::Relation { name, kinds } => {
-            world.declare(name, kinds)?;
+        Item::Relation { name, kinds, keys } => {
+            world.declare(name, kinds, keys)?;
             Ok(())
         }
         Item::Batch { programs } => {

@@ -7,6 +7,7 @@ mod beside;
 mod come;
 mod halt;
 mod input;
+pub mod laws;
 mod options;
 mod repair;
 mod script;

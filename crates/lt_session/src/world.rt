@@ -67,13 +67,18 @@ impl World {
     }
 
     /// A relation more, without rows, or the code that the item has.
-    pub fn declare(&mut self, name: Name, kinds: KindList) -> Result<Option<u32>, NoMemory>
-        requires { IsWithinLimits (items.Relation name kinds) }
-        ensures world { OnOk result (Takes self.old (items.Relation name kinds) self.new) }
-        ensures code { IfOk result (λ code. (marks : Bool) (m : model.World) → Shows self.old m → said marks m (items.Relation name kinds) ≡ option_map_or bad_text code []) }
+    pub fn declare(
+        &mut self,
+        name: Name,
+        kinds: KindList,
+        keys: u32,
+    ) -> Result<Option<u32>, NoMemory>
+        requires { IsWithinLimits (items.Relation name kinds keys) }
+        ensures world { OnOk result (Takes self.old (items.Relation name kinds keys) self.new) }
+        ensures code { IfOk result (λ code. (marks : Bool) (m : model.World) → Shows self.old m → said marks m (items.Relation name kinds keys) ≡ option_map_or bad_text code []) }
     {
         let width = kinds.as_slice().len();
-        match self.schema.declare(name, kinds) {
+        match self.schema.declare(name, kinds, keys) {
             Ok(_) => {
                 self.database = self.database.declared(width)?;
                 Ok(None)
@@ -85,12 +90,18 @@ impl World {
     }
 
     // Takes a declaration. The code that it has is written.
-    fn relation<K: Sink>(&mut self, sink: &mut K, name: Name, kinds: KindList) -> Result<(), Halt>
-        requires { IsWithinLimits (items.Relation name kinds) }
-        ensures world { OnOk result (Takes self.old (items.Relation name kinds) self.new) }
-        ensures text { (marks : Bool) (m : model.World) → Shows self.old m → Writes result (K.holds sink.old) (K.holds sink.new) (K.faults sink.old) (K.faults sink.new) (said marks m (items.Relation name kinds)) }
+    fn relation<K: Sink>(
+        &mut self,
+        sink: &mut K,
+        name: Name,
+        kinds: KindList,
+        keys: u32,
+    ) -> Result<(), Halt>
+        requires { IsWithinLimits (items.Relation name kinds keys) }
+        ensures world { OnOk result (Takes self.old (items.Relation name kinds keys) self.new) }
+        ensures text { (marks : Bool) (m : model.World) → Shows self.old m → Writes result (K.holds sink.old) (K.holds sink.new) (K.faults sink.old) (K.faults sink.new) (said marks m (items.Relation name kinds keys)) }
     {
-        let code = self.declare(name, kinds)?;
+        let code = self.declare(name, kinds, keys)?;
         match code {
             Some(code) => {
                 put_bad_item(sink, code)?;
@@ -230,7 +241,7 @@ impl World {
         ensures text { (m : model.World) → Shows self.old m → Writes result (K.holds sink.old) (K.holds sink.new) (K.faults sink.old) (K.faults sink.new) (said options.marks m item) }
     {
         match item {
-            Item::Relation { name, kinds } => self.relation(sink, name, kinds),
+            Item::Relation { name, kinds, keys } => self.relation(sink, name, kinds, keys),
             Item::Batch { programs } => {
                 self.batch(rt, alloc, sink, programs.as_slice(), options, gate)
             }

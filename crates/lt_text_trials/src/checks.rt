@@ -41,16 +41,17 @@ fn name(alloc: Global, byte: u8) -> Name {
     Name::from_bytes(alloc, &[byte])
 }
 
-// r(int), s(sym), t(int, sym).
+// r(int), s(sym), t(int, sym), f(int -> sym).
 fn relations(alloc: Global) -> Result<Schema, DeclareFault> {
     let mut schema = Schema::new(alloc);
-    for (relation, kinds) in [
-        (b'r', [Kind::Int].as_slice()),
-        (b's', [Kind::Sym].as_slice()),
-        (b't', [Kind::Int, Kind::Sym].as_slice()),
-    ] {
-        schema.declare(name(alloc, relation), KindList::from_kinds(alloc, kinds))?;
-    }
+    let int = KindList::from_kinds(alloc, &[Kind::Int]);
+    let sym = KindList::from_kinds(alloc, &[Kind::Sym]);
+    schema.declare(name(alloc, b'r'), int, 1)?;
+    schema.declare(name(alloc, b's'), sym, 1)?;
+    let both = KindList::from_kinds(alloc, &[Kind::Int, Kind::Sym]);
+    schema.declare(name(alloc, b't'), both, 2)?;
+    let both = KindList::from_kinds(alloc, &[Kind::Int, Kind::Sym]);
+    schema.declare(name(alloc, b'f'), both, 1)?;
     Ok(schema)
 }
 
@@ -129,7 +130,11 @@ fn declare(
     number: u8,
     kind: Kind,
 ) -> Result<u32, DeclareFault> {
-    schema.declare(name_of(alloc, number), KindList::from_kinds(alloc, &[kind]))
+    schema.declare(
+        name_of(alloc, number),
+        KindList::from_kinds(alloc, &[kind]),
+        1,
+    )
 }
 
 // The numbers that a schema has for the 41st of the names and for the last, and how many relations it has.
@@ -192,5 +197,31 @@ fn variables_are_numbered_in_text_order(rt: HostRuntime) -> Result<(), CheckFaul
     let script = "batch program p print (y, 'a', x) where t(x, y), z = x + 1; end; commit;";
     let prog = checked(alloc, script, &schema)?;
     is_print(&rt, prog.as_slice());
+    Ok(())
+}
+
+// The key columns by which a checked program's rows come in, one after another.
+fn keys_of(alloc: Global, prog: &Prog) -> Result<Vec<u32>, NoMemory> {
+    let mut all = Vec::new(alloc);
+    for statement in prog.as_slice() {
+        match statement {
+            Stmt::Insert { keys, .. } | Stmt::Replace { keys, .. } => all.push(*keys)?,
+            _ => (),
+        }
+    }
+    Ok(all)
+}
+
+#[test]
+fn rows_come_in_by_their_relations_keys(rt: HostRuntime) -> Result<(), CheckFault> {
+    let alloc = rt.alloc();
+    let Ok(schema) = relations(alloc) else {
+        return Err(CheckFault::NoMemory);
+    };
+    let script =
+        "batch program p insert t(1, 'a'); insert f(1, 'a'); replace f(1, 'a') by t(1, 'a'); replace t(1, 'a') by f(1, 'b'); delete f(1, 'b'); end; commit;";
+    let prog = checked(alloc, script, &schema)?;
+    let keys = keys_of(alloc, &prog)?;
+    same(&rt, keys.as_slice(), [2, 1, 2, 1].as_slice());
     Ok(())
 }

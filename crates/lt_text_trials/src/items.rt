@@ -117,9 +117,9 @@ fn write_program(text: &mut String, program: &Program) -> Result<(), Fail> {
 
 fn write_item(text: &mut String, item: &Item) -> Result<(), Fail> {
     match item {
-        Item::Relation { name, kinds } => {
+        Item::Relation { name, kinds, keys } => {
             write_name(text, name)?;
-            write!(text, " {:?}\n", kinds.as_slice())?;
+            write!(text, " {:?} {keys}\n", kinds.as_slice())?;
         }
         Item::Batch { programs } => {
             for program in programs.as_slice() {
@@ -156,8 +156,10 @@ fn reads(rt: &impl Abort, alloc: Global, script: &str, want: &str) -> Result<(),
 
 #[test]
 fn reads_declarations_and_questions(rt: HostRuntime) -> Result<(), Fail> {
-    let script = "relation stock(int, sym, int); show stock at 0012; show x at 3; show stock;";
-    let want = "stock [Int, Sym, Int]\nstock Some(12)\nx Some(3)\nstock None\n";
+    let script =
+        "relation stock(int, sym, int); show stock at 0012; show x at 3; show stock; relation price(sym, int -> int);";
+    let want =
+        "stock [Int, Sym, Int] 3\nstock Some(12)\nx Some(3)\nstock None\nprice [Sym, Int, Int] 2\n";
     reads(&rt, rt.alloc(), script, want)
 }
 
@@ -198,7 +200,7 @@ fn divides_bytes_into_tokens(rt: HostRuntime) -> Result<(), Fail> {
         ("#a\rb\nshow c#d\n;", "c None\n"),
         (
             "relation _(int);relation a0(sym);relation a_(int);relation _0(int);relation abcdefghijklmno(int);",
-            "_ [Int]\na0 [Sym]\na_ [Int]\n_0 [Int]\nabcdefghijklmno [Int]\n",
+            "_ [Int] 1\na0 [Sym] 1\na_ [Int] 1\n_0 [Int] 1\nabcdefghijklmno [Int] 1\n",
         ),
         ("show r at 000;show r\tat\r\n1;", "r Some(0)\nr Some(1)\n"),
         (

@@ -13,6 +13,8 @@ mod endings;
 #[cfg(test)]
 mod feeds;
 #[cfg(test)]
+mod functional;
+#[cfg(test)]
 mod hostile;
 #[cfg(test)]
 mod items;

@@ -73,3 +73,15 @@ pub(crate) fn reports_by_workers<R: Threads + Wait + Abort + Sync>(
     }
     Ok(())
 }
+
+/// The same with marks.
+pub(crate) fn marks_by_workers<R: Threads + Wait + Abort + Sync>(
+    rt: &R,
+    alloc: Global,
+    case: &Case,
+) -> Result<(), Fail> {
+    for workers in ["1", "2", "4"] {
+        reports(rt, alloc, case, &["--marks", "--workers", workers], 11)?;
+    }
+    Ok(())
+}

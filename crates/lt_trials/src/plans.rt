@@ -194,6 +194,7 @@ fn program(alloc: Global) -> Result<Prog, NoMemory>
     let at_three = pair(alloc, &[equal(Y, Term::Cell(3))])?;
     let head = atom(alloc, 1, &[X])?;
     prog.push(Stmt::Insert {
+        keys: head.terms.len() as u32,
         head,
         body: at_three,
     })?;

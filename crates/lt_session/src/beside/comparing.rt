@@ -1,13 +1,16 @@
 //! Replies of readers, compared with those on the versions that they name.
-ghost use Rattle.std.specs.Prelude.{◌≡◌, ◌+◌, ◌-◌, ◌*◌, ◌^◌, ◌<◌, ◌≤◌, true, length, IfOk};
+ghost use Rattle.std.specs.Prelude.{◌≡◌, ◌+◌, ◌-◌, ◌*◌, ◌^◌, ◌<◌, ◌≤◌, ◌↔◌, ℕ, true, false, length, IfOk, IsTrue};
 ghost use Rattle.std.specs.Arc.{arc_value};
 ghost use Rattle.std.specs.List.{AllByRecursion};
+ghost use Rattle.lt_model.specs.declared.reply.Reply.{Reply as ReplyType};
 ghost use Rattle.lt_readers.specs.Boards.{posted, poster_board};
 ghost use Rattle.lt_session.specs.Asking.{IsAsked};
-ghost use Rattle.lt_session.specs.Reading.{HasAsked, IsAllPosted, IsReady, IsRight, MayCompare};
+ghost use Rattle.lt_session.specs.Reading.{CountsAll, HasAsked, IsAllPosted, IsReady, IsRight, MayCompare};
 
 use crate::beside::asking::Asker;
 use lt_face::NoMemory;
+use lt_face::row::Row;
+use lt_model::kind::Kind;
 use lt_model::reply::{Printed, Reply};
 use lt_query::Planned;
 use lt_readers::{Poster, answered};
@@ -15,29 +18,51 @@ use lt_versions::Versions;
 use std::sync::Arc;
 use std::thread::Threads;
 
-// Whether two lists are equal.
-fn same_list<T: Eq>(a: &[T], b: &[T]) -> bool
-    ensures { a.now ≡ b.now → result ≡ true }
+// Whether two lists of rows are equal.
+fn same_rows(a: &[Row], b: &[Row]) -> bool
+    ensures { IsTrue result ↔ (a.now ≡ b.now) }
 {
     a == b
 }
 
+// Whether two kinds are equal.
+fn same_kind(a: Kind, b: Kind) -> bool
+    ensures { IsTrue result ↔ (a ≡ b) }
+{
+    a == b
+}
+
+// Whether two lists of kinds are equal.
+fn same_kinds(a: &[Kind], b: &[Kind]) -> bool
+    ensures { IsTrue result ↔ (a.now ≡ b.now) }
+{
+    if a.len() != b.len() {
+        return false;
+    }
+    for i in 0..a.len() {
+        if !same_kind(a[i], b[i]) {
+            return false;
+        }
+    }
+    true
+}
+
 // Whether two prints are equal.
 fn same_printed(a: &Printed, b: &Printed) -> bool
-    ensures { a.now ≡ b.now → result ≡ true }
+    ensures { IsTrue result ↔ (a.now ≡ b.now) }
 {
     if a.statement != b.statement {
         return false;
     }
-    if !same_list(a.kinds.as_slice(), b.kinds.as_slice()) {
+    if !same_kinds(a.kinds.as_slice(), b.kinds.as_slice()) {
         return false;
     }
-    same_list(a.rows.as_slice(), b.rows.as_slice())
+    same_rows(a.rows.as_slice(), b.rows.as_slice())
 }
 
 // Whether the prints of two programs are equal.
 fn same_prints(a: &[Printed], b: &[Printed]) -> bool
-    ensures { a.now ≡ b.now → result ≡ true }
+    ensures { IsTrue result ↔ (a.now ≡ b.now) }
 {
     if a.len() != b.len() {
         return false;
@@ -52,7 +77,7 @@ fn same_prints(a: &[Printed], b: &[Printed]) -> bool
 
 // Whether two replies are equal.
 fn same_reply(a: &Reply, b: &Reply) -> bool
-    ensures { a.now ≡ b.now → result ≡ true }
+    ensures { IsTrue result ↔ (a.now ≡ b.now) }
 {
     match a {
         Reply::Done(prints) => match b {
@@ -74,8 +99,8 @@ fn is_equal<R: Threads + Sync>(
     reply: &Reply,
     asked: &Arc<Planned>,
 ) -> Result<bool, NoMemory>
-    requires { MayCompare (arc_value asked.now) versions.now number }
-    ensures { IfOk result (λ same. IsRight (arc_value asked.now) versions.now (number, reply.now) → same ≡ true) }
+    requires fits { MayCompare (arc_value asked.now) versions.now number }
+    ensures { IfOk result (λ same. IsTrue same ↔ IsRight (arc_value asked.now) versions.now (number, reply.now)) }
 {
     match versions.at(number) {
         None => Ok(false),
@@ -89,7 +114,8 @@ fn is_equal<R: Threads + Sync>(
 // One more, where it is so.
 fn counted(count: u64, more: bool) -> u64
     requires { count < 2 ^ 64 - 1 }
-    ensures { more ≡ true → result ≡ count + 1 }
+    ensures more { more ≡ true → result ≡ count + 1 }
+    ensures same { more ≡ false → result ≡ count }
 {
     if more {
         return count + 1;
@@ -104,8 +130,8 @@ fn equal_of<R: Threads + Sync>(
     answers: &[(u64, Reply)],
     asked: &Arc<Planned>,
 ) -> Result<u64, NoMemory>
-    requires right { AllByRecursion (IsRight (arc_value asked.now) versions.now) answers.now }
-    ensures { IfOk result (λ equal. equal ≡ length answers.now) }
+    requires fits { AllByRecursion (λ (answer : ℕ × ReplyType). MayCompare (arc_value asked.now) versions.now answer.0) answers.now }
+    ensures { IfOk result (λ equal. CountsAll (IsRight (arc_value asked.now) versions.now) answers.now equal) }
 {
     let mut equal = 0;
     for answer in answers {

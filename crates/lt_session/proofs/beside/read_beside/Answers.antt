@@ -1,12 +1,10 @@
-use Rattle.std.proofs.Common.{◌≡◌, ◌≤◌, ◌∙◌, ◌+◌, ◌*◌, List, Result, length, sym, ap, subst, arith}
+use Rattle.std.proofs.Common.{◌≡◌, ◌∙◌, ◌*◌, length, sym, ap, subst, arith}
 use Rattle.std.specs.Prelude.{IfOk, OnOk}
 use Rattle.std.specs.Arc.{arc_value}
 use Rattle.std.specs.List.{AllByRecursion}
-use Rattle.lt_face.specs.declared.memory.NoMemory.{NoMemory}
 use Rattle.lt_face.proofs.RowLemmas.{each_weaker}
 use Rattle.lt_readers.specs.declared.reader.Reader.{Reader}
 use Rattle.lt_readers.specs.Boards.{posted, poster_board, reader_board, seen}
-use Rattle.lt_session.specs.declared.beside.asking.Asker.{Asker}
 use Rattle.lt_session.specs.Asking.{IsAsked, WereAsked}
 use Rattle.lt_session.specs.Posting.{HasPosted}
 use Rattle.lt_session.specs.Reading.{IsPosted, IsReady}

@@ -1,4 +1,4 @@
-use Rattle.std.proofs.Common.{◌≡◌, ◌∙◌, ◌*◌, length, rules, sym, ap, arith}
+use Rattle.std.proofs.Common.{◌∙◌, ◌*◌, length, ap, arith}
 use Rattle.std.specs.Arc.{arc_value}
 use Rattle.std.proofs.lemmas.Result.{IfOk-weaker}
 use Rattle.lt_readers.specs.Boards.{posted}

@@ -8,15 +8,19 @@ use Rattle.lt_session.proofs.Posted.{mapped_get}
 use Rattle.lt_session.proofs.beside.comparing.is_equal.Goals as goal
 
 pub returns-in-None : goal.returns-in-None
-returns-in-None g c = λ right. let none : slice_get c.args.versions.now c.args.number ≡ None = search rules in absurd (none_right _ _ _ right none)
+returns-in-None g c = (λ never. absurd (cc), λ right. let none : slice_get c.args.versions.now c.args.number ≡ None = search rules in absurd (none_right _ _ _ right none))
 
 pub answered-requires-clause-fits : goal.answered-requires-clause-fits
 answered-requires-clause-fits g c = λ lifetimes outlive.
     let there : slice_get c.args.versions.now c.args.number ≡ Some c.in-Some.db.now = search rules in
-    c.requires (state_of c.in-Some.db.now) (mapped_get state_of c.args.versions.now c.args.number c.in-Some.db.now there)
+    c.requires.fits (state_of c.in-Some.db.now) (mapped_get state_of c.args.versions.now c.args.number c.in-Some.db.now there)
 
 pub returns-in_ok-own-in-Some : goal.returns-in_ok-own-in-Some
-returns-in_ok-own-in-Some g c = λ right.
+returns-in_ok-own-in-Some g c =
     let there : slice_get c.args.versions.now c.args.number ≡ Some c.in-Some.db.now = search rules in
-    let same = right_state _ _ _ c.in-Some.db.now right there in
-    c.same_reply.ensures (right.reply ∙ ap (λ (s : State). (run (arc_value c.args.asked.now) s).0) same ∙ sym c.in_ok-own-in-Some.ensures.reply)
+    let listed = mapped_get state_of c.args.versions.now c.args.number c.in-Some.db.now there in (
+      λ h. record { state = state_of c.in-Some.db.now; there = listed; fits = c.requires.fits (state_of c.in-Some.db.now) listed; reply = c.same_reply.ensures.0 h ∙ c.in_ok-own-in-Some.ensures.reply },
+      λ right.
+          let same = right_state _ _ _ c.in-Some.db.now right there in
+          c.same_reply.ensures.1 (right.reply ∙ ap (λ (s : State). (run (arc_value c.args.asked.now) s).0) same ∙ sym c.in_ok-own-in-Some.ensures.reply),
+    )

@@ -1,4 +1,4 @@
-use Rattle.std.proofs.Common.{[], ◌∷◌, ◌≡◌, ◌∙◌, ◌+◌, ap, arith, false, length}
+use Rattle.std.proofs.Common.{◌∙◌, ap, false, length}
 use Rattle.std.proofs.lemmas.List.{length-append}
 use Rattle.lt_readers.specs.Boards.{posted}
 use Rattle.lt_session.proofs.Posted.{ends_somewhere, first_stays, posted_more, relations_kept, room_behind, widths_now}
