@@ -1,6 +1,5 @@
 -- Where the tables of a row are still, no job of its trees is to be done or held: the front of a line.
 use Rattle.std.proofs.Common.{◌≡◌, ◌≢◌, ℕ, zero, suc, ◌+◌, ◌*◌, ◌/◌, ◌%◌, ◌<◌, ◌≤◌, inl, inr, true, false, List, Option, Some, None, length, get_or, refl, sym, ap, ◌∙◌, arith}
-use Rattle.std.specs.Prelude.{if◌then◌else◌}
 use Rattle.std.specs.Option.{option_map}
 use Rattle.std.proofs.lemmas.List.{length-map}
 use Rattle.lt_net.specs.declared.job.JobState.{JobState}
@@ -10,16 +9,16 @@ use Rattle.lt_net.specs.Line.{IsFront, IsPast}
 use Rattle.lt_net.specs.Net.{Claim, Net, State, is_held}
 use Rattle.lt_net.specs.Row.{claim_or, lifted, row_claim, HasNoOther}
 use Rattle.lt_net.proofs.Rows.{row_claim_one}
-use Rattle.lt_net.proofs.Shape.{eq_false, lt_tells}
+use Rattle.lt_net.proofs.Shape.{lt_tells}
 use Rattle.lt_circuit.specs.declared.cells.Held.{Held}
 use Rattle.lt_circuit.specs.Board.{claim_from, standing, state_of}
 use Rattle.lt_circuit.specs.Segment.{SegmentView, pass_claims, IsStill}
 use Rattle.lt_circuit.specs.Row.{parts, row_of, segment_at, sizes, IsPassable}
-use Rattle.lt_circuit.proofs.RowReads.{status_at}
+use Rattle.lt_circuit.proofs.RowReads.{status_at, tree_status_at}
 use Rattle.lt_circuit.proofs.Standing.{one_at_most, one_stands, some_at, two_stand}
 
 -- a row's claim is one of its segments'
-of_segment : (count : ℕ) (of : ℕ → State) (w : ℕ) (c : Claim) → row_claim count of w ≡ Some c → (s : ℕ) × (d : Claim) × (s < count) × ((of s).claim w ≡ Some d) × (lifted s d ≡ c)
+pub of_segment : (count : ℕ) (of : ℕ → State) (w : ℕ) (c : Claim) → row_claim count of w ≡ Some c → (s : ℕ) × (d : Claim) × (s < count) × ((of s).claim w ≡ Some d) × (lifted s d ≡ c)
 of_segment zero of w c e = cc
 of_segment (suc s) of w c e =
     by_claim ((of s).claim w) refl (λ g. let h = of_segment s of w c g in (h.0, h.1, omega (arith, h.2), h.3, h.4)) e
@@ -29,7 +28,7 @@ of_segment (suc s) of w c e =
     by_claim None f later g = later g
     by_claim (Some d) f later g = let same : lifted s d ≡ c = cc in (s, d, omega arith, f, same)
 
-held_some : (claims : List (Option Held)) (w : ℕ) (c : Claim) → option_map claim_from (get_or claims w None) ≡ Some c → (x : Held) × (get_or claims w None ≡ Some x) × (claim_from x ≡ c)
+pub held_some : (claims : List (Option Held)) (w : ℕ) (c : Claim) → option_map claim_from (get_or claims w None) ≡ Some c → (x : Held) × (get_or claims w None ≡ Some x) × (claim_from x ≡ c)
 held_some claims w c e = by_place (get_or claims w None) refl e
   where
     by_place : (o : Option Held) → get_or claims w None ≡ o → option_map claim_from o ≡ Some c → (x : Held) × (get_or claims w None ≡ Some x) × (claim_from x ≡ c)
@@ -67,9 +66,7 @@ module _ (net : Net) (vs : List SegmentView) (k : IsKept net (row_of vs))
     pass_status = status_at vs s 2047 (omega arith)
 
     tree_status : (place : ℕ) → place < 2047 → (row_of vs).status (2048 * s + place) ≡ (state_of (segment_at vs s).board).status place
-    tree_status place h =
-        status_at vs s place (omega (arith, h))
-        ∙ ap (λ b. if b then (segment_at vs s).pass else (state_of (segment_at vs s).board).status place) (eq_false place 2047 (λ e. omega (arith, e, h)))
+    tree_status = tree_status_at vs s
 
     -- the tree of a still segment is done
     module _ (still : IsStill (segment_at vs s)) (place : ℕ) (below : place < 2047) where

@@ -24,3 +24,8 @@ pub mod RowOpening
 pub mod RowReads
 pub mod LineTables
 pub mod Fronts
+pub mod Numbers
+pub mod LineClaims
+pub mod LineStores
+pub mod LineSteps
+pub mod LineTasks

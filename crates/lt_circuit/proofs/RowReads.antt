@@ -10,7 +10,7 @@ use Rattle.lt_net.specs.Line.{Own, Pass, hands_on, line_inputs, line_job, placed
 use Rattle.lt_net.specs.Row.{pass_inputs, segment_net}
 use Rattle.lt_net.proofs.Inside.{none_reads}
 use Rattle.lt_net.proofs.Rows.{row_read}
-use Rattle.lt_net.proofs.Shape.{lt_tells, lt_false}
+use Rattle.lt_net.proofs.Shape.{eq_false, lt_tells, lt_false}
 use Rattle.lt_circuit.specs.Board.{state_of}
 use Rattle.lt_circuit.specs.Segment.{SegmentView}
 use Rattle.lt_circuit.specs.Row.{IsRow, parts, row_of, segment_at, sizes}
@@ -81,6 +81,11 @@ module _ (vs : List SegmentView) where
       let a : (2048 * s + place) / 2048 ≡ s = omega (arith, low) in
       let b : (2048 * s + place) % 2048 ≡ place = omega (arith, low) in
       λ i. (parts vs (a i)).status (b i)
+
+  pub tree_status_at : (s place : ℕ) → place < 2047 → (row_of vs).status (2048 * s + place) ≡ (state_of (segment_at vs s).board).status place
+  tree_status_at s place low =
+      status_at s place (omega (arith, low))
+      ∙ ap (λ b. if b then (segment_at vs s).pass else (state_of (segment_at vs s).board).status place) (eq_false place 2047 (λ e. omega (arith, e, low)))
 
   -- a job of the row that isn't a Pass is one of its segment's tree
   pub tree_some : (code : ℕ) → (code % 2048 == 2047) ≡ false → line_inputs (sizes vs) (line_job code) ≢ [] → inputs_of (tree_of (segment_at vs (code / 2048)).board.leaves) (job_of (code % 2048)) ≢ []

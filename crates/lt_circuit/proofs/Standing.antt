@@ -56,7 +56,7 @@ module _ {X : Type 0} where
   some_at (None ∷ ys) h = let r = some_at ys h in (suc r.0, r.1, r.2)
 
   -- no claim stands where one was taken away
-  gone : (xs : List (Option X)) (k : ℕ) → get_or (set xs k None) k None ≡ None
+  pub gone : (xs : List (Option X)) (k : ℕ) → get_or (set xs k None) k None ≡ None
   gone [] k = refl
   gone (x ∷ xs) zero = refl
   gone (x ∷ xs) (suc k) = gone xs k

@@ -43,9 +43,32 @@ claim_of_done did = record { job = code_of (done_name did); inputs = done_inputs
 pub other_claim : {X : Type 0} (f : ℕ → X) (w : ℕ) (x : X) (v : ℕ) → v ≢ w → update f w x v ≡ f v
 other_claim f w x v ne = elim (at_update f w x v) [ inl h ↦ absurd (ne h.0) | inr h ↦ h.1 ]
 
-was_some : {X Y : Type 0} (f : X → Y) (o : Option X) (y : Y) → option_map f o ≡ Some y → (x : X) × (o ≡ Some x)
+pub was_some : {X Y : Type 0} (f : X → Y) (o : Option X) (y : Y) → option_map f o ≡ Some y → (x : X) × (o ≡ Some x)
 was_some f None y e = cc
 was_some f (Some x) y e = (x, refl)
+
+-- ---- a task's tally, and how many tallies there are
+
+pub task_prior_fits : {T : Type 0} (stands_for : T → ℕ → List Mark → Type 0) (fits : List Mark → Type 0) (has : ℕ → Type 0) (task : Task T) → IsTask stands_for fits has task
+    → (l : ℕ) → task_name task ≡ Leaf l → IsPrior stands_for fits l (task_prior task)
+task_prior_fits stands_for fits has (LeafTask leaf correction prior) ok l e = let f : leaf ≡ l = cc in subst (λ n. IsPrior stands_for fits n prior) f ok.2
+task_prior_fits stands_for fits has (MergeTask node left right) ok l e = cc
+task_prior_fits stands_for fits has (CorrectTask node correction left) ok l e = cc
+
+pub left_long : {T : Type 0} (tallies : List (Option (Prior T))) (name : JobName) → length (tallies_left name tallies) ≡ length tallies
+left_long tallies (Leaf l) = length-set tallies l None
+left_long tallies (Merge v) = refl
+left_long tallies (Correct v) = refl
+
+pub back_long : {T : Type 0} (tallies : List (Option (Prior T))) (task : Task T) → length (tallies_back task tallies) ≡ length tallies
+back_long tallies (LeafTask leaf correction prior) = length-set tallies leaf prior
+back_long tallies (MergeTask node left right) = refl
+back_long tallies (CorrectTask node correction left) = refl
+
+pub done_long : {T : Type 0} (tallies : List (Option (Prior T))) (did : Done T) → length (tallies_done did tallies) ≡ length tallies
+done_long tallies (LeafDone leaf tally again prior effect) = length-set tallies leaf (Some tally)
+done_long tallies (MergeDone node left right effect) = refl
+done_long tallies (CorrectDone node correction left to_right) = refl
 
 module _ {T : Type 0} (does : ℕ → List Mark → List Mark) (stands_for : T → ℕ → List Mark → Type 0) (fits : List Mark → Type 0) (has : ℕ → Type 0)
     (board : BoardView) (journal : List Entry) (tallies : List (Option (Prior T))) (used capacity : ℕ)
@@ -109,16 +132,11 @@ module _ {T : Type 0} (does : ℕ → List Mark → List Mark) (stands_for : T �
           replayed = one_event board' (record { worker = w; job = name; event = ClaimEvent }) same stepped;
           few = omega (arith, same, h.few);
           leaves_there = λ i lt. h.leaves_there i (omega (arith, same));
-          tallies_long = long name ∙ h.tallies_long ∙ sym same;
+          tallies_long = left_long tallies name ∙ h.tallies_long ∙ sym same;
           are_tallies = subst (λ s. AreTallies leaf_code stands_for fits s (tallies_left name tallies)) (sym st)
               (claim_tallies code_of tree_codes stands_for fits (state_of board) tallies h.are_tallies w net name (leaf_there name pending_busy));
           room = omega (arith, ap standing claims, at_most_one_more board.claims w held, le);
         }
-      where
-        long : (name : JobName) → length (tallies_left name tallies) ≡ length tallies
-        long (Leaf l) = length-set tallies l None
-        long (Merge v) = refl
-        long (Correct v) = refl
 
   -- ---- the ends of a claim
 
@@ -142,21 +160,6 @@ module _ {T : Type 0} (does : ℕ → List Mark → List Mark) (stands_for : T �
   pub done_busy : (w : ℕ) (did : Done T) → (state_of board).claim w ≡ Some (claim_of_done did) → (state_of board).status (code_of (done_name did)) ≢ Clean
   done_busy w did cl = held_busy w (claim_of_done did) cl
 
-  task_prior_fits : (task : Task T) → IsTask stands_for fits has task → (l : ℕ) → task_name task ≡ Leaf l → IsPrior stands_for fits l (task_prior task)
-  task_prior_fits (LeafTask leaf correction prior) ok l e = let f : leaf ≡ l = cc in subst (λ n. IsPrior stands_for fits n prior) f ok.2
-  task_prior_fits (MergeTask node left right) ok l e = cc
-  task_prior_fits (CorrectTask node correction left) ok l e = cc
-
-  back_long : (task : Task T) → length (tallies_back task tallies) ≡ length tallies
-  back_long (LeafTask leaf correction prior) = length-set tallies leaf prior
-  back_long (MergeTask node left right) = refl
-  back_long (CorrectTask node correction left) = refl
-
-  done_long : (did : Done T) → length (tallies_done did tallies) ≡ length tallies
-  done_long (LeafDone leaf tally again prior effect) = length-set tallies leaf (Some tally)
-  done_long (MergeDone node left right effect) = refl
-  done_long (CorrectDone node correction left to_right) = refl
-
   pub abandon_circuit : (w : ℕ) (task : Task T) (board' : BoardView) → (state_of board).claim w ≡ Some (claim_of_task task) → board'.leaves ≡ board.leaves
       → state_of board' ≡ abandoned (state_of board) w (claim_of_task task) → board'.claims ≡ set board.claims w None → IsTask stands_for fits has task
       → IsCircuit does stands_for fits has board' (journal ++ record { worker = w; job = task_name task; event = AbandonEvent } ∷ []) (tallies_back task tallies) (used + 1) capacity
@@ -167,10 +170,10 @@ module _ {T : Type 0} (does : ℕ → List Mark → List Mark) (stands_for : T �
         replayed = one_event board' e same stepped;
         few = omega (arith, same, h.few);
         leaves_there = λ i lt. h.leaves_there i (omega (arith, same));
-        tallies_long = back_long task ∙ h.tallies_long ∙ sym same;
+        tallies_long = back_long tallies task ∙ h.tallies_long ∙ sym same;
         are_tallies = subst (λ s. AreTallies leaf_code stands_for fits s (tallies_back task tallies)) (sym st)
             (abandon_tallies code_of tree_codes stands_for fits (state_of board) tallies h.are_tallies w task (claim_of_task task) refl (kept.captured w (claim_of_task task) cl)
-            (λ l f. (leaf_there (task_name task) (task_busy w task cl) l f, task_prior_fits task ok l f)));
+            (λ l f. (leaf_there (task_name task) (task_busy w task cl) l f, task_prior_fits stands_for fits has task ok l f)));
         room = room_left w (claim_of_task task) cl board' fewer;
       }
 
@@ -190,7 +193,7 @@ module _ {T : Type 0} (does : ℕ → List Mark → List Mark) (stands_for : T �
         replayed = one_event board' e same stepped;
         few = omega (arith, same, h.few);
         leaves_there = λ i lt. h.leaves_there i (omega (arith, same));
-        tallies_long = done_long did ∙ h.tallies_long ∙ sym same;
+        tallies_long = done_long tallies did ∙ h.tallies_long ∙ sym same;
         are_tallies = subst (λ s. AreTallies leaf_code stands_for fits s (tallies_done did tallies)) (sym st)
             (finish_tallies code_of tree_codes stands_for fits (state_of board) tallies h.are_tallies w net (claim_of_done did) did refl refl ok.has_tally
             (λ l f. (leaf_there (done_name did) busy l f, leaf_is_leaf (done_name did) l busy f)));

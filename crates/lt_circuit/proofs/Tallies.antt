@@ -44,7 +44,7 @@ module _ {T : Type 0} (codes : JobName → ℕ) (laws : AreCodes codes) (stands_
   module _ (s t : State) (before after : List (Option (Prior T))) (j : ℕ) (a : AreTallies of_leaf stands_for fits s before)
       (done_other : (k : ℕ) → k ≢ j → t.done k ≡ s.done k) (held_other : (k : ℕ) → k ≢ j → is_held (t.status k) ≡ is_held (s.status k))
       (place_other : (i : ℕ) → codes (Leaf i) ≢ j → get_or after i None ≡ get_or before i None) (own : (i : ℕ) → codes (Leaf i) ≡ j → IsOwn t after i) where
-    tallies_step : AreTallies of_leaf stands_for fits t after
+    pub tallies_step : AreTallies of_leaf stands_for fits t after
     tallies_step = record {
       each = λ i p e. elim (eqb_tells (codes (Leaf i)) j) [
         | inl h ↦ (own i h.1).each p e
@@ -90,7 +90,18 @@ module _ {T : Type 0} (codes : JobName → ℕ) (laws : AreCodes codes) (stands_
         own (Merge v) inside i e = absurd (laws.merge v i (sym e))
         own (Correct v) inside i e = absurd (laws.correct v i (sym e))
 
+    -- of a job that is no leaf's
+    pub claim_other : (net : Net) (j : ℕ) → ((i : ℕ) → codes (Leaf i) ≢ j) → AreTallies of_leaf stands_for fits (claimed net s w j) tallies
+    claim_other net j other =
+        tallies_step s (claimed net s w j) tallies tallies j a
+        (λ k ne. refl) (λ k ne. ap is_held (update_other s.status j Running k ne)) (λ i ne. refl) (λ i e. absurd (other i e))
+
     -- ---- an abandoned claim
+    pub abandon_other : (c : Claim) → ((i : ℕ) → codes (Leaf i) ≢ c.job) → AreTallies of_leaf stands_for fits (abandoned s w c) tallies
+    abandon_other c other =
+        tallies_step s (abandoned s w c) tallies tallies c.job a
+        (λ k ne. refl) (λ k ne. ap is_held (update_other s.status c.job Pending k ne)) (λ i ne. refl) (λ i e. absurd (other i e))
+
     pub abandon_tallies : (task : Task T) (c : Claim) → c.job ≡ codes (task_name task) → prior_correction (task_prior task) ≡ s.done (codes (task_name task))
         → ((l : ℕ) → task_name task ≡ Leaf l → l < length tallies × IsPrior stands_for fits l (task_prior task))
         → AreTallies of_leaf stands_for fits (abandoned s w c) (tallies_back task tallies)
@@ -136,6 +147,11 @@ module _ {T : Type 0} (codes : JobName → ℕ) (laws : AreCodes codes) (stands_
       held_other k ne =
           still_held (same_at s.value (value_after net s c) (net.inputs k)) (status_ended s c k)
           ∙ ap is_held (update_other s.status c.job (ended (s.status c.job)) k ne)
+
+      pub finish_other : ((i : ℕ) → codes (Leaf i) ≢ c.job) → AreTallies of_leaf stands_for fits (finished net s w c) tallies
+      finish_other other =
+          tallies_step s (finished net s w c) tallies tallies c.job a
+          (done_other (net.is_leaf c.job)) held_other (λ i ne. refl) (λ i e. absurd (other i e))
 
       pub finish_tallies : (did : Done T) → c.job ≡ codes (done_name did) → c.inputs ≡ done_inputs did → HasTally stands_for fits did
           → ((l : ℕ) → done_name did ≡ Leaf l → l < length tallies × (net.is_leaf c.job ≡ true))

@@ -8,7 +8,7 @@ use Rattle.lt_net.specs.declared.job.JobName.{JobName}
 use Rattle.lt_net.specs.declared.job.JobName.TheVariants.{Leaf, Merge, Correct}
 use Rattle.lt_circuit.specs.declared.cells.Inputs.{Inputs}
 use Rattle.lt_circuit.specs.declared.cells.Inputs.TheVariants.{One, Two}
-use Rattle.lt_net.specs.Net.{Cell, Correction, Effect, State, Claim, read, is_held, claimed}
+use Rattle.lt_net.specs.Net.{Cell, Correction, Effect, Net, State, Claim, read, is_held, claimed}
 use Rattle.lt_net.specs.Tree.{Tree, tree_of, right_in, leaves_in, node_in, if_inner, inputs_of, circuit_net}
 use Rattle.lt_net.specs.Codes.{code_of}
 use Rattle.lt_circuit.specs.Board.{BoardView, state_of, done_of, inputs_list}
@@ -38,6 +38,10 @@ inputs_long t (Leaf i) f some = leaf_long (nat_lt i (leaves_in t)) f (Correction
 inputs_long t (Merge v) f some = inner_long (right_in t v) f (λ right. Effect (v + 1) ∷ Effect right ∷ []) (λ y. refl) some
 inputs_long t (Correct v) f some = inner_long (right_in t v) f (λ right. Correction v ∷ Effect (v + 1) ∷ []) (λ y. refl) some
 
+-- the claim of a task, by the codes of jobs
+abbrev pub claim_by : {T : Type 0} → (JobName → ℕ) → Task T → Claim
+claim_by codes task = record { job = codes (task_name task); inputs = task_inputs task; prior = prior_correction (task_prior task) }
+
 module _ {T : Type 0} (tallies : List (Option (Prior T))) where
   pub from_name : (name : JobName) (inputs : Inputs) → task_name (task_from name inputs tallies) ≡ name
   from_name (Leaf i) inputs = refl
@@ -57,17 +61,12 @@ module _ {T : Type 0} (tallies : List (Option (Prior T))) where
   from_inputs (Correct v) (One a) h = absurd (omega arith)
   from_inputs (Correct v) (Two a b) h = refl
 
-  module _ (stands_for : T → ℕ → List Mark → Type 0) (fits : List Mark → Type 0) (b : BoardView) (a : AreTallies leaf_code stands_for fits (state_of b) tallies) where
+  module _ (codes : JobName → ℕ) (stands_for : T → ℕ → List Mark → Type 0) (fits : List Mark → Type 0) (s : State) (a : AreTallies (λ i. codes (Leaf i)) stands_for fits s tallies) where
     -- a leaf's tally is of the correction that it last finished with
-    leaf_prior : (i : ℕ) (o : Option (Prior T)) (d : Option (List Mark)) → get_or tallies i None ≡ o → (state_of b).done (code_of (Leaf i)) ≡ d → is_held ((state_of b).status (code_of (Leaf i))) ≡ false → prior_correction o ≡ d
+    leaf_prior : (i : ℕ) (o : Option (Prior T)) (d : Option (List Mark)) → get_or tallies i None ≡ o → s.done (codes (Leaf i)) ≡ d → is_held (s.status (codes (Leaf i))) ≡ false → prior_correction o ≡ d
     leaf_prior i None None e f free = refl
     leaf_prior i None (Some c) e f free = let k = a.there i c f free in absurd (let g : None ≡ Some k.0 = sym e ∙ k.1 in cc)
     leaf_prior i (Some p) d e f free = sym (a.each i p e).last ∙ f
-
-    from_prior : (name : JobName) (inputs : Inputs) → (state_of b).status (code_of name) ≡ Pending → prior_correction (task_prior (task_from name inputs tallies)) ≡ (state_of b).done (code_of name)
-    from_prior (Leaf i) inputs pending = leaf_prior i (get_or tallies i None) ((state_of b).done (code_of (Leaf i))) refl refl (ap is_held pending)
-    from_prior (Merge v) inputs pending = ap (done_of b.done) (sym (job_of-code (Merge v)))
-    from_prior (Correct v) inputs pending = ap (done_of b.done) (sym (job_of-code (Correct v)))
 
     prior_stands : (i : ℕ) (o : Option (Prior T)) → get_or tallies i None ≡ o → IsPrior stands_for fits i o
     prior_stands i None e = tt
@@ -82,18 +81,23 @@ module _ {T : Type 0} (tallies : List (Option (Prior T))) where
     from_fits has (Correct v) (One x) h all leaf = absurd (omega arith)
     from_fits has (Correct v) (Two x y) h all leaf = (all.0, all.1.0)
 
-    -- the claim that a step of the net makes is the task's
-    pub from_claim : (does : ℕ → List Mark → List Mark) (w : ℕ) (name : JobName) (inputs : Inputs) → length (inputs_list inputs) ≡ arity name
-        → inputs_list inputs ≡ read (state_of b).value (inputs_of (tree_of b.leaves) name) → (state_of b).status (code_of name) ≡ Pending
-        → (claimed (circuit_net does (tree_of b.leaves)) (state_of b) w (code_of name)).claim w ≡ Some (claim_of_task (task_from name inputs tallies))
-    from_claim does w name inputs long ins pending =
-        let net = circuit_net does (tree_of b.leaves) in
-        let c0 : Claim = record { job = code_of name; inputs = read (state_of b).value (net.inputs (code_of name)); prior = (state_of b).done (code_of name) } in
-        let job = ap code_of (sym (from_name name inputs)) in
-        let read_is : read (state_of b).value (net.inputs (code_of name)) ≡ task_inputs (task_from name inputs tallies) =
-        ap (λ n. read (state_of b).value (inputs_of (tree_of b.leaves) n)) (job_of-code name) ∙ sym ins ∙ sym (from_inputs name inputs long) in
-        let prior = sym (from_prior name inputs pending) in
-        update_same (state_of b).claim w (Some c0) ∙ (λ i. Some (record { job = job i; inputs = read_is i; prior = prior i }))
+    -- an inner job keeps no correction
+    module _ (merges : (v : ℕ) → s.done (codes (Merge v)) ≡ None) (corrects : (v : ℕ) → s.done (codes (Correct v)) ≡ None) where
+      from_prior : (name : JobName) (inputs : Inputs) → s.status (codes name) ≡ Pending → prior_correction (task_prior (task_from name inputs tallies)) ≡ s.done (codes name)
+      from_prior (Leaf i) inputs pending = leaf_prior i (get_or tallies i None) (s.done (codes (Leaf i))) refl refl (ap is_held pending)
+      from_prior (Merge v) inputs pending = sym (merges v)
+      from_prior (Correct v) inputs pending = sym (corrects v)
+
+      -- the claim that a step of a net makes is the task's
+      pub from_claim : (net : Net) (w : ℕ) (name : JobName) (inputs : Inputs) → length (inputs_list inputs) ≡ arity name
+          → inputs_list inputs ≡ read s.value (net.inputs (codes name)) → s.status (codes name) ≡ Pending
+          → (claimed net s w (codes name)).claim w ≡ Some (claim_by codes (task_from name inputs tallies))
+      from_claim net w name inputs long ins pending =
+          let c0 : Claim = record { job = codes name; inputs = read s.value (net.inputs (codes name)); prior = s.done (codes name) } in
+          let job = ap codes (sym (from_name name inputs)) in
+          let read_is = sym ins ∙ sym (from_inputs name inputs long) in
+          let prior = sym (from_prior name inputs pending) in
+          update_same s.claim w (Some c0) ∙ (λ i. Some (record { job = job i; inputs = read_is i; prior = prior i }))
 
 -- ---- what a claim answers
 
@@ -114,7 +118,8 @@ module _ {W T : Type 0} (stands_for : T → ℕ → List Mark → Type 0) (fits 
         pending = ap (state_of b).status (ap code_of named) ∙ pending;
         stepped = st ∙ ap (λ n. claimed net (state_of b) w (code_of n)) (sym named);
         held = ap (λ (s : State). s.claim w) st
-            ∙ from_claim tallies stands_for fits b a does w name inputs long ins pending ∙ ap (λ k. Some (claim_of_task k)) (sym task_is);
+            ∙ from_claim tallies code_of stands_for fits (state_of b) a (λ v. ap (done_of b.done) (job_of-code (Merge v))) (λ v. ap (done_of b.done) (job_of-code (Correct v)))
+            net w name inputs long (ins ∙ sym (ap (λ n. read (state_of b).value (inputs_of (tree_of b.leaves) n)) (job_of-code name))) pending ∙ ap (λ k. Some (claim_of_task k)) (sym task_is);
         others = λ v ne. ap (λ (s : State). s.claim v) st ∙ other_claim (state_of b).claim w (Some (record { job = code_of name; inputs = read (state_of b).value (net.inputs (code_of name)); prior = (state_of b).done (code_of name) })) v ne;
         journal = more ∙ ap (λ n. journal ++ record { worker = w; job = n; event = ClaimEvent } ∷ []) (sym named);
         prior = ap task_prior task_is ∙ takes_prior tallies name inputs ∙ ap (λ n. prior_of n tallies) (sym named);

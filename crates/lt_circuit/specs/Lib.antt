@@ -12,3 +12,5 @@ pub mod Hands
 pub mod Segment
 pub mod Row
 pub mod Line
+pub mod LineJob
+pub mod LineClaiming

@@ -8,7 +8,8 @@ use Rattle.lt_net.specs.Line.{AreSizes, line_net, size_in}
 use Rattle.lt_net.specs.Row.{HasNoOther}
 use Rattle.lt_circuit.specs.declared.line.LineEntry.{LineEntry}
 use Rattle.lt_circuit.specs.declared.task.Prior.{Prior}
-use Rattle.lt_circuit.specs.Entry.{event_on}
+use Rattle.lt_net.specs.Codes.{with_kind}
+use Rattle.lt_circuit.specs.Entry.{event_on, kind_code}
 use Rattle.lt_circuit.specs.Circuit.{AreTallies}
 use Rattle.lt_circuit.specs.Segment.{SegmentView}
 use Rattle.lt_circuit.specs.Row.{parts, row_of, sizes, standing_in}
@@ -38,6 +39,10 @@ line_state l = row_of l.row
 abbrev pub line_event : LineEntry → Event
 line_event e = event_on e.event e.worker e.job
 
+-- three times the job's code, with what is done as its kind
+abbrev pub line_entry_code : LineEntry → ℕ
+line_entry_code e = with_kind e.job (kind_code e.event)
+
 -- the line is the replay of its journal. `does` is what the work's leaves do
 abbrev pub IsLineReplay : (ℕ → List Mark → List Mark) → List SegmentView → List LineEntry → Type 0
 IsLineReplay does row journal =
@@ -56,3 +61,21 @@ pub record IsLine {T : Type 0} (does : ℕ → List Mark → List Mark) (stands_
   pub placed : (w s : ℕ) (c : Claim) → s < length row → (parts row s).claim w ≡ Some c → c.job < 2048
   -- the journal has room for the end of each claim
   pub room : used + standing_in row ≤ capacity
+
+-- ---- a tree's job by its number: the segment that it is of, and the job in that segment's tree
+
+abbrev pub number_segment : JobName → ℕ
+number_segment (Leaf i) = i / 256
+number_segment (Merge v) = v / 512
+number_segment (Correct v) = v / 512
+
+abbrev pub number_within : JobName → JobName
+number_within (Leaf i) = Leaf (i % 256)
+number_within (Merge v) = Merge (v % 512)
+number_within (Correct v) = Correct (v % 512)
+
+-- the number of a job of segment s's tree
+abbrev pub numbered : (s : ℕ) → JobName → JobName
+numbered s (Leaf i) = Leaf (256 * s + i)
+numbered s (Merge v) = Merge (512 * s + v)
+numbered s (Correct v) = Correct (512 * s + v)

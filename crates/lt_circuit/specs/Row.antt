@@ -1,11 +1,12 @@
 -- The segments of a line in their order, as the line's state.
-use Rattle.std.specs.Prelude.{◌≡◌, ℕ, zero, suc, ◌+◌, ◌<◌, ◌≤◌, Bool, false, List, [], map, length, slice_index_or}
+use Rattle.std.specs.Prelude.{◌≡◌, ◌≢◌, ℕ, zero, suc, ◌+◌, ◌<◌, ◌≤◌, Bool, false, List, [], Option, map, length, slice_index_or, slice_set}
 use Rattle.lt_face.specs.Limits.{most_programs}
 use Rattle.lt_net.specs.declared.job.JobState.TheVariants.{Clean}
 use Rattle.lt_model.specs.declared.mark.Mark.{Mark}
 use Rattle.lt_net.specs.Net.{State, opening}
 use Rattle.lt_net.specs.Line.{hands_on, size_in}
 use Rattle.lt_net.specs.Row.{passing_net, row_state}
+use Rattle.lt_circuit.specs.declared.cells.Held.{Held}
 use Rattle.lt_circuit.specs.Board.{standing}
 use Rattle.lt_circuit.specs.Segment.{SegmentView, segment_state, IsStill}
 
@@ -34,6 +35,12 @@ standing_below segments (suc s) = standing_below segments s + standing (segment_
 -- how many stand in all of them
 abbrev pub standing_in : List SegmentView → ℕ
 standing_in segments = standing_below segments (length segments)
+
+-- in segment s the worker's claim is another, and no other claim is
+pub record HasChangedClaim (s worker : ℕ) (claim : Option Held) (old new : List SegmentView) : Type 0 where
+  pub long : length new ≡ length old
+  pub here : (segment_at new s).board.claims ≡ slice_set (segment_at old s).board.claims worker claim
+  pub others : (r : ℕ) → r ≢ s → (segment_at new r).board.claims ≡ (segment_at old r).board.claims
 
 -- how many segments there are at most
 abbrev pub most_segments : ℕ

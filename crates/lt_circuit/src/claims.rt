@@ -20,7 +20,7 @@ use std::alloc::Global;
 use std::sync::Arc;
 
 /// A second owner of the work.
-fn share_work<W: LeafWork>(work: &Arc<W, Global>) -> Result<Arc<W, Global>, NoMemory>
+pub(crate) fn share_work<W: LeafWork>(work: &Arc<W, Global>) -> Result<Arc<W, Global>, NoMemory>
     ensures { IfOk result (λ second. arc_value second ≡ arc_value work.now) }
 {
     let second = work.clone()?;

@@ -26,17 +26,17 @@ use std::sync::Arc;
 /// What a finish has no more use for. Whoever shares the circuit drops it when no other waits.
 #[derive(Drop)]
 pub struct Spent<W: LeafWork> {
-    work: Arc<W, Global>,
-    stood: Stood,
-    used: Used<W::Tally>,
+    pub(crate) work: Arc<W, Global>,
+    pub(crate) stood: Stood,
+    pub(crate) used: Used<W::Tally>,
 }
 
 /// What a job used that stands nowhere now: a leaf's tally of before, and inputs.
 #[derive(Drop)]
-struct Used<T> {
-    prior: Option<Prior<T>>,
-    first: Option<Marks>,
-    second: Option<Marks>,
+pub(crate) struct Used<T> {
+    pub(crate) prior: Option<Prior<T>>,
+    pub(crate) first: Option<Marks>,
+    pub(crate) second: Option<Marks>,
 }
 
 /// What was done stands in the tables, and a leaf's tally in its place.

@@ -17,7 +17,7 @@ pub enum Event {
 
 impl Event {
     /// 0 for a claim, 1 for a finish, 2 for an abandon.
-    fn kind(self) -> u32
+    pub(crate) fn kind(self) -> u32
         ensures { result ≡ kind_code self }
     {
         match self {

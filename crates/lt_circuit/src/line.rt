@@ -1,14 +1,14 @@
 //! A line over a work: segments that start together, each with a tree over its own leaves.
 #![tactic(auto)]
 
-ghost use Rattle.std.specs.Prelude.{◌≡◌, ◌≢◌, ℕ, true, false, ◌+◌, ◌*◌, ◌≤◌, ◌<◌, List, [], IfOk, IsTrue, ◌↔◌, length};
+ghost use Rattle.std.specs.Prelude.{◌≡◌, ◌≢◌, ℕ, true, false, ◌+◌, ◌*◌, ◌^◌, ◌≤◌, ◌<◌, List, [], IfOk, IsTrue, ◌↔◌, length};
 ghost use Rattle.std.specs.Vec.{vec_len, vec_capacity};
 ghost use Rattle.std.specs.Arc.{arc_value};
 ghost use Rattle.lt_net.specs.Line.{line_net, size_in, AreSizes, IsFront};
 ghost use Rattle.lt_net.specs.Net.{IsSettled, opening};
 ghost use Rattle.lt_net.specs.Alone.{IsUnclaimed};
 ghost use Rattle.lt_net.specs.declared.job.JobState.TheVariants.{Pending};
-ghost use Rattle.lt_circuit.specs.Line.{line_state, IsLine, IsLineReplay, LineView};
+ghost use Rattle.lt_circuit.specs.Line.{line_entry_code, line_state, IsLine, IsLineReplay, LineView};
 ghost use Rattle.lt_circuit.specs.Row.{most_segments, sizes, standing_in};
 
 use crate::entry::Event;
@@ -17,6 +17,7 @@ use crate::row::Row;
 use crate::task::Prior;
 use crate::work::LeafWork;
 use lt_face::NoMemory;
+use lt_net::with_kind;
 use std::alloc::Global;
 use std::marker::Model;
 use std::sync::Arc;
@@ -27,6 +28,16 @@ pub struct LineEntry {
     pub worker: u32,
     pub job: u32,
     pub event: Event,
+}
+
+impl LineEntry {
+    /// The entry's code: three times the job's, plus 1 for a finish and 2 for an abandon.
+    pub fn code(self) -> u32
+        requires { line_entry_code self < 2 ^ 32 }
+        ensures { result ≡ line_entry_code self }
+    {
+        with_kind(self.job, self.event.kind())
+    }
 }
 
 /// A line over the leaves of a work: leaf i of segment s is its leaf 256 * s + i. It is the replay of its journal.
@@ -130,3 +141,5 @@ impl<W: LeafWork> Line<W> {
 }
 
 mod below;
+mod claims;
+mod ends;

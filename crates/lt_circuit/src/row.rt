@@ -14,7 +14,7 @@ ghost use Rattle.lt_net.specs.Row.{given_root, lifted, pass_closed, pass_inputs,
 ghost use Rattle.lt_net.specs.Tree.{circuit_net, right_in, tree_of};
 ghost use Rattle.lt_circuit.specs.declared.cells.Held.{Held as HeldType};
 ghost use Rattle.lt_circuit.specs.Board.{inputs_list, state_of};
-ghost use Rattle.lt_circuit.specs.Row.{IsRow, parts, row_of, segment_at, sizes};
+ghost use Rattle.lt_circuit.specs.Row.{HasChangedClaim, IsRow, parts, row_of, segment_at, sizes};
 ghost use Rattle.lt_circuit.specs.Segment.{SegmentView, segment_state};
 
 use crate::cells::{Held, Inputs, Stood};
@@ -161,7 +161,8 @@ impl Row {
         requires worker { worker < most_workers }
         requires segment { s < length self.old }
         ensures row { (v : SegmentView) × (self.new ≡ slice_set self.old s v) × (v.board.leaves ≡ (segment_at self.old s).board.leaves) × (v.on ≡ (segment_at self.old s).on)
-            × ((claim : Claim) → claim.job ≡ 2047 → segment_state v ≡ pass_closed (parts self.old s) worker claim) }
+            × ((claim : Claim) → claim.job ≡ 2047 → segment_state v ≡ pass_closed (parts self.old s) worker claim)
+            × (v.board.claims ≡ slice_set (segment_at self.old s).board.claims worker None) }
     {
         self.segments[s as usize].close_pass(worker)
     }
@@ -170,25 +171,32 @@ impl Row {
     fn give_root(&mut self, s: u32, correction: Marks) -> Marks
         requires segment { s < length self.old }
         ensures row { (v : SegmentView) × (self.new ≡ slice_set self.old s v) × (v.board.leaves ≡ (segment_at self.old s).board.leaves)
-            × ((effect : ℕ → List MarkType → List MarkType) → segment_state v ≡ given_root (passing_net effect (segment_at self.old s).board.leaves (segment_at self.old s).on) (parts self.old s) correction) }
+            × ((effect : ℕ → List MarkType → List MarkType) → segment_state v ≡ given_root (passing_net effect (segment_at self.old s).board.leaves (segment_at self.old s).on) (parts self.old s) correction)
+            × (v.board.claims ≡ (segment_at self.old s).board.claims) }
     {
         self.segments[s as usize].give_root(correction)
     }
 
-    /// The worker's Pass of segment s gave the correction of the next segment's root. It answers the marks that stood.
-    pub fn finish_pass(&mut self, s: u32, worker: u32, correction: Marks) -> Marks
+    /// The worker's Pass of segment s gave the correction of the next segment's root. It answers what stood.
+    pub fn finish_pass(&mut self, s: u32, worker: u32, correction: Marks) -> Stood
         requires worker { worker < most_workers }
         requires small { s + 1 < 2 ^ 32 }
         requires segment { s + 1 < length self.old }
         requires on { hands_on (sizes self.old) s ≡ true }
         requires alone { HasNoOther (length self.old) (parts self.old) s worker }
         ensures sizes { sizes self.new ≡ sizes self.old }
+        ensures claims { HasChangedClaim s worker None self.old self.new }
         ensures state { (does : ℕ → List MarkType → List MarkType) (claim : Claim) → claim.job ≡ 2047 → correction ≡ and_then (first_of claim.inputs) (second_of claim.inputs) →
             row_of self.new ≡ finished (line_net does (sizes self.old)) (row_of self.old) worker (lifted s claim) }
     {
         let _segments = self.segments.len();
-        let _held = self.close_pass(s, worker);
-        self.give_root(s + 1, correction)
+        let held = self.close_pass(s, worker);
+        let first = self.give_root(s + 1, correction);
+        Stood {
+            held,
+            first,
+            second: None,
+        }
     }
 }
 

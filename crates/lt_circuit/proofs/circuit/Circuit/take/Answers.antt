@@ -49,7 +49,7 @@ invariant_of-result g c =
     let long = ap length given ∙ inputs_long (tree_of b.leaves) name (state_of b).value (is_there _ _ _ _ _ _ _ _ _ c.self.invariant name busy) in
     let all = subst (AllByRecursion (g.W.LeafWork.fits w)) (sym given) (all_read (g.W.LeafWork.fits w) (state_of b).value (inputs_of (tree_of b.leaves) name) cells) in
     rw (c.in_ok-work.ensures, c.take_task-task.ensures.task)
-    (from_fits c.self.inside.tallies.items (g.W.LeafWork.stands_for w) (g.W.LeafWork.fits w) b c.self.invariant.are_tallies (g.W.LeafWork.has w) name c.in_ok-captured.captured.given long all
+    (from_fits c.self.inside.tallies.items code_of (g.W.LeafWork.stands_for w) (g.W.LeafWork.fits w) (state_of b) c.self.invariant.are_tallies (g.W.LeafWork.has w) name c.in_ok-captured.captured.given long all
     (λ l e. c.self.invariant.leaves_there l (omega (arith, leaf_there _ _ _ _ _ _ _ _ _ c.self.invariant name busy l e, c.self.invariant.tallies_long))))
 
 pub invariant_of-self-2 : goal.invariant_of-self-2

@@ -1,4 +1,4 @@
-use Rattle.std.proofs.Common.{◌≡◌, ◌∙◌, ap, refl}
+use Rattle.std.proofs.Common.{◌≡◌, ◌∙◌, ap, refl, set, None}
 use Rattle.lt_net.specs.Row.{pass_closed}
 use Rattle.lt_circuit.specs.Segment.{SegmentView, segment_state}
 use Rattle.lt_circuit.specs.Row.{no_segment, segment_at}
@@ -17,5 +17,6 @@ returns c =
         c.close_pass.ensures.leaves ∙ ap (λ (v : SegmentView). v.board.leaves) is,
         c.close_pass.ensures.on ∙ ap (λ (v : SegmentView). v.on) is,
         λ claim e. c.close_pass.ensures.state claim e ∙ ap (λ (v : SegmentView). pass_closed (segment_state v) c.args.worker claim) is,
+        c.close_pass.ensures.claims ∙ ap (λ (v : SegmentView). set v.board.claims c.args.worker None) is,
       );
     })

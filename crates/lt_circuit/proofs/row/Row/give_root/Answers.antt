@@ -16,5 +16,6 @@ returns c =
         refl,
         c.give_root.ensures.leaves ∙ ap (λ (v : SegmentView). v.board.leaves) is,
         λ effect. c.give_root.ensures.state effect ∙ ap (λ (v : SegmentView). given_root (passing_net effect v.board.leaves v.on) (segment_state v) c.args.correction) is,
+        c.give_root.ensures.claims ∙ ap (λ (v : SegmentView). v.board.claims) is,
       );
     })
