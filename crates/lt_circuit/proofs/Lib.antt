@@ -29,3 +29,5 @@ pub mod LineClaims
 pub mod LineStores
 pub mod LineSteps
 pub mod LineTasks
+pub mod LineOneJob
+pub mod LineWay

@@ -1,11 +1,13 @@
--- One job of a loop: what is left to be run after it.
+-- On the way through a list of jobs: what is left to be run.
 use Rattle.std.proofs.Common.{◌≡◌, ℕ, suc, ◌+◌, ◌-◌, ◌<◌, ◌≤◌, Bool, true, false, List, [], ◌∷◌, ◌++◌, length, length-append, Some, None, refl, sym, ap, ◌∙◌, subst, arith, append_assoc}
 use Rattle.std.specs.List.{AllByRecursion}
 use Rattle.lt_net.specs.declared.job.JobName.TheVariants.{Leaf, Merge, Correct}
 use Rattle.lt_net.specs.Net.{Net, State, Event, is_pending}
 use Rattle.lt_net.specs.Codes.{code_of}
 use Rattle.lt_net.specs.Alone.{IsUnclaimed, run_if_pending, run_events, run_all, all_events, merges_down, corrects_up, lowest_pending}
-use Rattle.lt_circuit.specs.Shape.{Shape, shape_net, worker_of, IsLaterBy}
+use Rattle.lt_net.proofs.Counts.{events_append}
+use Rattle.lt_net.proofs.Runs.{run_append}
+use Rattle.lt_circuit.specs.Shape.{worker_of, IsLaterBy}
 
 pub later_same : (es : List Event) → IsLaterBy 0 es es
 later_same es = record { more = []; is = end es; by = tt }
@@ -27,21 +29,6 @@ later_then a b c h k = record {
 
 -- ---- the first job of a list
 
--- how many events are left, before and after it
-pub first_events : (net : Net) (s t : State) (j : ℕ) (jobs all : List ℕ) → all ≡ j ∷ jobs → t ≡ run_if_pending net s j
-    → length (all_events net s all) ≡ length (run_events net s j) + length (all_events net t jobs)
-first_events net s t j jobs all e f =
-    ap (λ (l : List ℕ). length (all_events net s l)) e
-    ∙ length-append (run_events net s j) (all_events net (run_if_pending net s j) jobs)
-    ∙ ap (λ (u : State). length (run_events net s j) + length (all_events net u jobs)) (sym f)
-
--- at least the first one's are left before it
-pub first_fewer : (net : Net) (s : State) (j : ℕ) (jobs all : List ℕ) → all ≡ j ∷ jobs → length (run_events net s j) ≤ length (all_events net s all)
-first_fewer net s j jobs all e = omega (arith, first_events net s (run_if_pending net s j) j jobs all e refl)
-
-pub first_ran : (net : Net) (s t : State) (j : ℕ) (jobs all : List ℕ) → all ≡ j ∷ jobs → t ≡ run_if_pending net s j → run_all net t jobs ≡ run_all net s all
-first_ran net s t j jobs all e f = ap (λ (u : State). run_all net u jobs) f ∙ sym (ap (run_all net s) e)
-
 pub merges_first : (k v : ℕ) → k ≡ v + 1 → merges_down k ≡ code_of (Merge v) ∷ merges_down v
 merges_first k v e = let n : k ≡ suc v = omega (arith, e) in ap merges_down n
 
@@ -54,36 +41,72 @@ corrects_first n v h =
 -- ---- on the way through a list of jobs
 
 -- From (shape0, s0, journal0) on through all the jobs: at (sh, s, j) these are left. No claim stands.
-pub record IsOnWay {W : Type 0} (shape0 : Shape W) (s0 : State) (journal0 : List Event) (all : List ℕ) (sh : Shape W) (s : State) (j : List Event) (left : List ℕ) : Type 0 where
-  pub ran : run_all (shape_net shape0) s left ≡ run_all (shape_net shape0) s0 all
+pub record IsOnWay {S : Type 0} (net_of : S → Net) (shape0 : S) (s0 : State) (journal0 : List Event) (all : List ℕ) (sh : S) (s : State) (j : List Event) (left : List ℕ) : Type 0 where
+  pub ran : run_all (net_of shape0) s left ≡ run_all (net_of shape0) s0 all
   pub free : IsUnclaimed s
   pub shape : sh ≡ shape0
   pub later : IsLaterBy 0 journal0 j
-  pub few : length j + length (all_events (shape_net shape0) s left) ≤ length journal0 + length (all_events (shape_net shape0) s0 all)
+  pub few : length j + length (all_events (net_of shape0) s left) ≤ length journal0 + length (all_events (net_of shape0) s0 all)
 
-pub way_start : {W : Type 0} (shape : Shape W) (s : State) (journal : List Event) (all : List ℕ) → IsUnclaimed s → IsOnWay shape s journal all shape s journal all
-way_start shape s journal all free = record { ran = refl; free = free; shape = refl; later = later_same journal; few = omega arith }
+pub way_start : {S : Type 0} (net_of : S → Net) (shape : S) (s : State) (journal : List Event) (all : List ℕ) → IsUnclaimed s → IsOnWay net_of shape s journal all shape s journal all
+way_start net_of shape s journal all free = record { ran = refl; free = free; shape = refl; later = later_same journal; few = omega arith }
 
-module _ {W : Type 0} {shape0 sh : Shape W} {s0 s : State} {journal0 j : List Event} {all left : List ℕ} (code : ℕ) (rest : List ℕ) (h : IsOnWay shape0 s0 journal0 all sh s j left) (e : left ≡ code ∷ rest) where
-  few_more : (k : ℕ) → k ≤ length j + length (run_events (shape_net sh) s code) → k ≤ length j + length (run_events (shape_net shape0) s code)
-  few_more k f = subst (λ x. k ≤ length j + length (run_events (shape_net x) s code)) h.shape f
+-- the events of a job are those of the list of it alone
+pub alone_events_few : (net : Net) (s : State) (code j k : ℕ) → k ≤ j + length (run_events net s code) → k ≤ j + length (all_events net s (code ∷ []))
+alone_events_few net s code j k few = let same = length-append (run_events net s code) [] in omega (arith, few, same)
 
-  -- the next job ran
-  pub way_next : {sh' : Shape W} {s' : State} {j' : List Event} → s' ≡ run_if_pending (shape_net sh) s code → IsUnclaimed s' → sh' ≡ sh → IsLaterBy 0 j j'
-      → length j' ≤ length j + length (run_events (shape_net sh) s code) → IsOnWay shape0 s0 journal0 all sh' s' j' rest
-  way_next {sh'} {s'} {j'} ran free shape later few =
-      let step : s' ≡ run_if_pending (shape_net shape0) s code = ran ∙ ap (λ x. run_if_pending (shape_net x) s code) h.shape in
+module _ {S : Type 0} {net_of : S → Net} {shape0 sh : S} {s0 s : State} {journal0 j : List Event} {all left : List ℕ} (jobs rest : List ℕ)
+    (h : IsOnWay net_of shape0 s0 journal0 all sh s j left) (e : left ≡ jobs ++ rest) where
+  more_few : (k : ℕ) → k ≤ length j + length (all_events (net_of sh) s jobs) → k ≤ length j + length (all_events (net_of shape0) s jobs)
+  more_few k f = subst (λ x. k ≤ length j + length (all_events (net_of x) s jobs)) h.shape f
+
+  left_events : length (all_events (net_of shape0) s left) ≡ length (all_events (net_of shape0) s jobs) + length (all_events (net_of shape0) (run_all (net_of shape0) s jobs) rest)
+  left_events = ap (λ (l : List ℕ). length (all_events (net_of shape0) s l)) e ∙ events_append (net_of shape0) jobs rest s
+
+  -- the next jobs ran
+  pub way_more : {sh' : S} {s' : State} {j' : List Event} → s' ≡ run_all (net_of sh) s jobs → IsUnclaimed s' → sh' ≡ sh → IsLaterBy 0 j j'
+      → length j' ≤ length j + length (all_events (net_of sh) s jobs) → IsOnWay net_of shape0 s0 journal0 all sh' s' j' rest
+  way_more {sh'} {s'} {j'} ran free shape later few =
+      let step : s' ≡ run_all (net_of shape0) s jobs = ran ∙ ap (λ x. run_all (net_of x) s jobs) h.shape in
+      let behind : length (all_events (net_of shape0) s' rest) ≡ length (all_events (net_of shape0) (run_all (net_of shape0) s jobs) rest) =
+      ap (λ (u : State). length (all_events (net_of shape0) u rest)) step in
       record {
-        ran = first_ran (shape_net shape0) s s' code rest left e step ∙ h.ran;
+        ran = ap (λ (u : State). run_all (net_of shape0) u rest) step ∙ sym (run_append (net_of shape0) jobs rest s) ∙ sym (ap (run_all (net_of shape0) s) e) ∙ h.ran;
         free = free;
         shape = shape ∙ h.shape;
         later = later_then journal0 j j' h.later later;
-        few = omega (arith, few_more (length j') few, h.few, first_events (shape_net shape0) s s' code rest left e step);
+        few = omega (arith, more_few (length j') few, h.few, left_events, behind);
       }
 
-  -- whatever came of the next job, there are no more events than all the jobs need
-  pub way_few : (k : ℕ) → k ≤ length j + length (run_events (shape_net sh) s code) → k ≤ length journal0 + length (all_events (shape_net shape0) s0 all)
-  way_few k few = omega (arith, few_more k few, h.few, first_fewer (shape_net shape0) s code rest left e)
+  -- whatever came of the next jobs, there are no more events than all the jobs need
+  pub way_within : (k : ℕ) → k ≤ length j + length (all_events (net_of sh) s jobs) → k ≤ length journal0 + length (all_events (net_of shape0) s0 all)
+  way_within k few = omega (arith, more_few k few, h.few, left_events)
+
+module _ {S : Type 0} {net_of : S → Net} {shape0 sh : S} {s0 s : State} {journal0 j : List Event} {all left : List ℕ} (code : ℕ) (rest : List ℕ)
+    (h : IsOnWay net_of shape0 s0 journal0 all sh s j left) (e : left ≡ code ∷ rest) where
+  -- the next job ran
+  pub way_next : {sh' : S} {s' : State} {j' : List Event} → s' ≡ run_if_pending (net_of sh) s code → IsUnclaimed s' → sh' ≡ sh → IsLaterBy 0 j j'
+      → length j' ≤ length j + length (run_events (net_of sh) s code) → IsOnWay net_of shape0 s0 journal0 all sh' s' j' rest
+  way_next {sh'} {s'} {j'} ran free shape later few = way_more (code ∷ []) rest h e ran free shape later (alone_events_few (net_of sh) s code (length j) (length j') few)
+
+  -- whatever came of it
+  pub way_few : (k : ℕ) → k ≤ length j + length (run_events (net_of sh) s code) → k ≤ length journal0 + length (all_events (net_of shape0) s0 all)
+  way_few k few = way_within (code ∷ []) rest h e k (alone_events_few (net_of sh) s code (length j) k few)
+
+-- after all the jobs there are some more to be run
+pub way_longer : {S : Type 0} {net_of : S → Net} {shape0 sh : S} {s0 s : State} {journal0 j : List Event} {all : List ℕ} (more : List ℕ)
+    → IsOnWay net_of shape0 s0 journal0 all sh s j [] → IsOnWay net_of shape0 s0 journal0 (all ++ more) sh s j more
+way_longer {net_of = net_of} {shape0} {s0 = s0} {s} {journal0} {j} {all} more h =
+    let joined = events_append (net_of shape0) all more s0 in
+    let behind : length (all_events (net_of shape0) s more) ≡ length (all_events (net_of shape0) (run_all (net_of shape0) s0 all) more) =
+    ap (λ (u : State). length (all_events (net_of shape0) u more)) h.ran in
+    record {
+      ran = ap (λ (u : State). run_all (net_of shape0) u more) h.ran ∙ sym (run_append (net_of shape0) all more s0);
+      free = h.free;
+      shape = h.shape;
+      later = h.later;
+      few = omega (arith, h.few, joined, behind);
+    }
 
 -- ---- the lowest Pending leaf
 

@@ -5,16 +5,11 @@ use Rattle.std.proofs.lemmas.List.{map-append, append-nil, length-map}
 use Rattle.lt_net.specs.declared.job.JobState.{JobState}
 use Rattle.lt_net.specs.declared.job.JobState.TheVariants.{Clean, Pending, Running, Dirty}
 use Rattle.lt_model.specs.declared.mark.Mark.{Mark}
-use Rattle.lt_net.specs.Net.{Net, State, Claim as NetClaim, Claims, Finishes, is_pending, claimed, finished, abandoned}
+use Rattle.lt_net.specs.Net.{Net, State, Event, Claim as NetClaim, Claims, Finishes, is_pending, claimed, finished, abandoned}
 use Rattle.lt_net.specs.Tree.{circuit_net, tree_of}
-use Rattle.lt_net.specs.Codes.{code_of}
 use Rattle.lt_net.specs.Alone.{IsUnclaimed, run_if_pending, run_events}
 use Rattle.lt_net.proofs.Ends.{finished_is, finished_free, abandoned_free}
 use Rattle.lt_circuit.specs.Shape.{worker_of, IsLaterBy}
-use Rattle.lt_circuit.specs.declared.entry.Entry.{Entry}
-use Rattle.lt_circuit.specs.declared.entry.Event.{Event as Kind}
-use Rattle.lt_circuit.specs.declared.entry.Event.TheVariants.{Claim, Finish, Abandon}
-use Rattle.lt_circuit.specs.Entry.{event_of, event_on}
 use Rattle.lt_circuit.specs.Circuit.{CircuitView, state}
 use Rattle.lt_circuit.specs.Claiming.{IsClaimed}
 use Rattle.lt_circuit.specs.Job.{JobView, claim_of_job}
@@ -31,6 +26,21 @@ pending_is false Dirty h = refl
 
 -- ---- a job claimed, and the claim's end
 
+module _ (net : Net) (old mid : State) (code : ℕ) (begun : mid ≡ claimed net old 0 code) where
+  module _ (after : State) (k : NetClaim) (ended : after ≡ finished net mid 0 k) where
+    end_is : after ≡ finished net (claimed net old 0 code) 0 k
+    end_is = ended ∙ ap (λ s. finished net s 0 k) begun
+
+    -- is the run of the job
+    pub run_is : old.status code ≡ Pending → mid.claim 0 ≡ Some k → after ≡ run_if_pending net old code
+    run_is pending held = end_is ∙ finished_is net old code k pending (sym (ap (λ (s : State). s.claim 0) begun) ∙ held)
+
+    pub run_free : IsUnclaimed old → IsUnclaimed after
+    run_free free = λ w. ap (λ (s : State). s.claim w) end_is ∙ finished_free net old code free k w
+
+  pub drop_free : (after : State) (k : NetClaim) → after ≡ abandoned mid 0 k → IsUnclaimed old → IsUnclaimed after
+  drop_free after k ended free = λ w. ap (λ (s : State). s.claim w) (ended ∙ ap (λ s. abandoned s 0 k) begun) ∙ abandoned_free net old code free k w
+
 module _ {W T : Type 0} (does_of : W → ℕ → List Mark → List Mark) (old mid : CircuitView W T) (job : JobView W T) (code : ℕ) (claim : IsClaimed (does_of old.work) old mid 0 job)
     (is : (claim_of_job job).job ≡ code) where
   abbrev net : Net
@@ -40,57 +50,42 @@ module _ {W T : Type 0} (does_of : W → ℕ → List Mark → List Mark) (old m
   begun = claim.stepped ∙ ap (claimed net (state old) 0) is
 
   module _ (after : State) (k : NetClaim) (k_is : k ≡ claim_of_job job) (ended : after ≡ finished (circuit_net (does_of mid.work) (tree_of mid.board.leaves)) (state mid) 0 k) where
-    ended_is : after ≡ finished net (claimed net (state old) 0 code) 0 k
-    ended_is = ended ∙ (λ i. finished (circuit_net (does_of (claim.work i)) (tree_of (claim.leaves i))) (begun i) 0 k)
+    ended_is : after ≡ finished net (state mid) 0 k
+    ended_is = ended ∙ (λ i. finished (circuit_net (does_of (claim.work i)) (tree_of (claim.leaves i))) (state mid) 0 k)
 
-    -- is the run of the job
     pub ran_is : after ≡ run_if_pending net (state old) code
-    ran_is =
-        let pending : (state old).status code ≡ Pending = sym (ap (state old).status is) ∙ claim.pending in
-        let held : (claimed net (state old) 0 code).claim 0 ≡ Some k = sym (ap (λ (s : State). s.claim 0) begun) ∙ claim.held ∙ ap Some (sym k_is) in
-        ended_is ∙ finished_is net (state old) code k pending held
+    ran_is = run_is net (state old) (state mid) code begun after k ended_is (sym (ap (state old).status is) ∙ claim.pending) (claim.held ∙ ap Some (sym k_is))
 
     pub ran_free : IsUnclaimed (state old) → IsUnclaimed after
-    ran_free free = λ w. ap (λ (s : State). s.claim w) ended_is ∙ finished_free net (state old) code free k w
+    ran_free = run_free net (state old) (state mid) code begun after k ended_is
 
   pub given_up : (after : State) (k : NetClaim) → after ≡ abandoned (state mid) 0 k → IsUnclaimed (state old) → IsUnclaimed after
-  given_up after k ended free = λ w. ap (λ (s : State). s.claim w) (ended ∙ ap (λ s. abandoned s 0 k) begun) ∙ abandoned_free net (state old) code free k w
+  given_up = drop_free net (state old) (state mid) code begun
 
 -- ---- what the journal gains
 
-worker_is : (e : Entry) → worker_of (event_of e) ≡ e.worker
-worker_is e = by_kind e.event
-  where
-    by_kind : (k : Kind) → worker_of (event_on k e.worker (code_of e.job)) ≡ e.worker
-    by_kind Claim = refl
-    by_kind Finish = refl
-    by_kind Abandon = refl
+module _ {E : Type 0} (event : E → Event) where
+  -- none
+  pub later_none : (old new : List E) → new ≡ old → IsLaterBy 0 (map event old) (map event new)
+  later_none old new same = record { more = []; is = ap (map event) same ∙ sym (append-nil (map event old)); by = tt }
 
--- none
-pub later_none : (old new : List Entry) → new ≡ old → IsLaterBy 0 (map event_of old) (map event_of new)
-later_none old new same = record { more = []; is = ap (map event_of) same ∙ sym (append-nil (map event_of old)); by = tt }
+  -- a claim and its end
+  pub later_two : (old mid new : List E) (c d : E) → worker_of (event c) ≡ 0 → worker_of (event d) ≡ 0 → mid ≡ old ++ c ∷ [] → new ≡ mid ++ d ∷ [] → IsLaterBy 0 (map event old) (map event new)
+  later_two old mid new c d by_c by_d first second =
+      let all : new ≡ old ++ (c ∷ d ∷ []) = second ∙ ap (λ (es : List E). es ++ d ∷ []) first ∙ append_assoc old (c ∷ []) (d ∷ []) in
+      record {
+        more = map event (c ∷ d ∷ []);
+        is = ap (map event) all ∙ map-append event old (c ∷ d ∷ []);
+        by = (by_c, (by_d, tt));
+      }
 
--- one event
-pub later_one : (old new : List Entry) (e : Entry) → e.worker ≡ 0 → new ≡ old ++ e ∷ [] → IsLaterBy 0 (map event_of old) (map event_of new)
-later_one old new e by_e is = record { more = map event_of (e ∷ []); is = ap (map event_of) is ∙ map-append event_of old (e ∷ []); by = (worker_is e ∙ by_e, tt) }
-
--- a claim and its end
-pub later_two : (old mid new : List Entry) (c d : Entry) → c.worker ≡ 0 → d.worker ≡ 0 → mid ≡ old ++ c ∷ [] → new ≡ mid ++ d ∷ [] → IsLaterBy 0 (map event_of old) (map event_of new)
-later_two old mid new c d by_c by_d first second =
-    let all : new ≡ old ++ (c ∷ d ∷ []) = second ∙ ap (λ (es : List Entry). es ++ d ∷ []) first ∙ append_assoc old (c ∷ []) (d ∷ []) in
-    record {
-      more = map event_of (c ∷ d ∷ []);
-      is = ap (map event_of) all ∙ map-append event_of old (c ∷ d ∷ []);
-      by = (worker_is c ∙ by_c, (worker_is d ∙ by_d, tt));
-    }
-
--- a run adds two events
-pub few_two : (n : Net) (s : State) (j : ℕ) (old mid new : List Entry) (c d : Entry) → s.status j ≡ Pending → mid ≡ old ++ c ∷ [] → new ≡ mid ++ d ∷ []
-    → length (map event_of new) ≤ length (map event_of old) + length (run_events n s j)
-few_two n s j old mid new c d pending first second =
-    let two : length (run_events n s j) ≡ 2 = ap (λ (st : JobState). length (if is_pending st then Claims 0 j ∷ Finishes 0 j ∷ [] else [])) pending in
-    let here = length-map new event_of in
-    let there = length-map old event_of in
-    let more = ap length second ∙ length-append mid (d ∷ []) in
-    let most = ap length first ∙ length-append old (c ∷ []) in
-    omega (arith, two, here, there, more, most)
+  -- a run adds two events
+  pub few_two : (n : Net) (s : State) (j : ℕ) (old mid new : List E) (c d : E) → s.status j ≡ Pending → mid ≡ old ++ c ∷ [] → new ≡ mid ++ d ∷ []
+      → length (map event new) ≤ length (map event old) + length (run_events n s j)
+  few_two n s j old mid new c d pending first second =
+      let two : length (run_events n s j) ≡ 2 = ap (λ (st : JobState). length (if is_pending st then Claims 0 j ∷ Finishes 0 j ∷ [] else [])) pending in
+      let here = length-map new event in
+      let there = length-map old event in
+      let more = ap length second ∙ length-append mid (d ∷ []) in
+      let most = ap length first ∙ length-append old (c ∷ []) in
+      omega (arith, two, here, there, more, most)

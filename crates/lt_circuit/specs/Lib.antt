@@ -14,3 +14,4 @@ pub mod Row
 pub mod Line
 pub mod LineJob
 pub mod LineClaiming
+pub mod LineShape

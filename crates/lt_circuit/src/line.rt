@@ -140,6 +140,7 @@ impl<W: LeafWork> Line<W> {
     }
 }
 
+mod alone;
 mod below;
 mod claims;
 mod ends;

@@ -1,5 +1,6 @@
 -- What one worker alone does before others are called.
-use Rattle.std.proofs.Common.{◌≡◌, ◌≢◌, ℕ, List, [], ◌∷◌, ◌++◌, None, map, refl, ap, ◌∙◌}
+use Rattle.std.proofs.Common.{◌≡◌, ◌≢◌, ℕ, List, [], ◌∷◌, ◌++◌, None, map, refl, sym, ap, ◌∙◌}
+use Rattle.std.proofs.lemmas.List.{map-append}
 use mathlib.Core.Logic.{dite}
 use native.Mathlib.Decide.{ℕ_discrete}
 use Rattle.lt_model.specs.declared.mark.Mark.{Mark}
@@ -7,15 +8,25 @@ use Rattle.lt_net.specs.Net.{State}
 use Rattle.lt_net.specs.Alone.{IsUnclaimed}
 use Rattle.lt_circuit.specs.declared.entry.Entry.{Entry}
 use Rattle.lt_circuit.specs.Circuit.{CircuitView, state}
-use Rattle.lt_circuit.specs.Entry.{event_of}
+use Rattle.lt_circuit.specs.Entry.{entry_code, event_of}
 use Rattle.lt_circuit.specs.Claiming.{IsClaimed}
 use Rattle.lt_circuit.specs.Job.{JobView}
-use Rattle.lt_circuit.proofs.OneJob.{later_none, later_one}
+use Rattle.lt_circuit.specs.Shape.{worker_of, IsLaterBy}
+use Rattle.lt_circuit.proofs.Entries.{event_told, worker_told}
+use Rattle.lt_circuit.proofs.OneJob.{later_none}
 use Rattle.lt_circuit.proofs.OnWay.{later_then}
 use Rattle.lt_workers.specs.Alone.{WentAlone}
 
 all_unclaimed : (s t : State) → ((v : ℕ) → v ≢ 0 → t.claim v ≡ s.claim v) → t.claim 0 ≡ None → ((v : ℕ) → v ≢ 0 → s.claim v ≡ None) → IsUnclaimed t
 all_unclaimed s t others mine free v = dite (ℕ_discrete v 0) (λ same. ap t.claim same ∙ mine) (λ other. others v other ∙ free v other)
+
+-- one event of worker 0
+later_one : (old new : List Entry) (e : Entry) → e.worker ≡ 0 → new ≡ old ++ e ∷ [] → IsLaterBy 0 (map event_of old) (map event_of new)
+later_one old new e by_e is = record {
+  more = map event_of (e ∷ []);
+  is = ap (map event_of) is ∙ map-append event_of old (e ∷ []);
+  by = (ap worker_of (sym (event_told e)) ∙ worker_told e.worker (entry_code e) ∙ by_e, tt);
+}
 
 module _ {W T : Type 0} where
   -- nothing was done
@@ -24,7 +35,7 @@ module _ {W T : Type 0} where
     work = ap (λ (c : CircuitView W T). c.work) same;
     leaves = ap (λ (c : CircuitView W T). c.board.leaves) same;
     free = λ v. ap (λ (c : CircuitView W T). (state c).claim v) same ∙ free v;
-    later = later_none old.journal new.journal (ap (λ (c : CircuitView W T). c.journal) same);
+    later = later_none event_of old.journal new.journal (ap (λ (c : CircuitView W T). c.journal) same);
   }
 
   -- the claim of worker 0, the only one, ended

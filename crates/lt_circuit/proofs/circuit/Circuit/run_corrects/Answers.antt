@@ -5,7 +5,7 @@ use Rattle.lt_net.specs.Alone.{corrects_up}
 use Rattle.lt_circuit.proofs.OnWay.{IsOnWay, way_start, way_next, way_few, corrects_first, later_then}
 use Rattle.lt_circuit.specs.Circuit.{state}
 use Rattle.lt_circuit.specs.Entry.{event_of}
-use Rattle.lt_circuit.specs.Shape.{shape}
+use Rattle.lt_circuit.specs.Shape.{shape, shape_net}
 use Rattle.std.specs.Prelude.{map}
 use Rattle.lt_circuit.proofs.circuit.Circuit.run_corrects.Goals as goal
 
@@ -29,4 +29,4 @@ loop-v-init g c =
     let sh = shape g.W.LeafWork.does c.args.self.now in
     let st = state c.args.self.now in
     let es = map event_of c.args.self.now.journal in
-    subst (λ k. IsOnWay sh st es (corrects_up 0 c.args.count) sh st es (corrects_up 0 k)) all (way_start sh st es (corrects_up 0 c.args.count) c.requires.free)
+    subst (λ k. IsOnWay shape_net sh st es (corrects_up 0 c.args.count) sh st es (corrects_up 0 k)) all (way_start shape_net sh st es (corrects_up 0 c.args.count) c.requires.free)
