@@ -40,7 +40,7 @@ impl<W: LeafWork> Circuit<W> {
             This::NoMemory => Err(NoMemory),
             This::Job(job) => {
                 let mut moves: Moves<()> = Moves::new();
-                match job.work(&mut moves) {
+                match job.work(true, &mut moves) {
                     Ok(output) => {
                         self.finish(0, output);
                         Ok(())

@@ -188,8 +188,9 @@ impl<W: LeafWork> LineJob<W> {
         self.task.code()
     }
 
-    /// Does the job. Where memory is refused the job is given back.
-    pub fn work<L>(self, moves: &mut Moves<L>) -> Result<LineOutput<W>, LineJob<W>>
+    /// Does the job. Where memory is refused the job is given back. Where a leaf's first run is thought to be its last, its tally
+    /// need not help a later one.
+    pub fn work<L>(self, is_last: bool, moves: &mut Moves<L>) -> Result<LineOutput<W>, LineJob<W>>
         ensures work { IfOk result (λ output. output.work ≡ self.work) }
         ensures claim { IfOk result (λ output. claim_of_line_output output ≡ claim_of_line_job self) }
         ensures err { IfErr result (λ job. job ≡ self) }
@@ -199,7 +200,7 @@ impl<W: LeafWork> LineJob<W> {
         match task {
             LineTask::Tree(task) => {
                 let job = Job { work, task };
-                match job.work(moves) {
+                match job.work(is_last, moves) {
                     Ok(output) => {
                         let Output { work, did } = output;
                         let did = LineDone::Tree(did);

@@ -19,12 +19,39 @@ struct Ran<T> {
     effect: Marks,
 }
 
+/// The tally of a leaf on the correction. Where it has no prior and this is thought to be its last run, the tally need not help
+/// a later one.
+fn tally_of<W: LeafWork, L>(
+    work: &W,
+    leaf: u32,
+    prior: Option<&W::Tally>,
+    correction: &Marks,
+    is_last: bool,
+    moves: &mut Moves<L>,
+) -> Result<W::Tally, NoMemory>
+    requires leaf { W.has work.now leaf }
+    requires correction { W.fits work.now correction.now }
+    requires prior { IfSome prior (λ old. (c : List Mark) × W.fits work.now c × W.stands_for work.now old.now leaf c) }
+    ensures stands { IfOk result (λ tally. W.stands_for work.now tally leaf correction.now) }
+    ensures moves { IfSome (W.bound work.now (option_map (λ old. old.now) prior.entry) leaf correction.now) (λ most. moves.new ≤ moves.old + most) }
+    ensures rises { moves.old ≤ moves.new }
+{
+    if !is_last {
+        return work.work(leaf, prior, correction, moves);
+    }
+    match prior {
+        Some(_) => work.work(leaf, prior, correction, moves),
+        None => work.work_last(leaf, correction, moves),
+    }
+}
+
 /// Runs a leaf.
 fn run_leaf<W: LeafWork, L>(
     work: &W,
     leaf: u32,
     prior: Option<&W::Tally>,
     correction: &Marks,
+    is_last: bool,
     moves: &mut Moves<L>,
 ) -> Result<Ran<W::Tally>, NoMemory>
     requires leaf { W.has work.now leaf }
@@ -36,7 +63,7 @@ fn run_leaf<W: LeafWork, L>(
     ensures moves { IfSome (W.bound work.now (option_map (λ old. old.now) prior.entry) leaf correction.now) (λ most. moves.new ≤ moves.old + most) }
     ensures rises { moves.old ≤ moves.new }
 {
-    let tally = work.work(leaf, prior, correction, moves)?;
+    let tally = tally_of(work, leaf, prior, correction, is_last, moves)?;
     let kept = correction.share()?;
     let effect = work.effect(&tally).share()?;
     Ok(Ran {
@@ -48,8 +75,9 @@ fn run_leaf<W: LeafWork, L>(
 
 impl<W: LeafWork> Job<W> {
     /// Does the job. Where memory is refused the job is given back. A leaf's job keeps the bound of its work on moves, with
-    /// the tally that was captured as prior; the others make none.
-    pub fn work<L>(self, moves: &mut Moves<L>) -> Result<Output<W>, Job<W>>
+    /// the tally that was captured as prior; the others make none. Where a leaf's first run is thought to be its last, its tally
+    /// need not help a later one.
+    pub fn work<L>(self, is_last: bool, moves: &mut Moves<L>) -> Result<Output<W>, Job<W>>
         ensures work { IfOk result (λ output. output.work ≡ self.work) }
         ensures claim { IfOk result (λ output. claim_of_output output ≡ claim_of_job self) }
         ensures name { IfOk result (λ output. name_of_output output ≡ name_of_job self) }
@@ -68,7 +96,7 @@ impl<W: LeafWork> Job<W> {
                     Some(prior) => Some(&prior.tally),
                     None => None,
                 };
-                let made = run_leaf(&*work, leaf, old, &correction, moves);
+                let made = run_leaf(&*work, leaf, old, &correction, is_last, moves);
                 match made {
                     Ok(ran) => {
                         let Ran {

@@ -60,7 +60,7 @@ impl<W: LeafWork> Line<W> {
             LineThis::NoMemory => Err(NoMemory),
             LineThis::Job(job) => {
                 let mut moves: Moves<()> = Moves::new();
-                match job.work(&mut moves) {
+                match job.work(true, &mut moves) {
                     Ok(output) => {
                         self.finish(0, output);
                         Ok(())
