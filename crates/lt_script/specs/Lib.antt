@@ -1,4 +1,4 @@
-pub mod Signs
+pub mod Reserved
 pub mod View
 pub mod Pieces
 pub mod Ahead

@@ -1,17 +1,19 @@
 -- What the definitions see of a token that was read.
 use Rattle.std.specs.Prelude.{◌≡◌, ℕ, List, [], ◌∷◌}
 use Rattle.lt_model.specs.Tokens as tokens
+use Rattle.lt_script.specs.Reserved.{word_text, sign_text}
 use Rattle.lt_script.specs.declared.token.Lexeme.{Lexeme}
-use Rattle.lt_script.specs.declared.token.Lexeme.TheVariants.{Word, Number, Symbol, Sign}
+use Rattle.lt_script.specs.declared.token.Lexeme.TheVariants.{Word, Reserved, Number, Symbol, Sign}
 use Rattle.lt_script.specs.declared.token.Token.{Token}
 use Rattle.lt_script.specs.declared.lexer.Lexed as lexed
 use Rattle.lt_script.specs.declared.lexer.Lexed.TheVariants.{Token as One, End, Broken}
 
 abbrev pub shape_of : Lexeme → tokens.Shape
-shape_of (Word label) = tokens.word label.bytes.now
+shape_of (Word w) = tokens.word w.label.bytes.now
+shape_of (Reserved w) = tokens.word (word_text w)
 shape_of (Number text) = tokens.number text.now
 shape_of (Symbol label) = tokens.symbol label.bytes.now
-shape_of (Sign text) = tokens.sign text.now
+shape_of (Sign s) = tokens.sign (sign_text s)
 
 abbrev pub shape : Token → tokens.Shape
 shape t = shape_of t.lexeme

@@ -12,6 +12,7 @@ ghost use Rattle.lt_script.specs.Parsed.{Parses, Refuses, further};
 
 use crate::cursor::Cursor;
 use crate::refusal::{Cause, Refusal};
+use crate::reserved::{Reserved, Sign};
 use crate::tree::{Item, Program};
 use lt_face::limits::{MOST_COLUMNS, MOST_PROGRAMS};
 use lt_model::kind::Kind;
@@ -23,7 +24,7 @@ impl<'a> Cursor<'a> {
         ensures { result ≡ next_is begins_kind (shapes self.now) }
     {
         match self.peek() {
-            Some(first) => first.is_word(b"int") || first.is_word(b"sym"),
+            Some(first) => first.is_word(Reserved::Int) || first.is_word(Reserved::Sym),
             None => false,
         }
     }
@@ -44,7 +45,7 @@ impl<'a> Cursor<'a> {
     fn next_kind(&mut self) -> Result<Kind, Refusal>
         ensures { Parses (λ k. k) result self.old self.new (led same_shape comma kind_at) }
     {
-        self.sign(b",")?;
+        self.sign(Sign::Comma)?;
         let kind = self.kind()?;
         Ok(kind)
     }
@@ -63,7 +64,7 @@ impl<'a> Cursor<'a> {
     {
         let mut kinds = Vec::new(alloc);
         kinds.push(first)?;
-        'kinds: while self.sign_stands(b",") {
+        'kinds: while self.sign_stands(Sign::Comma) {
             if kinds.len() == most {
                 return Err(self.too_many_kinds());
             }
@@ -79,7 +80,7 @@ impl<'a> Cursor<'a> {
         ensures read { Parses (λ v. kinds_in v.items) result self.old self.new (led same_shape arrow (listed same_shape comma begins_kind kind_at (most - 1))) }
         ensures some { IfOk result (λ v. 1 ≤ length v.items) }
     {
-        self.sign(b"->")?;
+        self.sign(Sign::Arrow)?;
         let first = self.kind()?;
         let kinds = self.further_kinds(alloc, first, most)?;
         Ok(kinds)
@@ -92,7 +93,7 @@ impl<'a> Cursor<'a> {
         requires few { keys ≤ most_columns }
         ensures { Parses (λ v. v.items) result self.old self.new (trail same_shape arrow comma begins_kind kind_at (most_columns - keys)) }
     {
-        if !self.sign_stands(b"->") {
+        if !self.sign_stands(Sign::Arrow) {
             return Ok(Vec::new(alloc));
         }
         if keys == MOST_COLUMNS {
@@ -118,11 +119,11 @@ impl<'a> Cursor<'a> {
     fn program(&mut self, alloc: Global) -> Result<Program<'a>, Refusal>
         ensures { Parses program_of result self.old self.new program_at }
     {
-        self.word(b"program")?;
+        self.word(Reserved::Program)?;
         let name = self.name()?;
         let statements = self.statements(alloc)?;
-        self.word(b"end")?;
-        self.sign(b";")?;
+        self.word(Reserved::End)?;
+        self.sign(Sign::Semicolon)?;
         Ok(Program { name, statements })
     }
 
@@ -131,7 +132,7 @@ impl<'a> Cursor<'a> {
         ensures { Parses (λ v. map program_of v.items) result self.old self.new (many is_program program_at at_once most_programs) }
     {
         let mut programs = Vec::new(alloc);
-        'programs: while self.word_stands(b"program") {
+        'programs: while self.word_stands(Reserved::Program) {
             if programs.len() == MOST_PROGRAMS {
                 return Err(Refusal::Fault(Cause::TooMany));
             }
@@ -146,10 +147,10 @@ impl<'a> Cursor<'a> {
         ensures read { Parses item_of result self.old self.new (given (λ x. batch x) batch_at) }
         ensures kinds { IfOk result HasKinds }
     {
-        self.word(b"batch")?;
+        self.word(Reserved::Batch)?;
         let programs = self.programs(alloc)?;
-        self.word(b"commit")?;
-        self.sign(b";")?;
+        self.word(Reserved::Commit)?;
+        self.sign(Sign::Semicolon)?;
         Ok(Item::Batch { programs })
     }
 
@@ -158,12 +159,12 @@ impl<'a> Cursor<'a> {
         ensures read { Parses item_of result self.old self.new (given (λ x. relation x.0 x.1.0.0 x.1.0.1 x.1.1) relation_at) }
         ensures kinds { IfOk result HasKinds }
     {
-        self.word(b"relation")?;
+        self.word(Reserved::Relation)?;
         let name = self.name()?;
-        self.sign(b"(")?;
+        self.sign(Sign::Open)?;
         let columns = self.columns(alloc)?;
-        self.sign(b")")?;
-        self.sign(b";")?;
+        self.sign(Sign::Close)?;
+        self.sign(Sign::Semicolon)?;
         let (keys, values) = columns;
         Ok(Item::Relation { name, keys, values })
     }
@@ -173,8 +174,8 @@ impl<'a> Cursor<'a> {
     fn version(&mut self) -> Result<Option<&'a [u8]>, Refusal>
         ensures { Parses digits_of result self.old self.new (maybe is_at (led same_shape at_word (number_at false))) }
     {
-        if self.word_stands(b"at") {
-            self.word(b"at")?;
+        if self.word_stands(Reserved::At) {
+            self.word(Reserved::At)?;
             let digits = self.number(false)?;
             return Ok(Some(digits));
         }
@@ -186,10 +187,10 @@ impl<'a> Cursor<'a> {
         ensures read { Parses item_of result self.old self.new (given (λ x. show x.0 x.1) show_at) }
         ensures kinds { IfOk result HasKinds }
     {
-        self.word(b"show")?;
+        self.word(Reserved::Show)?;
         let name = self.name()?;
         let at = self.version()?;
-        self.sign(b";")?;
+        self.sign(Sign::Semicolon)?;
         Ok(Item::Show { name, at })
     }
 
@@ -199,10 +200,10 @@ impl<'a> Cursor<'a> {
         ensures read { Parses item_of result self.old self.new item_at }
         ensures kinds { IfOk result HasKinds }
     {
-        if self.word_stands(b"relation") {
+        if self.word_stands(Reserved::Relation) {
             return self.relation(alloc);
         }
-        if self.word_stands(b"batch") {
+        if self.word_stands(Reserved::Batch) {
             return self.batch(alloc);
         }
         self.show()

@@ -1,7 +1,8 @@
 //! Texts that are short and not empty.
-ghost use Rattle.std.specs.Prelude.{◌≤◌, IsTrue, length};
+ghost use Rattle.std.specs.Prelude.{◌≡◌, ◌≤◌, IsTrue, false, length};
 ghost use Rattle.std.specs.List.{list_all};
 ghost use Rattle.lt_model.specs.Tokens.{in_word};
+ghost use Rattle.lt_grammar.specs.Tokens.{is_reserved};
 
 /// 1 to 15 bytes of the source, each of `a`-`z`, `0`-`9` and `_`: the text of a word, or of a symbol between its quotes.
 #[derive(Clone, Copy)]
@@ -10,4 +11,11 @@ pub struct Label<'a> {
     pub ghost some: { 1 ≤ length bytes.now },
     pub ghost few: { length bytes.now ≤ 15 },
     pub ghost plain: { IsTrue (list_all in_word bytes.now) },
+}
+
+/// The text of a word that isn't reserved.
+#[derive(Clone, Copy)]
+pub struct Unreserved<'a> {
+    pub label: Label<'a>,
+    pub ghost free: { is_reserved label.bytes.now ≡ false },
 }

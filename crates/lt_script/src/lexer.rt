@@ -5,8 +5,9 @@ ghost use Rattle.lt_model.specs.Tokens.{tokens_at, word_at, number_at, symbol_at
 ghost use Rattle.lt_script.specs.View.{IsFirst, IsNext, IsGapless};
 ghost use Rattle.lt_script.specs.Pieces.{Skipped, Opened};
 
-use crate::label::Label;
-use crate::runs::{digits_len, line_len, sign_len, word_len};
+use crate::label::{Label, Unreserved};
+use crate::reserved::{find_reserved, find_sign};
+use crate::runs::{digits_len, line_len, word_len};
 use crate::token::{Lexeme, Token};
 
 /// The next token, the end of the bytes, or the code of a fault inside a token.
@@ -110,7 +111,13 @@ impl<'a> Lexer<'a> {
         }
         let (bytes, rest) = self.rest.split_at(len);
         self.rest = rest;
-        self.token(Lexeme::Word(Label { bytes }))
+        match find_reserved(bytes) {
+            Some(word) => self.token(Lexeme::Reserved(word)),
+            None => {
+                let label = Label { bytes };
+                self.token(Lexeme::Word(Unreserved { label }))
+            }
+        }
     }
 
     fn number(&mut self) -> Lexed<'a>
@@ -150,12 +157,11 @@ impl<'a> Lexer<'a> {
         ensures line { self.new.line ≡ self.old.line }
         ensures left { length self.new.rest.now ≤ length self.old.rest.now }
     {
-        let len = sign_len(self.rest);
-        if len == 0 {
+        let Some((sign, len)) = find_sign(self.rest) else {
             return Lexed::Broken(1);
-        }
-        let (text, rest) = self.rest.split_at(len);
+        };
+        let (_, rest) = self.rest.split_at(len);
         self.rest = rest;
-        self.token(Lexeme::Sign(text))
+        self.token(Lexeme::Sign(sign))
     }
 }

@@ -16,6 +16,7 @@ mod one_token;
 mod range;
 mod reader;
 mod refusal;
+mod reserved;
 mod runs;
 mod standing;
 mod statements;

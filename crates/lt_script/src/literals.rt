@@ -14,6 +14,7 @@ ghost use Rattle.lt_script.specs.Parsed.{Parses, Refuses, further};
 use crate::cursor::Cursor;
 use crate::label::Label;
 use crate::refusal::{Cause, Refusal};
+use crate::reserved::{Reserved, Sign};
 use crate::tree::{Head, Literal, Term};
 use lt_face::limits::MOST_LITERALS;
 use lt_model::syntax::Op;
@@ -25,7 +26,7 @@ impl<'a> Cursor<'a> {
     fn equation(&mut self, name: Label<'a>) -> Result<Literal<'a>, Refusal>
         ensures { Parses literal_of result self.old self.new (given (λ x. equation_of name.entry.bytes.now x.0 x.1) equation_at) }
     {
-        self.sign(b"=")?;
+        self.sign(Sign::Equal)?;
         let left = self.term()?;
         if self.plus_stands() {
             let minus = self.plus()?;
@@ -49,14 +50,14 @@ impl<'a> Cursor<'a> {
     fn rest_of_literal(&mut self, alloc: Global, name: Label<'a>) -> Result<Literal<'a>, Refusal>
         ensures { Parses literal_of result self.old self.new (given (λ x. literal_parts (inr (inl (name.entry.bytes.now, x)))) rest_at) }
     {
-        if self.sign_stands(b"(") {
+        if self.sign_stands(Sign::Open) {
             let terms = self.terms(alloc)?;
             return Ok(Literal::Atom(Head {
                 relation: name,
                 terms,
             }));
         }
-        if self.sign_stands(b"=") {
+        if self.sign_stands(Sign::Equal) {
             return self.equation(name);
         }
         let op = self.other_op()?;
@@ -72,7 +73,7 @@ impl<'a> Cursor<'a> {
     fn negated(&mut self, alloc: Global) -> Result<Literal<'a>, Refusal>
         ensures { Parses literal_of result self.old self.new (given absent (led same_shape not_word head_at)) }
     {
-        self.word(b"not")?;
+        self.word(Reserved::Not)?;
         let head = self.head(alloc)?;
         Ok(Literal::Absent(head))
     }
@@ -81,7 +82,7 @@ impl<'a> Cursor<'a> {
     fn literal(&mut self, alloc: Global) -> Result<Literal<'a>, Refusal>
         ensures { Parses literal_of result self.old self.new literal_at }
     {
-        if self.word_stands(b"not") {
+        if self.word_stands(Reserved::Not) {
             return self.negated(alloc);
         }
         if self.any_word_stands() {
@@ -98,7 +99,7 @@ impl<'a> Cursor<'a> {
     fn starts_literal(&self) -> bool
         ensures { result ≡ next_is begins_literal (shapes self.now) }
     {
-        if self.word_stands(b"not") {
+        if self.word_stands(Reserved::Not) {
             return true;
         }
         self.starts_term()
@@ -120,7 +121,7 @@ impl<'a> Cursor<'a> {
     fn next_literal(&mut self, alloc: Global) -> Result<Literal<'a>, Refusal>
         ensures { Parses literal_of result self.old self.new (led same_shape comma literal_at) }
     {
-        self.sign(b",")?;
+        self.sign(Sign::Comma)?;
         let literal = self.literal(alloc)?;
         Ok(literal)
     }
@@ -136,7 +137,7 @@ impl<'a> Cursor<'a> {
     {
         let mut literals = Vec::new(alloc);
         literals.push(first)?;
-        'literals: while self.sign_stands(b",") {
+        'literals: while self.sign_stands(Sign::Comma) {
             if literals.len() == MOST_LITERALS {
                 return Err(self.too_many_literals());
             }
@@ -161,8 +162,8 @@ impl<'a> Cursor<'a> {
     pub fn where_part(&mut self, alloc: Global) -> Result<Vec<Literal<'a>>, Refusal>
         ensures { Parses (λ v. literals_of v.items) result self.old self.new where_at }
     {
-        if self.word_stands(b"where") {
-            self.word(b"where")?;
+        if self.word_stands(Reserved::Where) {
+            self.word(Reserved::Where)?;
             let body = self.body(alloc)?;
             return Ok(body);
         }

@@ -2,41 +2,41 @@
 ghost use Rattle.std.specs.Prelude.{◌≡◌};
 ghost use Rattle.lt_reading.specs.Reading.{token as this_token, next_is, in_table};
 ghost use Rattle.lt_model.specs.Tokens.{word as word_shape, sign as sign_shape};
-ghost use Rattle.lt_grammar.specs.Tokens.{same_shape, is_reserved as reserved_test};
+ghost use Rattle.lt_grammar.specs.Tokens.{same_shape};
 ghost use Rattle.lt_grammar.specs.Productions.{stands, is_word as word_test, is_number as number_test, is_plus, name_at, number_at, quoted_at, op_at, other_ops, other_op_at, plus_at, need_at, kind_at};
+ghost use Rattle.lt_script.specs.Reserved.{word_text, sign_text};
 ghost use Rattle.lt_script.specs.View.{shape};
 ghost use Rattle.lt_script.specs.Ahead.{shapes};
 ghost use Rattle.lt_script.specs.Parsed.{Parses};
 
-use crate::among::contains;
 use crate::cursor::Cursor;
 use crate::label::Label;
 use crate::range::is_int;
 use crate::refusal::{Cause, Refusal};
+use crate::reserved::{Reserved, Sign};
 use crate::token::{Lexeme, Token};
 use lt_model::kind::Kind;
 use lt_model::syntax::Op;
-use lt_reading::texts::are_same;
 
 impl<'a> Token<'a> {
     /// Whether it is this word.
     #[inline(always)]
-    pub fn is_word(&self, text: &[u8]) -> bool
-        ensures { result ≡ same_shape (shape self.now) (word_shape text.now) }
+    pub fn is_word(&self, word: Reserved) -> bool
+        ensures { result ≡ same_shape (shape self.now) (word_shape (word_text word)) }
     {
         match self.lexeme {
-            Lexeme::Word(label) => are_same(label.bytes, text),
+            Lexeme::Reserved(known) => known == word,
             _ => false,
         }
     }
 
     /// Whether it is this sign.
     #[inline(always)]
-    pub fn is_sign(&self, text: &[u8]) -> bool
-        ensures { result ≡ same_shape (shape self.now) (sign_shape text.now) }
+    pub fn is_sign(&self, sign: Sign) -> bool
+        ensures { result ≡ same_shape (shape self.now) (sign_shape (sign_text sign)) }
     {
         match self.lexeme {
-            Lexeme::Sign(sign) => are_same(sign, text),
+            Lexeme::Sign(known) => known == sign,
             _ => false,
         }
     }
@@ -45,55 +45,22 @@ impl<'a> Token<'a> {
     fn other_op(&self) -> Option<Op>
         ensures { result ≡ in_table same_shape other_ops (shape self.now) }
     {
-        if self.is_sign(b"!=") {
+        if self.is_sign(Sign::NotEqual) {
             return Some(Op::Ne);
         }
-        if self.is_sign(b"<") {
+        if self.is_sign(Sign::Less) {
             return Some(Op::Lt);
         }
-        if self.is_sign(b"<=") {
+        if self.is_sign(Sign::LessOrEqual) {
             return Some(Op::Le);
         }
-        if self.is_sign(b">") {
+        if self.is_sign(Sign::Greater) {
             return Some(Op::Gt);
         }
-        if self.is_sign(b">=") {
+        if self.is_sign(Sign::GreaterOrEqual) {
             return Some(Op::Ge);
         }
         None
-    }
-}
-
-/// Whether the word is no name. Only the reserved words that begin as it does are looked at.
-pub fn is_reserved(text: &[u8]) -> bool
-    ensures { result ≡ reserved_test text.now }
-{
-    let Some((first, _)) = text.split_first() else {
-        return false;
-    };
-    match *first {
-        b'a' => contains(&[b"at".as_slice()], text),
-        b'b' => contains(&[b"batch".as_slice(), b"by".as_slice()], text),
-        b'c' => contains(&[b"commit".as_slice()], text),
-        b'd' => contains(&[b"delete".as_slice()], text),
-        b'e' => contains(&[b"end".as_slice()], text),
-        b'i' => contains(&[b"insert".as_slice(), b"int".as_slice()], text),
-        b'n' => contains(&[b"none".as_slice(), b"not".as_slice()], text),
-        b'p' => contains(&[b"program".as_slice(), b"print".as_slice()], text),
-        b'r' => contains(
-            &[
-                b"relation".as_slice(),
-                b"replace".as_slice(),
-                b"require".as_slice(),
-            ],
-            text,
-        ),
-        b's' => contains(
-            &[b"show".as_slice(), b"some".as_slice(), b"sym".as_slice()],
-            text,
-        ),
-        b'w' => contains(&[b"where".as_slice()], text),
-        _ => false,
     }
 }
 
@@ -107,11 +74,11 @@ pub fn not_allowed<T>() -> Result<T, Refusal>
 impl<'a> Cursor<'a> {
     /// Reads this very word.
     #[inline(always)]
-    pub fn word(&mut self, text: &[u8]) -> Result<(), Refusal>
-        ensures { Parses (λ x. Prim.tt) result self.old self.new (this_token same_shape (word_shape text.now)) }
+    pub fn word(&mut self, word: Reserved) -> Result<(), Refusal>
+        ensures { Parses (λ x. Prim.tt) result self.old self.new (this_token same_shape (word_shape (word_text word))) }
     {
         match self.peek() {
-            Some(first) if first.is_word(text) => {
+            Some(first) if first.is_word(word) => {
                 self.advance();
                 Ok(())
             }
@@ -121,11 +88,11 @@ impl<'a> Cursor<'a> {
 
     /// Reads this very sign.
     #[inline(always)]
-    pub fn sign(&mut self, text: &[u8]) -> Result<(), Refusal>
-        ensures { Parses (λ x. Prim.tt) result self.old self.new (this_token same_shape (sign_shape text.now)) }
+    pub fn sign(&mut self, sign: Sign) -> Result<(), Refusal>
+        ensures { Parses (λ x. Prim.tt) result self.old self.new (this_token same_shape (sign_shape (sign_text sign))) }
     {
         match self.peek() {
-            Some(first) if first.is_sign(text) => {
+            Some(first) if first.is_sign(sign) => {
                 self.advance();
                 Ok(())
             }
@@ -135,22 +102,22 @@ impl<'a> Cursor<'a> {
 
     /// Whether this word stands next.
     #[inline(always)]
-    pub fn word_stands(&self, text: &[u8]) -> bool
-        ensures { result ≡ stands (word_shape text.now) (shapes self.now) }
+    pub fn word_stands(&self, word: Reserved) -> bool
+        ensures { result ≡ stands (word_shape (word_text word)) (shapes self.now) }
     {
         match self.peek() {
-            Some(first) => first.is_word(text),
+            Some(first) => first.is_word(word),
             None => false,
         }
     }
 
     /// Whether this sign stands next.
     #[inline(always)]
-    pub fn sign_stands(&self, text: &[u8]) -> bool
-        ensures { result ≡ stands (sign_shape text.now) (shapes self.now) }
+    pub fn sign_stands(&self, sign: Sign) -> bool
+        ensures { result ≡ stands (sign_shape (sign_text sign)) (shapes self.now) }
     {
         match self.peek() {
-            Some(first) => first.is_sign(text),
+            Some(first) => first.is_sign(sign),
             None => false,
         }
     }
@@ -160,7 +127,7 @@ impl<'a> Cursor<'a> {
         ensures { result ≡ next_is word_test (shapes self.now) }
     {
         match self.peek() {
-            Some(first) => matches!(first.lexeme, Lexeme::Word(_)),
+            Some(first) => matches!(first.lexeme, Lexeme::Word(_) | Lexeme::Reserved(_)),
             None => false,
         }
     }
@@ -182,12 +149,12 @@ impl<'a> Cursor<'a> {
         match self.peek() {
             Some(
                 Token {
-                    lexeme: Lexeme::Word(label),
+                    lexeme: Lexeme::Word(word),
                     ..
                 },
-            ) if !is_reserved(label.bytes) => {
+            ) => {
                 self.advance();
-                Ok(label)
+                Ok(word.label)
             }
             _ => not_allowed(),
         }
@@ -237,8 +204,8 @@ impl<'a> Cursor<'a> {
     pub fn op(&mut self) -> Result<Op, Refusal>
         ensures { Parses (λ x. x) result self.old self.new op_at }
     {
-        if self.sign_stands(b"=") {
-            self.sign(b"=")?;
+        if self.sign_stands(Sign::Equal) {
+            self.sign(Sign::Equal)?;
             return Ok(Op::Eq);
         }
         self.other_op()
@@ -266,7 +233,7 @@ impl<'a> Cursor<'a> {
         ensures { result ≡ next_is is_plus (shapes self.now) }
     {
         match self.peek() {
-            Some(first) => first.is_sign(b"+") || first.is_sign(b"-"),
+            Some(first) => first.is_sign(Sign::Plus) || first.is_sign(Sign::Minus),
             None => false,
         }
     }
@@ -277,11 +244,11 @@ impl<'a> Cursor<'a> {
         ensures { Parses (λ b. b) result self.old self.new plus_at }
     {
         match self.peek() {
-            Some(first) if first.is_sign(b"+") => {
+            Some(first) if first.is_sign(Sign::Plus) => {
                 self.advance();
                 Ok(false)
             }
-            Some(first) if first.is_sign(b"-") => {
+            Some(first) if first.is_sign(Sign::Minus) => {
                 self.advance();
                 Ok(true)
             }
@@ -295,11 +262,11 @@ impl<'a> Cursor<'a> {
         ensures { Parses (λ b. b) result self.old self.new need_at }
     {
         match self.peek() {
-            Some(first) if first.is_word(b"some") => {
+            Some(first) if first.is_word(Reserved::Some) => {
                 self.advance();
                 Ok(true)
             }
-            Some(first) if first.is_word(b"none") => {
+            Some(first) if first.is_word(Reserved::None) => {
                 self.advance();
                 Ok(false)
             }
@@ -313,11 +280,11 @@ impl<'a> Cursor<'a> {
         ensures { Parses (λ k. k) result self.old self.new kind_at }
     {
         match self.peek() {
-            Some(first) if first.is_word(b"int") => {
+            Some(first) if first.is_word(Reserved::Int) => {
                 self.advance();
                 Ok(Kind::Int)
             }
-            Some(first) if first.is_word(b"sym") => {
+            Some(first) if first.is_word(Reserved::Sym) => {
                 self.advance();
                 Ok(Kind::Sym)
             }

@@ -1,8 +1,7 @@
 //! How far a run of bytes at the front goes. Each is one pass over the run.
 ghost use Rattle.std.specs.Prelude.{◌≡◌, ◌≤◌, length, not, ◌==◌};
 ghost use Rattle.std.specs.List.{prefix_len};
-ghost use Rattle.lt_model.specs.Tokens.{in_word as is_in_word, is_digit as is_a_digit, sign_at};
-ghost use Rattle.lt_script.specs.Signs.{sign_of};
+ghost use Rattle.lt_model.specs.Tokens.{in_word as is_in_word, is_digit as is_a_digit};
 
 // Most bytes of words are letters, so these are looked at first.
 fn in_word(byte: u8) -> bool
@@ -48,20 +47,4 @@ pub fn line_len(bytes: &[u8]) -> usize
         }
     }
     bytes.len()
-}
-
-/// How many bytes the sign at the front has; 0 where none stands there.
-pub fn sign_len(bytes: &[u8]) -> usize
-    ensures sign { sign_at bytes.now ≡ sign_of result bytes.now }
-    ensures within { result ≤ length bytes.now }
-{
-    match bytes {
-        [b'!' | b'<' | b'>', b'=', ..] => 2,
-        [b'-', b'>', ..] => 2,
-        [
-            b'(' | b')' | b',' | b';' | b'=' | b'<' | b'>' | b'+' | b'-',
-            ..
-        ] => 1,
-        _ => 0,
-    }
 }

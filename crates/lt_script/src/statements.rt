@@ -14,6 +14,7 @@ use crate::cursor::Cursor;
 use crate::names::has_few_names;
 use crate::one_token::not_allowed;
 use crate::refusal::{Cause, Refusal};
+use crate::reserved::{Reserved, Sign};
 use crate::tree::{Head, Literal, Statement};
 use lt_face::limits::MOST_STATEMENTS;
 use std::alloc::Global;
@@ -32,7 +33,7 @@ impl<'a> Cursor<'a> {
     fn insert(&mut self, alloc: Global) -> Result<Statement<'a>, Refusal>
         ensures { Parses statement_of result self.old self.new (given (λ x. insert x.0 x.1) insert_at) }
     {
-        self.word(b"insert")?;
+        self.word(Reserved::Insert)?;
         let (head, body) = self.rule(alloc)?;
         Ok(Statement::Insert { head, body })
     }
@@ -41,7 +42,7 @@ impl<'a> Cursor<'a> {
     fn delete(&mut self, alloc: Global) -> Result<Statement<'a>, Refusal>
         ensures { Parses statement_of result self.old self.new (given (λ x. delete x.0 x.1) delete_at) }
     {
-        self.word(b"delete")?;
+        self.word(Reserved::Delete)?;
         let (head, body) = self.rule(alloc)?;
         Ok(Statement::Delete { head, body })
     }
@@ -50,9 +51,9 @@ impl<'a> Cursor<'a> {
     fn replace(&mut self, alloc: Global) -> Result<Statement<'a>, Refusal>
         ensures { Parses statement_of result self.old self.new (given (λ x. replace x.0 x.1.0 x.1.1) replace_at) }
     {
-        self.word(b"replace")?;
+        self.word(Reserved::Replace)?;
         let gone = self.head(alloc)?;
-        self.word(b"by")?;
+        self.word(Reserved::By)?;
         let (come, body) = self.rule(alloc)?;
         Ok(Statement::Replace { gone, come, body })
     }
@@ -61,7 +62,7 @@ impl<'a> Cursor<'a> {
     fn require(&mut self, alloc: Global) -> Result<Statement<'a>, Refusal>
         ensures { Parses statement_of result self.old self.new (given (λ x. require x.0 x.1.0 x.1.1) require_at) }
     {
-        self.word(b"require")?;
+        self.word(Reserved::Require)?;
         let some = self.need()?;
         let body = self.body(alloc)?;
         Ok(Statement::Require { some, body })
@@ -71,9 +72,9 @@ impl<'a> Cursor<'a> {
     fn print(&mut self, alloc: Global) -> Result<Statement<'a>, Refusal>
         ensures { Parses statement_of result self.old self.new (given (λ x. print x.0.0 x.0.1 x.1.0 x.1.1) print_at) }
     {
-        self.word(b"print")?;
+        self.word(Reserved::Print)?;
         let terms = self.terms(alloc)?;
-        self.word(b"where")?;
+        self.word(Reserved::Where)?;
         let body = self.body(alloc)?;
         Ok(Statement::Print { terms, body })
     }
@@ -83,16 +84,16 @@ impl<'a> Cursor<'a> {
     fn form(&mut self, alloc: Global) -> Result<Statement<'a>, Refusal>
         ensures { Parses statement_of result self.old self.new form_at }
     {
-        if self.word_stands(b"insert") {
+        if self.word_stands(Reserved::Insert) {
             return self.insert(alloc);
         }
-        if self.word_stands(b"delete") {
+        if self.word_stands(Reserved::Delete) {
             return self.delete(alloc);
         }
-        if self.word_stands(b"replace") {
+        if self.word_stands(Reserved::Replace) {
             return self.replace(alloc);
         }
-        if self.word_stands(b"require") {
+        if self.word_stands(Reserved::Require) {
             return self.require(alloc);
         }
         self.print(alloc)
@@ -103,13 +104,13 @@ impl<'a> Cursor<'a> {
     fn close(&mut self, alloc: Global, statement: &Statement<'a>) -> Result<(), Refusal>
         ensures { Parses (λ x. statement_of statement.now) result self.old self.new (closing (λ t. same_shape t semicolon) (few_names (statement_of statement.now)) (statement_of statement.now)) }
     {
-        if !self.sign_stands(b";") {
+        if !self.sign_stands(Sign::Semicolon) {
             return not_allowed();
         }
         if !has_few_names(alloc, statement)? {
             return Err(Refusal::Fault(Cause::TooFull));
         }
-        self.sign(b";")
+        self.sign(Sign::Semicolon)
     }
 
     // A statement and the semicolon that ends it.
@@ -128,11 +129,11 @@ impl<'a> Cursor<'a> {
     {
         match self.peek() {
             Some(first) => {
-                first.is_word(b"insert")
-                    || first.is_word(b"delete")
-                    || first.is_word(b"replace")
-                    || first.is_word(b"require")
-                    || first.is_word(b"print")
+                first.is_word(Reserved::Insert)
+                    || first.is_word(Reserved::Delete)
+                    || first.is_word(Reserved::Replace)
+                    || first.is_word(Reserved::Require)
+                    || first.is_word(Reserved::Print)
             }
             None => false,
         }

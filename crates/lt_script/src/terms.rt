@@ -11,8 +11,8 @@ ghost use Rattle.lt_script.specs.Tree.{term_of, terms_of, head_of};
 ghost use Rattle.lt_script.specs.Parsed.{Parses, Refuses, further};
 
 use crate::cursor::Cursor;
-use crate::one_token::is_reserved;
 use crate::refusal::{Cause, Refusal};
+use crate::reserved::Sign;
 use crate::token::Lexeme;
 use crate::tree::{Head, Term, Terms};
 use lt_face::limits::MOST_COLUMNS;
@@ -32,8 +32,8 @@ impl<'a> Cursor<'a> {
     pub fn constant(&mut self) -> Result<Term<'a>, Refusal>
         ensures { Parses term_of result self.old self.new constant_at }
     {
-        if self.sign_stands(b"-") {
-            self.sign(b"-")?;
+        if self.sign_stands(Sign::Minus) {
+            self.sign(Sign::Minus)?;
             return self.numeral(true);
         }
         if self.number_stands() {
@@ -61,10 +61,11 @@ impl<'a> Cursor<'a> {
     {
         match self.peek() {
             Some(first) => match first.lexeme {
-                Lexeme::Word(label) => !is_reserved(label.bytes),
+                Lexeme::Word(_) => true,
+                Lexeme::Reserved(_) => false,
                 Lexeme::Number(_) => true,
                 Lexeme::Symbol(_) => true,
-                Lexeme::Sign(_) => first.is_sign(b"-"),
+                Lexeme::Sign(_) => first.is_sign(Sign::Minus),
             },
             None => false,
         }
@@ -86,7 +87,7 @@ impl<'a> Cursor<'a> {
     fn next_term(&mut self) -> Result<Term<'a>, Refusal>
         ensures { Parses term_of result self.old self.new (led same_shape comma term_at) }
     {
-        self.sign(b",")?;
+        self.sign(Sign::Comma)?;
         let term = self.term()?;
         Ok(term)
     }
@@ -98,7 +99,7 @@ impl<'a> Cursor<'a> {
     {
         let mut terms = Terms::new(alloc);
         terms.push(first)?;
-        'terms: while self.sign_stands(b",") {
+        'terms: while self.sign_stands(Sign::Comma) {
             if terms.len() == MOST_COLUMNS {
                 return Err(self.too_many_terms());
             }
@@ -113,10 +114,10 @@ impl<'a> Cursor<'a> {
     pub fn terms(&mut self, alloc: Global) -> Result<Terms<'a>, Refusal>
         ensures { Parses (λ v. terms_of v.items) result self.old self.new terms_at }
     {
-        self.sign(b"(")?;
+        self.sign(Sign::Open)?;
         let first = self.term()?;
         let terms = self.further_terms(alloc, first)?;
-        self.sign(b")")?;
+        self.sign(Sign::Close)?;
         Ok(terms)
     }
 
