@@ -7,31 +7,31 @@ use Rattle.lt_model.specs.declared.kind.Kind.{Kind}
 use Rattle.lt_model.specs.Tokens.{Shape}
 use Rattle.lt_model.specs.Grammar.{left_paren, where_word, semicolon, comma, arrow}
 use Rattle.lt_grammar.specs.Tokens.{same_shape, minus, equals, not_word, insert_word, delete_word, replace_word, require_word, at_word, relation_word, batch_word}
-use Rattle.lt_grammar.specs.Productions.{stands, is_word, is_number, name_at, number_at, quoted_at, constant_of, constant_at, term_of, term_at, terms_at, op_at, other_op_at, plus_at, is_plus, equation_at, rest_at, head_at, literal_of, literal_at, body_at, where_of, where_at, insert_at, delete_at, replace_at, require_at, print_at, form_of, form_at, is_at, item_of, item_at, relation_at, batch_at, show_at, kind_at, starts_kind}
-use Rattle.lt_grammar.specs.Grammar.{absent, insert, delete, replace, require, print, relation, batch, show}
+use Rattle.lt_grammar.specs.Productions.{stands, is_word, is_number, name_at, quoted_at, op_at, other_op_at, plus_at, is_plus, is_at, relation_at, kind_at, starts_kind}
+use Rattle.lt_script.specs.Valued.{valued_number_at, constant_of, valued_constant_at, term_of, valued_term_at, valued_terms_at, valued_equation_at, valued_rest_at, valued_head_at, literal_of, valued_literal_at, valued_body_at, where_of, valued_where_at, insert_of, delete_of, replace_of, require_of, print_of, valued_insert_at, valued_delete_at, valued_replace_at, valued_require_at, valued_print_at, form_of, valued_form_at, relation_of, batch_of, show_of, item_of, valued_item_at, valued_batch_at, valued_show_at}
 
-pub constant_minus : (ts : List Shape) → stands minus ts ≡ true → constant_at ts ≡ given constant_of (given (λ x. inl x) (led same_shape minus (number_at true))) ts
-unfolding constant_at
+pub constant_minus : (ts : List Shape) → stands minus ts ≡ true → valued_constant_at ts ≡ given constant_of (given (λ x. inl x) (led same_shape minus (valued_number_at true))) ts
+unfolding valued_constant_at
 constant_minus [] h = absurd cc
 constant_minus (t ∷ ts) h = rw h refl
 
-pub constant_number : (ts : List Shape) → stands minus ts ≡ false → next_is is_number ts ≡ true → constant_at ts ≡ given constant_of (given (λ x. inr x) (given (λ x. inl x) (number_at false))) ts
-unfolding constant_at
+pub constant_number : (ts : List Shape) → stands minus ts ≡ false → next_is is_number ts ≡ true → valued_constant_at ts ≡ given constant_of (given (λ x. inr x) (given (λ x. inl x) (valued_number_at false))) ts
+unfolding valued_constant_at
 constant_number [] h k = absurd cc
 constant_number (t ∷ ts) h k = rw (h, k) refl
 
-pub constant_quoted : (ts : List Shape) → stands minus ts ≡ false → next_is is_number ts ≡ false → constant_at ts ≡ given constant_of (given (λ x. inr x) (given (λ x. inr x) quoted_at)) ts
-unfolding constant_at
+pub constant_quoted : (ts : List Shape) → stands minus ts ≡ false → next_is is_number ts ≡ false → valued_constant_at ts ≡ given constant_of (given (λ x. inr x) (given (λ x. inr x) quoted_at)) ts
+unfolding valued_constant_at
 constant_quoted [] h k = refl
 constant_quoted (t ∷ ts) h k = rw (h, k) refl
 
-pub term_name : (ts : List Shape) → next_is is_word ts ≡ true → term_at ts ≡ given term_of (given (λ x. inl x) name_at) ts
-unfolding term_at
+pub term_name : (ts : List Shape) → next_is is_word ts ≡ true → valued_term_at ts ≡ given term_of (given (λ x. inl x) name_at) ts
+unfolding valued_term_at
 term_name [] h = absurd cc
 term_name (t ∷ ts) h = rw h refl
 
-pub term_constant : (ts : List Shape) → next_is is_word ts ≡ false → term_at ts ≡ given term_of (given (λ x. inr x) constant_at) ts
-unfolding term_at constant_at
+pub term_constant : (ts : List Shape) → next_is is_word ts ≡ false → valued_term_at ts ≡ given term_of (given (λ x. inr x) valued_constant_at) ts
+unfolding valued_term_at valued_constant_at
 term_constant [] h = refl
 term_constant (t ∷ ts) h = rw h refl
 
@@ -47,28 +47,28 @@ op_other (t ∷ ts) h = rw h refl
 
 -- ---- equations: what stands behind the first term
 
-pub equation_sum : (ts : List Shape) → next_is is_plus ts ≡ true → maybe is_plus (both plus_at term_at) ts ≡ given (λ x. Some x) (both plus_at term_at) ts
+pub equation_sum : (ts : List Shape) → next_is is_plus ts ≡ true → maybe is_plus (both plus_at valued_term_at) ts ≡ given (λ x. Some x) (both plus_at valued_term_at) ts
 equation_sum [] h = absurd cc
 equation_sum (t ∷ ts) h = rw h refl
 
-pub equation_plain : (ts : List Shape) → next_is is_plus ts ≡ false → maybe is_plus (both plus_at term_at) ts ≡ Ok (None, ts)
+pub equation_plain : (ts : List Shape) → next_is is_plus ts ≡ false → maybe is_plus (both plus_at valued_term_at) ts ≡ Ok (None, ts)
 equation_plain [] h = refl
 equation_plain (t ∷ ts) h = rw h refl
 
 -- ---- what follows a name
 
-pub rest_atom : (ts : List Shape) → stands left_paren ts ≡ true → rest_at ts ≡ given (λ x. inl x) terms_at ts
-unfolding rest_at
+pub rest_atom : (ts : List Shape) → stands left_paren ts ≡ true → valued_rest_at ts ≡ given (λ x. inl x) valued_terms_at ts
+unfolding valued_rest_at
 rest_atom [] h = absurd cc
 rest_atom (t ∷ ts) h = rw h refl
 
-pub rest_equation : (ts : List Shape) → stands left_paren ts ≡ false → stands equals ts ≡ true → rest_at ts ≡ given (λ x. inr x) (given (λ x. inl x) equation_at) ts
-unfolding rest_at
+pub rest_equation : (ts : List Shape) → stands left_paren ts ≡ false → stands equals ts ≡ true → valued_rest_at ts ≡ given (λ x. inr x) (given (λ x. inl x) valued_equation_at) ts
+unfolding valued_rest_at
 rest_equation [] h k = absurd cc
 rest_equation (t ∷ ts) h k = rw (h, k) refl
 
-pub rest_other : (ts : List Shape) → stands left_paren ts ≡ false → stands equals ts ≡ false → rest_at ts ≡ given (λ x. inr x) (given (λ x. inr x) (both other_op_at term_at)) ts
-unfolding rest_at other_op_at
+pub rest_other : (ts : List Shape) → stands left_paren ts ≡ false → stands equals ts ≡ false → valued_rest_at ts ≡ given (λ x. inr x) (given (λ x. inr x) (both other_op_at valued_term_at)) ts
+unfolding valued_rest_at other_op_at
 rest_other [] h k = refl
 rest_other (t ∷ ts) h k = rw (h, k) refl
 
@@ -86,61 +86,61 @@ again f g r ts = go f g (r ts)
 
 -- ---- literals
 
-pub literal_absent : (ts : List Shape) → stands not_word ts ≡ true → literal_at ts ≡ given absent (led same_shape not_word head_at) ts
-unfolding literal_at
+pub literal_absent : (ts : List Shape) → stands not_word ts ≡ true → valued_literal_at ts ≡ given (λ x. literal_of (inl x)) (led same_shape not_word valued_head_at) ts
+unfolding valued_literal_at
 literal_absent [] h = absurd cc
 literal_absent (t ∷ ts) h =
-    ap (λ b. cond b (given (λ x. inl x) (led same_shape not_word head_at) (t ∷ ts)) (given (λ x. inr x) (choice is_word (both name_at rest_at) (both constant_at (both op_at term_at))) (t ∷ ts)) >>= λ x. Ok (literal_of x.0, x.1)) h
-    ∙ again (λ x. inl x) literal_of (led same_shape not_word head_at) (t ∷ ts)
+    ap (λ b. cond b (given (λ x. inl x) (led same_shape not_word valued_head_at) (t ∷ ts)) (given (λ x. inr x) (choice is_word (both name_at valued_rest_at) (both valued_constant_at (both op_at valued_term_at))) (t ∷ ts)) >>= λ x. Ok (literal_of x.0, x.1)) h
+    ∙ again (λ x. inl x) literal_of (led same_shape not_word valued_head_at) (t ∷ ts)
 
-pub literal_named : (ts : List Shape) → stands not_word ts ≡ false → next_is is_word ts ≡ true → literal_at ts ≡ given (λ x. literal_of (inr x)) (given (λ x. inl x) (both name_at rest_at)) ts
-unfolding literal_at
+pub literal_named : (ts : List Shape) → stands not_word ts ≡ false → next_is is_word ts ≡ true → valued_literal_at ts ≡ given (λ x. literal_of (inr x)) (given (λ x. inl x) (both name_at valued_rest_at)) ts
+unfolding valued_literal_at
 literal_named [] k h = absurd cc
-literal_named (t ∷ ts) k h = rw (k, h) (again (λ x. inr x) literal_of (given (λ x. inl x) (both name_at rest_at)) (t ∷ ts))
+literal_named (t ∷ ts) k h = rw (k, h) (again (λ x. inr x) literal_of (given (λ x. inl x) (both name_at valued_rest_at)) (t ∷ ts))
 
-pub literal_constant : (ts : List Shape) → stands not_word ts ≡ false → next_is is_word ts ≡ false → literal_at ts ≡ given (λ x. literal_of (inr x)) (given (λ x. inr x) (both constant_at (both op_at term_at))) ts
-unfolding literal_at constant_at
+pub literal_constant : (ts : List Shape) → stands not_word ts ≡ false → next_is is_word ts ≡ false → valued_literal_at ts ≡ given (λ x. literal_of (inr x)) (given (λ x. inr x) (both valued_constant_at (both op_at valued_term_at))) ts
+unfolding valued_literal_at valued_constant_at
 literal_constant [] k h = refl
-literal_constant (t ∷ ts) k h = rw (k, h) (again (λ x. inr x) literal_of (given (λ x. inr x) (both constant_at (both op_at term_at))) (t ∷ ts))
+literal_constant (t ∷ ts) k h = rw (k, h) (again (λ x. inr x) literal_of (given (λ x. inr x) (both valued_constant_at (both op_at valued_term_at))) (t ∷ ts))
 
 -- ---- `where` parts
 
-pub where_some : (ts : List Shape) → stands where_word ts ≡ true → where_at ts ≡ given where_of (given (λ x. Some x) (led same_shape where_word body_at)) ts
-unfolding where_at
+pub where_some : (ts : List Shape) → stands where_word ts ≡ true → valued_where_at ts ≡ given where_of (given (λ x. Some x) (led same_shape where_word valued_body_at)) ts
+unfolding valued_where_at
 where_some [] h = absurd cc
 where_some (t ∷ ts) h = rw h refl
 
-pub where_none : (ts : List Shape) → stands where_word ts ≡ false → where_at ts ≡ Ok ([], ts)
-unfolding where_at
+pub where_none : (ts : List Shape) → stands where_word ts ≡ false → valued_where_at ts ≡ Ok ([], ts)
+unfolding valued_where_at
 where_none [] h = refl
 where_none (t ∷ ts) h = rw h refl
 
 -- ---- statements up to their semicolon
 
-pub form_insert : (ts : List Shape) → stands insert_word ts ≡ true → form_at ts ≡ given (λ x. insert x.0 x.1) insert_at ts
-unfolding form_at
+pub form_insert : (ts : List Shape) → stands insert_word ts ≡ true → valued_form_at ts ≡ given insert_of valued_insert_at ts
+unfolding valued_form_at
 form_insert [] h0 = absurd cc
-form_insert (t ∷ ts) h0 = rw (h0) (again (λ x. inl x) form_of insert_at (t ∷ ts))
+form_insert (t ∷ ts) h0 = rw (h0) (again (λ x. inl x) form_of valued_insert_at (t ∷ ts))
 
-pub form_delete : (ts : List Shape) → stands insert_word ts ≡ false → stands delete_word ts ≡ true → form_at ts ≡ given (λ x. delete x.0 x.1) delete_at ts
-unfolding form_at
+pub form_delete : (ts : List Shape) → stands insert_word ts ≡ false → stands delete_word ts ≡ true → valued_form_at ts ≡ given delete_of valued_delete_at ts
+unfolding valued_form_at
 form_delete [] h0 h1 = absurd cc
-form_delete (t ∷ ts) h0 h1 = rw (h0, h1) (again (λ x. inr x) form_of (given (λ x. inl x) delete_at) (t ∷ ts) ∙ again (λ x. inl x) (λ x. form_of (inr x)) delete_at (t ∷ ts))
+form_delete (t ∷ ts) h0 h1 = rw (h0, h1) (again (λ x. inr x) form_of (given (λ x. inl x) valued_delete_at) (t ∷ ts) ∙ again (λ x. inl x) (λ x. form_of (inr x)) valued_delete_at (t ∷ ts))
 
-pub form_replace : (ts : List Shape) → stands insert_word ts ≡ false → stands delete_word ts ≡ false → stands replace_word ts ≡ true → form_at ts ≡ given (λ x. replace x.0 x.1.0 x.1.1) replace_at ts
-unfolding form_at
+pub form_replace : (ts : List Shape) → stands insert_word ts ≡ false → stands delete_word ts ≡ false → stands replace_word ts ≡ true → valued_form_at ts ≡ given replace_of valued_replace_at ts
+unfolding valued_form_at
 form_replace [] h0 h1 h2 = absurd cc
-form_replace (t ∷ ts) h0 h1 h2 = rw (h0, h1, h2) (again (λ x. inr x) form_of (given (λ x. inr x) (given (λ x. inl x) replace_at)) (t ∷ ts) ∙ again (λ x. inr x) (λ x. form_of (inr x)) (given (λ x. inl x) replace_at) (t ∷ ts) ∙ again (λ x. inl x) (λ x. form_of (inr (inr x))) replace_at (t ∷ ts))
+form_replace (t ∷ ts) h0 h1 h2 = rw (h0, h1, h2) (again (λ x. inr x) form_of (given (λ x. inr x) (given (λ x. inl x) valued_replace_at)) (t ∷ ts) ∙ again (λ x. inr x) (λ x. form_of (inr x)) (given (λ x. inl x) valued_replace_at) (t ∷ ts) ∙ again (λ x. inl x) (λ x. form_of (inr (inr x))) valued_replace_at (t ∷ ts))
 
-pub form_require : (ts : List Shape) → stands insert_word ts ≡ false → stands delete_word ts ≡ false → stands replace_word ts ≡ false → stands require_word ts ≡ true → form_at ts ≡ given (λ x. require x.0 x.1.0 x.1.1) require_at ts
-unfolding form_at
+pub form_require : (ts : List Shape) → stands insert_word ts ≡ false → stands delete_word ts ≡ false → stands replace_word ts ≡ false → stands require_word ts ≡ true → valued_form_at ts ≡ given require_of valued_require_at ts
+unfolding valued_form_at
 form_require [] h0 h1 h2 h3 = absurd cc
-form_require (t ∷ ts) h0 h1 h2 h3 = rw (h0, h1, h2, h3) (again (λ x. inr x) form_of (given (λ x. inr x) (given (λ x. inr x) (given (λ x. inl x) require_at))) (t ∷ ts) ∙ again (λ x. inr x) (λ x. form_of (inr x)) (given (λ x. inr x) (given (λ x. inl x) require_at)) (t ∷ ts) ∙ again (λ x. inr x) (λ x. form_of (inr (inr x))) (given (λ x. inl x) require_at) (t ∷ ts) ∙ again (λ x. inl x) (λ x. form_of (inr (inr (inr x)))) require_at (t ∷ ts))
+form_require (t ∷ ts) h0 h1 h2 h3 = rw (h0, h1, h2, h3) (again (λ x. inr x) form_of (given (λ x. inr x) (given (λ x. inr x) (given (λ x. inl x) valued_require_at))) (t ∷ ts) ∙ again (λ x. inr x) (λ x. form_of (inr x)) (given (λ x. inr x) (given (λ x. inl x) valued_require_at)) (t ∷ ts) ∙ again (λ x. inr x) (λ x. form_of (inr (inr x))) (given (λ x. inl x) valued_require_at) (t ∷ ts) ∙ again (λ x. inl x) (λ x. form_of (inr (inr (inr x)))) valued_require_at (t ∷ ts))
 
-pub form_print : (ts : List Shape) → stands insert_word ts ≡ false → stands delete_word ts ≡ false → stands replace_word ts ≡ false → stands require_word ts ≡ false → form_at ts ≡ given (λ x. print x.0.0 x.0.1 x.1.0 x.1.1) print_at ts
-unfolding form_at print_at
+pub form_print : (ts : List Shape) → stands insert_word ts ≡ false → stands delete_word ts ≡ false → stands replace_word ts ≡ false → stands require_word ts ≡ false → valued_form_at ts ≡ given print_of valued_print_at ts
+unfolding valued_form_at valued_print_at
 form_print [] h0 h1 h2 h3 = refl
-form_print (t ∷ ts) h0 h1 h2 h3 = rw (h0, h1, h2, h3) (again (λ x. inr x) form_of (given (λ x. inr x) (given (λ x. inr x) (given (λ x. inr x) print_at))) (t ∷ ts) ∙ again (λ x. inr x) (λ x. form_of (inr x)) (given (λ x. inr x) (given (λ x. inr x) print_at)) (t ∷ ts) ∙ again (λ x. inr x) (λ x. form_of (inr (inr x))) (given (λ x. inr x) print_at) (t ∷ ts) ∙ again (λ x. inr x) (λ x. form_of (inr (inr (inr x)))) print_at (t ∷ ts))
+form_print (t ∷ ts) h0 h1 h2 h3 = rw (h0, h1, h2, h3) (again (λ x. inr x) form_of (given (λ x. inr x) (given (λ x. inr x) (given (λ x. inr x) valued_print_at))) (t ∷ ts) ∙ again (λ x. inr x) (λ x. form_of (inr x)) (given (λ x. inr x) (given (λ x. inr x) valued_print_at)) (t ∷ ts) ∙ again (λ x. inr x) (λ x. form_of (inr (inr x))) (given (λ x. inr x) valued_print_at) (t ∷ ts) ∙ again (λ x. inr x) (λ x. form_of (inr (inr (inr x)))) valued_print_at (t ∷ ts))
 
 -- ---- the semicolon that ends a statement
 
@@ -158,30 +158,30 @@ close_ends w x (t ∷ ts) h k = rw (h, k) refl
 
 -- ---- versions
 
-pub version_some : (ts : List Shape) → stands at_word ts ≡ true → maybe is_at (led same_shape at_word (number_at false)) ts ≡ given (λ x. Some x) (led same_shape at_word (number_at false)) ts
+pub version_some : (ts : List Shape) → stands at_word ts ≡ true → maybe is_at (led same_shape at_word (valued_number_at false)) ts ≡ given (λ x. Some x) (led same_shape at_word (valued_number_at false)) ts
 version_some [] h = absurd cc
 version_some (t ∷ ts) h = rw h refl
 
-pub version_none : (ts : List Shape) → stands at_word ts ≡ false → maybe is_at (led same_shape at_word (number_at false)) ts ≡ Ok (None, ts)
+pub version_none : (ts : List Shape) → stands at_word ts ≡ false → maybe is_at (led same_shape at_word (valued_number_at false)) ts ≡ Ok (None, ts)
 version_none [] h = refl
 version_none (t ∷ ts) h = rw h refl
 
 -- ---- items
 
-pub item_relation : (ts : List Shape) → stands relation_word ts ≡ true → item_at ts ≡ given (λ x. relation x.0 x.1.0.0 x.1.0.1 x.1.1) relation_at ts
-unfolding item_at
+pub item_relation : (ts : List Shape) → stands relation_word ts ≡ true → valued_item_at ts ≡ given relation_of relation_at ts
+unfolding valued_item_at
 item_relation [] h = absurd cc
 item_relation (t ∷ ts) h = rw h (again (λ x. inl x) item_of relation_at (t ∷ ts))
 
-pub item_batch : (ts : List Shape) → stands relation_word ts ≡ false → stands batch_word ts ≡ true → item_at ts ≡ given (λ x. batch x) batch_at ts
-unfolding item_at
+pub item_batch : (ts : List Shape) → stands relation_word ts ≡ false → stands batch_word ts ≡ true → valued_item_at ts ≡ given batch_of valued_batch_at ts
+unfolding valued_item_at
 item_batch [] h k = absurd cc
-item_batch (t ∷ ts) h k = rw (h, k) (again (λ x. inr x) item_of (given (λ x. inl x) batch_at) (t ∷ ts) ∙ again (λ x. inl x) (λ x. item_of (inr x)) batch_at (t ∷ ts))
+item_batch (t ∷ ts) h k = rw (h, k) (again (λ x. inr x) item_of (given (λ x. inl x) valued_batch_at) (t ∷ ts) ∙ again (λ x. inl x) (λ x. item_of (inr x)) valued_batch_at (t ∷ ts))
 
-pub item_show : (ts : List Shape) → stands relation_word ts ≡ false → stands batch_word ts ≡ false → item_at ts ≡ given (λ x. show x.0 x.1) show_at ts
-unfolding item_at show_at
+pub item_show : (ts : List Shape) → stands relation_word ts ≡ false → stands batch_word ts ≡ false → valued_item_at ts ≡ given show_of valued_show_at ts
+unfolding valued_item_at valued_show_at
 item_show [] h k = refl
-item_show (t ∷ ts) h k = rw (h, k) (again (λ x. inr x) item_of (given (λ x. inr x) show_at) (t ∷ ts) ∙ again (λ x. inr x) (λ x. item_of (inr x)) show_at (t ∷ ts))
+item_show (t ∷ ts) h k = rw (h, k) (again (λ x. inr x) item_of (given (λ x. inr x) valued_show_at) (t ∷ ts) ∙ again (λ x. inr x) (λ x. item_of (inr x)) valued_show_at (t ∷ ts))
 
 -- ---- value columns
 

@@ -1,17 +1,14 @@
 -- How many names there are, at most.
-use Rattle.std.proofs.Common.{◌≡◌, ℕ, ◌+◌, ◌≤◌, Bool, true, false, nat_le, List, [], ◌∷◌, ◌++◌, length, map, Option, Some, None, sym, subst, length-append, arith}
+use Rattle.std.proofs.Common.{◌≡◌, ℕ, ◌+◌, ◌≤◌, Bool, true, false, nat_le, List, [], ◌∷◌, ◌++◌, length, Option, Some, None, sym, length-append, arith}
 use Rattle.std.specs.Prelude.{fold, IfSome, if◌then◌else◌}
-use Rattle.std.specs.List.{flat_map, list_any}
+use Rattle.std.specs.List.{list_any}
 use Rattle.std.specs.Str.{bytes_eq}
 use Rattle.std.proofs.lemmas.Bool.{le-leb}
 use Rattle.lt_model.specs.Variables.{with_name}
-use Rattle.lt_grammar.specs.Grammar as grammar
-use Rattle.lt_grammar.specs.Grammar.{term_names, terms_names, head_names, literal_names, body_names}
-use Rattle.lt_script.specs.declared.tree.Term.{Term}
-use Rattle.lt_script.specs.declared.tree.Head.{Head}
-use Rattle.lt_script.specs.declared.tree.Literal.{Literal}
-use Rattle.lt_script.specs.Tree.{term_of, terms_of, head_of, literal_of, literals_of, body_of}
-use Rattle.lt_script.proofs.Splitting.{argument_names, bodys_names}
+use Rattle.lt_model.specs.declared.syntax.Term.{Term}
+use Rattle.lt_model.specs.declared.syntax.Term.TheVariants.{Name, Cell}
+use Rattle.lt_model.specs.declared.syntax.Literal.{Literal}
+use Rattle.lt_script.specs.Names.{term_names, terms_names, body_names}
 
 -- ---- names without repeats
 
@@ -34,41 +31,30 @@ few_in_all names h = let n = fold_few [] names in sym (le-leb _ _ (omega arith))
 
 -- ---- names of terms and of bodies
 
-one_at_most : (t : grammar.Term) → length (term_names t) ≤ 1
-one_at_most (grammar.name text) = omega arith
-one_at_most (grammar.numeral m digits) = omega arith
-one_at_most (grammar.quoted text) = omega arith
+one_at_most : (t : Term) → length (term_names t) ≤ 1
+one_at_most (Name text) = omega arith
+one_at_most (Cell kind cell) = omega arith
 
-each_once : (ts : List Term) → length (flat_map term_names (map term_of ts)) ≤ length ts
-each_once [] = omega arith
-each_once (t ∷ ts) =
-    let n = length-append (term_names (term_of t)) (flat_map term_names (map term_of ts)) in
-    let first = one_at_most (term_of t) in
-    let others = each_once ts in
+pub few_arguments : (ts : List Term) → length (terms_names ts) ≤ length ts
+few_arguments [] = omega arith
+few_arguments (t ∷ ts) =
+    let n = length-append (term_names t) (terms_names ts) in
+    let first = one_at_most t in
+    let others = few_arguments ts in
     omega arith
 
-pub few_arguments : (ts : List Term) → length (terms_names (terms_of ts).0 (terms_of ts).1) ≤ length ts
-few_arguments ts = subst (λ (names : List (List ℕ)). length names ≤ length ts) (sym (argument_names ts)) (each_once ts)
-
-pub few_in_rule : (h : Head) (ls : List Literal) → length (head_names (head_of h) ++ body_names (literals_of ls)) ≤ length h.terms.items + length (flat_map literal_names (map literal_of ls))
-few_in_rule h ls =
-    let n = length-append (head_names (head_of h)) (body_names (literals_of ls)) in
-    let first = few_arguments h.terms.items in
+pub few_in_rule : (ts : List Term) (ls : List Literal) → length (terms_names ts ++ body_names ls) ≤ length ts + length (body_names ls)
+few_in_rule ts ls =
+    let n = length-append (terms_names ts) (body_names ls) in
+    let first = few_arguments ts in
     omega arith
 
-pub few_in_two : (gone come : Head) (ls : List Literal) → length (head_names (head_of gone) ++ (head_names (head_of come) ++ body_names (literals_of ls))) ≤ length gone.terms.items + (length come.terms.items + length (flat_map literal_names (map literal_of ls)))
+pub few_in_two : (gone come : List Term) (ls : List Literal) → length (terms_names gone ++ (terms_names come ++ body_names ls)) ≤ length gone + (length come + length (body_names ls))
 few_in_two gone come ls =
-    let n = length-append (head_names (head_of gone)) (head_names (head_of come) ++ body_names (literals_of ls)) in
-    let first = few_arguments gone.terms.items in
+    let n = length-append (terms_names gone) (terms_names come ++ body_names ls) in
+    let first = few_arguments gone in
     let others = few_in_rule come ls in
     omega arith
-
-pub few_in_print : (ts : List Term) (ls : List Literal) → length (terms_names (terms_of ts).0 (terms_of ts).1 ++ body_names ((body_of ls).0 ∷ (body_of ls).1)) ≤ length ts + length (flat_map literal_names (map literal_of ls))
-few_in_print ts ls =
-    let names = terms_names (terms_of ts).0 (terms_of ts).1 in
-    let first = few_arguments ts in
-    subst (λ (more : List (List ℕ)). length (names ++ more) ≤ length ts + length (flat_map literal_names (map literal_of ls))) (sym (bodys_names ls))
-    (let n = length-append names (flat_map literal_names (map literal_of ls)) in omega arith)
 
 -- ---- the room behind them
 

@@ -13,10 +13,10 @@ pub mod Tails
 pub mod Choice
 pub mod Digits
 pub mod Excess
-pub mod Splitting
 pub mod Shrink
 pub mod Listing
-pub mod Splits
+pub mod Bridges
+pub mod Good
 pub mod Within
 pub mod Reading
 pub mod Taking

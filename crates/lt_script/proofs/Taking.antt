@@ -10,8 +10,6 @@ use Rattle.lt_model.specs.Grammar.{legal, SpellsItem, Derives}
 use Rattle.lt_model.specs.Faults.{Faulty}
 use Rattle.lt_model.specs.Limits.{IsWithinLimits}
 use Rattle.lt_model.specs.Script as script
-use Rattle.lt_grammar.specs.Grammar as tree
-use Rattle.lt_grammar.specs.Meaning.{item_value}
 use Rattle.lt_grammar.specs.Productions.{item_at}
 use Rattle.lt_grammar.proofs.Items.{Stopped, item_found, item_stops, nothing_left}
 use Rattle.lt_script.specs.declared.standing.Standing.{Standing}
@@ -21,15 +19,24 @@ use Rattle.lt_script.specs.declared.refusal.Refusal.{Refusal}
 use Rattle.lt_script.specs.declared.refusal.Refusal.TheVariants.{NoMemory, Fault}
 use Rattle.lt_script.specs.Ahead.{Place, ahead, shapes, BeginsOn, StandsAs}
 use Rattle.lt_script.specs.Parsed.{cause_of, Parses}
-use Rattle.lt_script.specs.Tree.{item_of}
+use Rattle.lt_script.specs.Valued as valued
 use Rattle.lt_script.specs.Taken.{Begins, HasFault, HaltsAt, at_token, cut, torn, Takes, Halts, IsTaken, fault_of, IsRefused}
+use Rattle.lt_script.proofs.Bridges.{item_tree, item_stop}
+use Rattle.lt_script.proofs.Within.{read_within}
 use Rattle.lt_script.proofs.Reading.{shapes-none}
 
 -- an item
-pub took : (p q : Place) (found : tree.Item) (item : Item) → item_at (shapes p) ≡ Ok (found, shapes q) → q.source ≡ p.source → item ≡ item_value found → IsWithinLimits item → Takes p q item
-took p q found item read same is within =
-    let f = item_found (shapes p) found (shapes q) read in
-    record { same = same; tokens = f.front; parts = f.parts; spelled = subst (λ (i : Item). SpellsItem legal i f.front) (sym is) f.spelled; within = within }
+pub took : (p q : Place) (item : Item) → valued.valued_item_at (shapes p) ≡ Ok (item, shapes q) → q.source ≡ p.source → Takes p q item
+took p q item read same =
+    let t = item_tree (shapes p) item (shapes q) read in
+    let f = item_found (shapes p) t.tree (shapes q) t.read in
+    record {
+      same = same;
+      tokens = f.front;
+      parts = f.parts;
+      spelled = subst (λ (i : Item). SpellsItem legal i f.front) (sym t.is) f.spelled;
+      within = subst IsWithinLimits (sym t.is) (read_within p t.tree (shapes q) t.read);
+    }
 
 -- no token yet
 pub begins_none : Begins []
@@ -79,6 +86,6 @@ module _ (p q : Place) (cause : Cause) (some : (ahead p).0 ≢ []) (same : q.sou
   stopped (standing.Broken line code) h = halts line code (torn line code h)
 
 -- what is answered where the parser refused an item
-pub refused : (p q : Place) (refusal : Refusal) (s : Standing) (step : Step) → (ahead p).0 ≢ [] → Parses item_of (Err refusal) p q item_at → StandsAs s q → IsRefused refusal s step → IsTaken p q step
+pub refused : (p q : Place) (refusal : Refusal) (s : Standing) (step : Step) → (ahead p).0 ≢ [] → Parses (λ (x : Item). x) (Err refusal) p q valued.valued_item_at → StandsAs s q → IsRefused refusal s step → IsTaken p q step
 refused p q NoMemory s step some read there is = subst (IsTaken p q) (sym is) tt
-refused p q (Fault cause) s step some read there is = subst (IsTaken p q) (sym is) (stopped p q (cause_of cause) some read.1 read.0 s there)
+refused p q (Fault cause) s step some read there is = subst (IsTaken p q) (sym is) (stopped p q (cause_of cause) some read.1 (item_stop (shapes p) _ read.0) s there)

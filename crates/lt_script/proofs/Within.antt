@@ -1,117 +1,140 @@
--- What is built is within the limits of the language.
-use Rattle.std.proofs.Common.{◌≡◌, ℕ, ◌<◌, ◌≤◌, Bool, true, false, List, [], ◌∷◌, ◌++◌, ◌+◌, length, map, None, Some, refl, arith}
-use Rattle.std.specs.Prelude.{◌&&◌}
-use Rattle.std.specs.List.{AllByRecursion, list_all}
+-- What is read is within the limits of the language.
+use Rattle.std.proofs.Common.{◌≡◌, ℕ, ◌<◌, ◌≤◌, Bool, true, false, List, [], ◌∷◌, ◌++◌, ◌+◌, length, map, None, Some, Ok, refl, subst, arith}
+use Rattle.std.specs.Prelude.{flat_map}
+use Rattle.std.specs.List.{AllByRecursion}
 use Rattle.std.proofs.lemmas.List.{length-map, length-append}
-use Rattle.lt_model.specs.declared.kind.Kind.{Kind}
 use Rattle.lt_face.specs.Rows.{IsCell}
-use Rattle.lt_model.specs.Tokens.{in_word, between}
-use Rattle.lt_model.specs.Grammar.{digits_value, signed_cell}
+use Rattle.lt_model.specs.declared.kind.Kind.{Kind}
+use Rattle.lt_model.specs.Tokens.{Shape}
+use Rattle.lt_model.specs.Grammar.{digits_value, signed_cell, comma, left_paren, right_paren, semicolon, where_word}
 use Rattle.lt_model.specs.Limits.{HasCell, AreTermsWithin, IsLiteralWithin, IsStatementWithin, IsProgramWithin, IsWithinLimits}
-use Rattle.lt_values.specs.Symbols.{is_symbol}
 use Rattle.lt_values.proofs.Padding.{IsCell-sym_cell}
 use Rattle.lt_reading.specs.Language.{full}
+use Rattle.lt_grammar.specs.Tokens.{insert_word, delete_word, by_word, print_word, end_word, commit_word}
 use Rattle.lt_grammar.specs.Grammar as grammar
-use Rattle.lt_grammar.specs.Meaning.{term_value, terms_value, literal_value, body_value, statement_value, program_value, item_value}
+use Rattle.lt_grammar.specs.Grammar.{Term, name, numeral, quoted, Head, Literal, atom, absent, compare, sum, Statement, insert, delete, replace, require, print, Program, Item, relation, batch, show, only, in_parens, with_commas, term_tokens, head_tokens, literal_tokens, where_tokens, form_tokens, statement_tokens, program_tokens, item_tokens}
+use Rattle.lt_grammar.specs.Meaning.{term_value, terms_value, head_value, literal_value, body_value, statement_value, program_value, item_value}
+use Rattle.lt_grammar.specs.Productions.{item_at}
+use Rattle.lt_grammar.proofs.Scripts.{items_read}
 use Rattle.lt_grammar.proofs.Variables.{to_few}
-use Rattle.lt_script.specs.declared.label.Label.{Label}
-use Rattle.lt_script.specs.declared.tree.Term.{Term}
-use Rattle.lt_script.specs.declared.tree.Term.TheVariants.{Name, Numeral, Quoted}
-use Rattle.lt_script.specs.declared.tree.Literal.{Literal}
-use Rattle.lt_script.specs.declared.tree.Literal.TheVariants.{Atom, Absent, Compare, Sum}
-use Rattle.lt_script.specs.declared.tree.Statement.{Statement}
-use Rattle.lt_script.specs.declared.tree.Statement.TheVariants.{Insert, Delete, Replace, Require, Print}
-use Rattle.lt_script.specs.declared.tree.Program.{Program}
-use Rattle.lt_script.specs.declared.tree.Item.{Item}
-use Rattle.lt_script.specs.declared.tree.Item.TheVariants.{Relation, Batch, Show}
-use Rattle.lt_script.specs.Tree.{term_of, terms_of, literal_of, literals_of, body_of, kinds_of, statement_of, program_of, item_of}
-use Rattle.lt_script.proofs.Splits.{too_great_is}
+use Rattle.lt_script.specs.Ahead.{Place, shapes}
+use Rattle.lt_script.proofs.Good.{AreGood, both_good, shapes_good}
 
--- ---- cells
-
-both_true : (a b : Bool) → a ≡ true → b ≡ true → (a && b) ≡ true
-both_true a b h k = rw (h, k) refl
-
-in_length : (n : ℕ) → 1 ≤ n → n ≤ 15 → between 1 15 n ≡ true
-in_length n some few = Prim.grind arith
-
-label_symbol : (l : Label) → is_symbol l.bytes.now ≡ true
-label_symbol l = both_true (between 1 15 (length l.bytes.now)) (list_all in_word l.bytes.now) (in_length (length l.bytes.now) l.some l.few) l.plain
+-- ---- terms
 
 int_cell : (minus : Bool) (n : ℕ) → n < grammar.past minus → IsCell (signed_cell minus n)
 int_cell true n h = (omega arith, omega arith)
 int_cell false n h = (omega arith, omega arith)
 
-has_cell : (t : Term) → grammar.IsTerm full (term_of t) → HasCell (term_value (term_of t))
-has_cell (Name label) h = tt
-has_cell (Numeral minus digits) h = int_cell minus (digits_value digits.now) h
-has_cell (Quoted label) h = IsCell-sym_cell label.bytes.now (label_symbol label)
+has_cell : (t : Term) → grammar.IsTerm full t → AreGood (term_tokens t) → HasCell (term_value t)
+has_cell (name text) h g = tt
+has_cell (numeral minus digits) h g = int_cell minus (digits_value digits) h
+has_cell (quoted text) h g = IsCell-sym_cell text g.0
 
 -- ---- lists
 
 -- what holds of each of a list holds of what each stands for
-each_value : {X A B : Type 0} (P : A → Type 0) (Q : B → Type 0) (view : X → A) (value : A → B) → ((x : X) → P (view x) → Q (value (view x))) → (xs : List X) → AllByRecursion P (map view xs) → AllByRecursion Q (map value (map view xs))
-each_value P Q view value one [] h = tt
-each_value P Q view value one (x ∷ xs) h = (one x h.0, each_value P Q view value one xs h.1)
+each_value : {A B : Type 0} (P G : A → Type 0) (Q : B → Type 0) (value : A → B) → ((x : A) → P x → G x → Q (value x)) → (xs : List A) → AllByRecursion P xs → AllByRecursion G xs → AllByRecursion Q (map value xs)
+each_value P G Q value one [] h g = tt
+each_value P G Q value one (x ∷ xs) h g = (one x h.0 g.0, each_value P G Q value one xs h.1 g.1)
 
-length_value : {X A B : Type 0} (view : X → A) (value : A → B) (xs : List X) → length (map value (map view xs)) ≡ length (map view xs)
-length_value view value xs = length-map (map view xs) value
+good_each : {A : Type 0} (tokens : A → List Shape) (xs : List A) → AreGood (flat_map tokens xs) → AllByRecursion (λ x. AreGood (tokens x)) xs
+good_each tokens [] g = tt
+good_each tokens (x ∷ xs) g = let m = both_good (tokens x) (flat_map tokens xs) g in (m.0, good_each tokens xs m.1)
 
-terms_within : (ts : List Term) → grammar.AreTerms full (terms_of ts).0 (terms_of ts).1 → AreTermsWithin (terms_value (terms_of ts).0 (terms_of ts).1)
-terms_within [] h = absurd (too_great_is h.0)
-terms_within (t ∷ ts) h = record {
+good_behind : {A : Type 0} (tokens : A → List Shape) (xs : List A) → AreGood (flat_map (λ y. only comma ++ tokens y) xs) → AllByRecursion (λ x. AreGood (tokens x)) xs
+good_behind tokens [] g = tt
+good_behind tokens (x ∷ xs) g = let m = both_good (only comma ++ tokens x) (flat_map (λ y. only comma ++ tokens y) xs) g in (m.0.1, good_behind tokens xs m.1)
+
+good_commas : {A : Type 0} (tokens : A → List Shape) (x : A) (xs : List A) → AreGood (with_commas tokens x xs) → AreGood (tokens x) × AllByRecursion (λ x. AreGood (tokens x)) xs
+good_commas tokens x xs g = let m = both_good (tokens x) (flat_map (λ y. only comma ++ tokens y) xs) g in (m.0, good_behind tokens xs m.1)
+
+good_inside : (ts : List Shape) → AreGood (in_parens ts) → AreGood ts
+good_inside ts g = (both_good (only left_paren ++ ts) (only right_paren) g).0.1
+
+terms_within : (t : Term) (ts : List Term) → grammar.AreTerms full t ts → AreGood (with_commas term_tokens t ts) → AreTermsWithin (terms_value t ts)
+terms_within t ts h g = let m = good_commas term_tokens t ts g in record {
   some = omega arith;
-  few = omega (arith, length_value term_of term_value ts, h.1.1);
-  cells = (has_cell t h.0, each_value (grammar.IsTerm full) HasCell term_of term_value has_cell ts h.1.0);
+  few = omega (arith, length-map ts term_value, h.1.1);
+  cells = (has_cell t h.0 m.0, each_value (grammar.IsTerm full) (λ x. AreGood (term_tokens x)) HasCell term_value has_cell ts h.1.0 m.1);
 }
+
+head_within : (x : Head) → grammar.IsHead full x → AreGood (head_tokens x) → AreTermsWithin (terms_value x.first x.others)
+head_within x h g = terms_within x.first x.others h.1 (good_inside (with_commas term_tokens x.first x.others) g.1)
 
 -- ---- bodies
 
-literal_within : (l : Literal) → grammar.IsLiteral full (literal_of l) → IsLiteralWithin (literal_value (literal_of l))
-literal_within (Atom head) h = terms_within head.terms.items h.1
-literal_within (Absent head) h = terms_within head.terms.items h.1
-literal_within (Compare left op right) h = (has_cell left h.0, has_cell right h.1)
-literal_within (Sum name left minus right) h = (has_cell left h.1.0, has_cell right h.1.1)
+literal_within : (l : Literal) → grammar.IsLiteral full l → AreGood (literal_tokens l) → IsLiteralWithin (literal_value l)
+literal_within (atom x) h g = head_within x h g
+literal_within (absent x) h g = head_within x h g.1
+literal_within (compare left op right) h g = let m = both_good (term_tokens left) (only (grammar.op_token op) ++ term_tokens right) g in (has_cell left h.0 m.0, has_cell right h.1 m.1.1)
+literal_within (sum v a minus b) h g = let m = both_good (term_tokens a) (only (grammar.plus_token minus) ++ term_tokens b) g.1.1 in (has_cell a h.1.0 m.0, has_cell b h.1.1 m.1.1)
 
-literals_within : (ls : List Literal) → AllByRecursion (grammar.IsLiteral full) (map literal_of ls) → AllByRecursion IsLiteralWithin (map literal_value (map literal_of ls))
-literals_within ls h = each_value (grammar.IsLiteral full) IsLiteralWithin literal_of literal_value literal_within ls h
+-- the literals of a body, which are few
+abbrev AreWithin : List Literal → Type 0
+AreWithin ls = AllByRecursion IsLiteralWithin (map literal_value ls) × (length (map literal_value ls) ≤ 16)
 
-where_within : (ls : List Literal) → grammar.IsWhere full (literals_of ls) → AllByRecursion IsLiteralWithin (map literal_value (literals_of ls)) × (length (map literal_value (literals_of ls)) ≤ 16)
-where_within [] h = (tt, omega arith)
-where_within (l ∷ ls) h = ((literal_within l h.0, literals_within ls h.1.0), omega (arith, length_value literal_of literal_value ls, h.1.1))
+body_within : (l : Literal) (ls : List Literal) → grammar.AreLiterals full l ls → AreGood (with_commas literal_tokens l ls) → AreWithin (l ∷ ls)
+body_within l ls h g =
+    let m = good_commas literal_tokens l ls g in
+    ((literal_within l h.0 m.0, each_value (grammar.IsLiteral full) (λ x. AreGood (literal_tokens x)) IsLiteralWithin literal_value literal_within ls h.1.0 m.1), omega (arith, length-map ls literal_value, h.1.1))
 
-body_within : (ls : List Literal) → grammar.AreLiterals full (body_of ls).0 (body_of ls).1 → AllByRecursion IsLiteralWithin (body_value (body_of ls).0 (body_of ls).1) × (length (body_value (body_of ls).0 (body_of ls).1) ≤ 16)
-body_within [] h = absurd (too_great_is h.0.0)
-body_within (l ∷ ls) h = ((literal_within l h.0, literals_within ls h.1.0), omega (arith, length_value literal_of literal_value ls, h.1.1))
+where_within : (ls : List Literal) → grammar.IsWhere full ls → AreGood (where_tokens ls) → AreWithin ls
+where_within [] h g = (tt, omega arith)
+where_within (l ∷ ls) h g = body_within l ls h g.1
 
 -- ---- statements, programs, items
 
-statement_within : (s : Statement) → grammar.IsStatement full (statement_of s) → IsStatementWithin (statement_value (statement_of s))
-statement_within (Insert head body) h = let b = where_within body.items h.0.1 in
-    record { heads = (terms_within head.terms.items h.0.0.1, tt); printed = tt; literals = b.0; few_literals = b.1; few_variables = to_few full (statement_of (Insert head body)) h.1 }
-statement_within (Delete head body) h = let b = where_within body.items h.0.1 in
-    record { heads = (terms_within head.terms.items h.0.0.1, tt); printed = tt; literals = b.0; few_literals = b.1; few_variables = to_few full (statement_of (Delete head body)) h.1 }
-statement_within (Replace gone come body) h = let b = where_within body.items h.0.1.1 in
-    record { heads = (terms_within gone.terms.items h.0.0.1, (terms_within come.terms.items h.0.1.0.1, tt)); printed = tt; literals = b.0; few_literals = b.1; few_variables = to_few full (statement_of (Replace gone come body)) h.1 }
-statement_within (Require some body) h = let b = body_within body.items h.0 in
-    record { heads = tt; printed = tt; literals = b.0; few_literals = b.1; few_variables = to_few full (statement_of (Require some body)) h.1 }
-statement_within (Print terms body) h = let b = body_within body.items h.0.1 in
-    record { heads = tt; printed = terms_within terms.items h.0.0; literals = b.0; few_literals = b.1; few_variables = to_few full (statement_of (Print terms body)) h.1 }
+form_within : (s : Statement) → grammar.IsStatement full s → AreGood (form_tokens s) → IsStatementWithin (statement_value s)
+form_within (insert x body) h g =
+    let m = both_good (only insert_word ++ head_tokens x) (where_tokens body) g in
+    let b = where_within body h.0.1 m.1 in
+    record { heads = (head_within x h.0.0 m.0.1, tt); printed = tt; literals = b.0; few_literals = b.1; few_variables = to_few full (insert x body) h.1 }
+form_within (delete x body) h g =
+    let m = both_good (only delete_word ++ head_tokens x) (where_tokens body) g in
+    let b = where_within body h.0.1 m.1 in
+    record { heads = (head_within x h.0.0 m.0.1, tt); printed = tt; literals = b.0; few_literals = b.1; few_variables = to_few full (delete x body) h.1 }
+form_within (replace gone come body) h g =
+    let m = both_good (head_tokens gone ++ only by_word) (head_tokens come ++ where_tokens body) g.1 in
+    let first = both_good (head_tokens gone) (only by_word) m.0 in
+    let others = both_good (head_tokens come) (where_tokens body) m.1 in
+    let b = where_within body h.0.1.1 others.1 in
+    record { heads = (head_within gone h.0.0 first.0, (head_within come h.0.1.0 others.0, tt)); printed = tt; literals = b.0; few_literals = b.1; few_variables = to_few full (replace gone come body) h.1 }
+form_within (require some l ls) h g =
+    let b = body_within l ls h.0 g.1.1 in
+    record { heads = tt; printed = tt; literals = b.0; few_literals = b.1; few_variables = to_few full (require some l ls) h.1 }
+form_within (print t ts l ls) h g =
+    let m = both_good (only print_word ++ in_parens (with_commas term_tokens t ts)) (where_tokens (l ∷ ls)) g in
+    let b = body_within l ls h.0.1 m.1.1 in
+    record { heads = tt; printed = terms_within t ts h.0.0 (good_inside (with_commas term_tokens t ts) m.0.1); literals = b.0; few_literals = b.1; few_variables = to_few full (print t ts l ls) h.1 }
 
-program_within : (p : Program) → grammar.IsProgram full (program_of p) → IsProgramWithin (program_value (program_of p))
-program_within p h = record {
-  statements = each_value (grammar.IsStatement full) IsStatementWithin statement_of statement_value statement_within p.statements.items h.1.0;
-  few = omega (arith, length_value statement_of statement_value p.statements.items, h.1.1);
-}
+statement_within : (s : Statement) → grammar.IsStatement full s → AreGood (statement_tokens s) → IsStatementWithin (statement_value s)
+statement_within s h g = form_within s h (both_good (form_tokens s) (only semicolon) g).0
 
-columns_within : (keys values : List Kind) → length (kinds_of keys).1 + length values ≤ 7
-    → (1 ≤ length (((kinds_of keys).0 ∷ (kinds_of keys).1) ++ values)) × (length (((kinds_of keys).0 ∷ (kinds_of keys).1) ++ values) ≤ 8) × (1 ≤ length ((kinds_of keys).0 ∷ (kinds_of keys).1)) × (length ((kinds_of keys).0 ∷ (kinds_of keys).1) ≤ length (((kinds_of keys).0 ∷ (kinds_of keys).1) ++ values))
-columns_within keys values h =
-    let e : length (((kinds_of keys).0 ∷ (kinds_of keys).1) ++ values) ≡ length ((kinds_of keys).0 ∷ (kinds_of keys).1) + length values = length-append ((kinds_of keys).0 ∷ (kinds_of keys).1) values in
+program_within : (p : Program) → grammar.IsProgram full p → AreGood (program_tokens p) → IsProgramWithin (program_value p)
+program_within p h g =
+    let behind = both_good (flat_map statement_tokens p.statements ++ only end_word) (only semicolon) g.1.1 in
+    let all = both_good (flat_map statement_tokens p.statements) (only end_word) behind.0 in
+    record {
+      statements = each_value (grammar.IsStatement full) (λ x. AreGood (statement_tokens x)) IsStatementWithin statement_value statement_within p.statements h.1.0 (good_each statement_tokens p.statements all.0);
+      few = omega (arith, length-map p.statements statement_value, h.1.1);
+    }
+
+columns_within : (k : Kind) (ks values : List Kind) → length ks + length values ≤ 7 → (1 ≤ length ((k ∷ ks) ++ values)) × (length ((k ∷ ks) ++ values) ≤ 8) × (1 ≤ length (k ∷ ks)) × (length (k ∷ ks) ≤ length ((k ∷ ks) ++ values))
+columns_within k ks values h =
+    let e : length ((k ∷ ks) ++ values) ≡ length (k ∷ ks) + length values = length-append (k ∷ ks) values in
     (omega (arith, e, h), omega (arith, e, h), omega arith, omega (arith, e))
 
-pub item_within : (x : Item) → grammar.IsItem full (item_of x) → IsWithinLimits (item_value (item_of x))
-item_within (Relation name keys values) h = columns_within keys.items values.items h.1
-item_within (Batch programs) h = (each_value (grammar.IsProgram full) IsProgramWithin program_of program_value program_within programs.items h.0, omega (arith, length_value program_of program_value programs.items, h.1))
-item_within (Show name None) h = tt
-item_within (Show name (Some digits)) h = omega (arith, h.1)
+item_within : (x : Item) → grammar.IsItem full x → AreGood (item_tokens x) → IsWithinLimits (item_value x)
+item_within (relation r k ks values) h g = columns_within k ks values h.1
+item_within (batch ps) h g =
+    let behind = both_good (flat_map program_tokens ps ++ only commit_word) (only semicolon) g.1 in
+    let all = both_good (flat_map program_tokens ps) (only commit_word) behind.0 in
+    (each_value (grammar.IsProgram full) (λ x. AreGood (program_tokens x)) IsProgramWithin program_value program_within ps h.0 (good_each program_tokens ps all.0), omega (arith, length-map ps program_value, h.1))
+item_within (show r None) h g = tt
+item_within (show r (Some digits)) h g = omega (arith, h.1)
+
+pub read_within : (p : Place) (x : Item) (rest : List Shape) → item_at (shapes p) ≡ Ok (x, rest) → IsWithinLimits (item_value x)
+read_within p x rest e =
+    let f = items_read.found (shapes p) x rest e in
+    item_within x f.1 (both_good (item_tokens x) rest (subst AreGood f.0 (shapes_good p))).0

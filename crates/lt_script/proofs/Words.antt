@@ -12,7 +12,7 @@ run_more p x xs true e h =
 run_more p x xs false e h = rw e refl
 
 -- a run at the front has no other bytes
-all_of_run : (p : ℕ → Bool) (xs : List ℕ) → list_all p (take (prefix_len p xs) xs) ≡ true
+pub all_of_run : (p : ℕ → Bool) (xs : List ℕ) → list_all p (take (prefix_len p xs) xs) ≡ true
 all_of_run p [] = refl
 all_of_run p (x ∷ xs) = run_more p x xs (p x) refl (all_of_run p xs)
 

@@ -2,7 +2,8 @@ pub mod Reserved
 pub mod View
 pub mod Pieces
 pub mod Ahead
-pub mod Tree
+pub mod Names
+pub mod Valued
 pub mod Parsed
 pub mod Taken
 pub mod Reading

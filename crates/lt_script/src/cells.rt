@@ -1,31 +1,19 @@
 //! The cells of numbers and symbols, as they are written.
-ghost use Rattle.std.specs.Prelude.{◌≡◌, ◌<◌, ◌^◌};
+ghost use Rattle.std.specs.Prelude.{◌≡◌, ◌<◌};
 ghost use Rattle.lt_model.specs.Cells.{sym_cell};
-ghost use Rattle.lt_model.specs.Grammar.{digits_value, signed_cell};
+ghost use Rattle.lt_model.specs.Grammar.{signed_cell};
 ghost use Rattle.lt_grammar.specs.Grammar.{past};
 
 use crate::label::Label;
 use lt_face::key::Key;
 use lt_values::{cell_of_int, cell_of_sym};
 
-/// The number that digits spell. Zeros may stand before it.
-pub fn number(digits: &[u8]) -> u64
-    requires { digits_value digits.now < 2 ^ 64 }
-    ensures { result ≡ digits_value digits.now }
+/// The cell of an int, by its sign and the number behind it.
+pub fn int_cell(minus: bool, number: u64) -> Key
+    requires { number < past minus }
+    ensures { result ≡ signed_cell minus number }
 {
-    let mut value: u64 = 0;
-    'digits: for digit in digits {
-        value = value * 10 + u64::from(digit.saturating_sub(b'0'));
-    }
-    value
-}
-
-/// The cell of an int, by its sign and its digits.
-pub fn int_cell(minus: bool, digits: &[u8]) -> Key
-    requires { digits_value digits.now < past minus }
-    ensures { result ≡ signed_cell minus (digits_value digits.now) }
-{
-    let value = i128::from(number(digits));
+    let value = i128::from(number);
     let value = if minus { -value } else { value };
     cell_of_int(value as i64)
 }

@@ -1,22 +1,33 @@
 //! The items of a script: declarations, batches and questions.
-ghost use Rattle.std.specs.Prelude.{◌≡◌, ◌≤◌, ◌∷◌, ◌-◌, IfOk, drop, length, map, false};
+ghost use Rattle.std.specs.Prelude.{◌≡◌, ◌≤◌, ◌∷◌, ◌+◌, ◌-◌, ◌++◌, IfOk, IfErr, drop, length, false};
 ghost use Rattle.lt_face.specs.Limits.{most_columns, most_programs};
 ghost use Rattle.lt_reading.specs.Reading.{next_is, led, listed, trail, past_comma, given, many, at_once, maybe};
 ghost use Rattle.lt_model.specs.Grammar.{comma, arrow};
 ghost use Rattle.lt_grammar.specs.Tokens.{same_shape, at_word};
-ghost use Rattle.lt_grammar.specs.Grammar.{relation, batch, show};
-ghost use Rattle.lt_grammar.specs.Productions.{number_at, kind_at, starts_kind as begins_kind, program_at, is_program, batch_at, columns_at, relation_at, is_at, show_at, item_at};
+ghost use Rattle.lt_grammar.specs.Productions.{kind_at, starts_kind as begins_kind, is_program, columns_at, relation_at, is_at};
 ghost use Rattle.lt_script.specs.Ahead.{shapes};
-ghost use Rattle.lt_script.specs.Tree.{program_of, digits_of, kinds_of as kinds_in, item_of, HasKinds};
+ghost use Rattle.lt_script.specs.Valued.{valued_number_at, valued_program_at, valued_batch_at, batch_of, relation_of, valued_show_at, show_of, valued_item_at, kinds_of as kinds_in};
 ghost use Rattle.lt_script.specs.Parsed.{Parses, Refuses, further};
 
 use crate::cursor::Cursor;
 use crate::refusal::{Cause, Refusal};
 use crate::reserved::{Reserved, Sign};
-use crate::tree::{Item, Program};
 use lt_face::limits::{MOST_COLUMNS, MOST_PROGRAMS};
-use lt_model::kind::Kind;
+use lt_model::kind::{Kind, KindList};
+use lt_model::syntax::{Item, Program, ProgramList, StatementList};
 use std::alloc::Global;
+
+// The kinds of the key columns, and behind them those of the value columns.
+fn join_kinds(alloc: Global, keys: &[Kind], values: &[Kind]) -> Result<KindList, Refusal>
+    requires { length keys.now + length values.now ≤ most_columns }
+    ensures gives { IfOk result (λ kinds. kinds ≡ keys.now ++ values.now) }
+    ensures refused { IfErr result (λ refusal. refusal ≡ Refusal.NoMemory) }
+{
+    let mut kinds = Vec::with_capacity(alloc, keys.len() + values.len())?;
+    kinds.extend_from_slice(keys)?;
+    kinds.extend_from_slice(values)?;
+    Ok(KindList::from_kinds(alloc, kinds.as_slice()))
+}
 
 impl<'a> Cursor<'a> {
     // Whether a kind may begin with the next token.
@@ -79,6 +90,7 @@ impl<'a> Cursor<'a> {
         requires { 1 ≤ most }
         ensures read { Parses (λ v. kinds_in v.items) result self.old self.new (led same_shape arrow (listed same_shape comma begins_kind kind_at (most - 1))) }
         ensures some { IfOk result (λ v. 1 ≤ length v.items) }
+        ensures few { IfOk result (λ v. length v.items ≤ most) }
     {
         self.sign(Sign::Arrow)?;
         let first = self.kind()?;
@@ -91,7 +103,8 @@ impl<'a> Cursor<'a> {
     fn value_kinds(&mut self, alloc: Global, keys: usize) -> Result<Vec<Kind>, Refusal>
         requires some { 1 ≤ keys }
         requires few { keys ≤ most_columns }
-        ensures { Parses (λ v. v.items) result self.old self.new (trail same_shape arrow comma begins_kind kind_at (most_columns - keys)) }
+        ensures read { Parses (λ v. v.items) result self.old self.new (trail same_shape arrow comma begins_kind kind_at (most_columns - keys)) }
+        ensures left { IfOk result (λ v. length v.items ≤ most_columns - keys) }
     {
         if !self.sign_stands(Sign::Arrow) {
             return Ok(Vec::new(alloc));
@@ -108,6 +121,7 @@ impl<'a> Cursor<'a> {
     fn columns(&mut self, alloc: Global) -> Result<(Vec<Kind>, Vec<Kind>), Refusal>
         ensures read { Parses (λ c. (kinds_in c.0.items, c.1.items)) result self.old self.new columns_at }
         ensures some { IfOk result (λ c. 1 ≤ length c.0.items) }
+        ensures few { IfOk result (λ c. length c.0.items + length c.1.items ≤ most_columns) }
     {
         let first = self.kind()?;
         let keys = self.further_kinds(alloc, first, MOST_COLUMNS)?;
@@ -115,21 +129,24 @@ impl<'a> Cursor<'a> {
         Ok((keys, values))
     }
 
-    #[tactic(auto, unfolding(lt_grammar::specs::Productions::program_at))]
-    fn program(&mut self, alloc: Global) -> Result<Program<'a>, Refusal>
-        ensures { Parses program_of result self.old self.new program_at }
+    #[tactic(auto, unfolding(crate::specs::Valued::valued_program_at))]
+    fn program(&mut self, alloc: Global) -> Result<Program, Refusal>
+        ensures { Parses (λ x. x) result self.old self.new valued_program_at }
     {
         self.word(Reserved::Program)?;
         let name = self.name()?;
         let statements = self.statements(alloc)?;
         self.word(Reserved::End)?;
         self.sign(Sign::Semicolon)?;
-        Ok(Program { name, statements })
+        Ok(Program {
+            name: name.to_name(alloc),
+            statements: StatementList::from_vec(statements),
+        })
     }
 
     // The programs of a batch, at most two hundred and fifty-six.
-    fn programs(&mut self, alloc: Global) -> Result<Vec<Program<'a>>, Refusal>
-        ensures { Parses (λ v. map program_of v.items) result self.old self.new (many is_program program_at at_once most_programs) }
+    fn programs(&mut self, alloc: Global) -> Result<Vec<Program>, Refusal>
+        ensures { Parses (λ v. v.items) result self.old self.new (many is_program valued_program_at at_once most_programs) }
     {
         let mut programs = Vec::new(alloc);
         'programs: while self.word_stands(Reserved::Program) {
@@ -142,22 +159,22 @@ impl<'a> Cursor<'a> {
         Ok(programs)
     }
 
-    #[tactic(auto, unfolding(lt_grammar::specs::Productions::batch_at))]
-    fn batch(&mut self, alloc: Global) -> Result<Item<'a>, Refusal>
-        ensures read { Parses item_of result self.old self.new (given (λ x. batch x) batch_at) }
-        ensures kinds { IfOk result HasKinds }
+    #[tactic(auto, unfolding(crate::specs::Valued::valued_batch_at))]
+    fn batch(&mut self, alloc: Global) -> Result<Item, Refusal>
+        ensures { Parses (λ x. x) result self.old self.new (given batch_of valued_batch_at) }
     {
         self.word(Reserved::Batch)?;
         let programs = self.programs(alloc)?;
         self.word(Reserved::Commit)?;
         self.sign(Sign::Semicolon)?;
-        Ok(Item::Batch { programs })
+        Ok(Item::Batch {
+            programs: ProgramList::from_vec(programs),
+        })
     }
 
     #[tactic(auto, unfolding(lt_grammar::specs::Productions::relation_at))]
-    fn relation(&mut self, alloc: Global) -> Result<Item<'a>, Refusal>
-        ensures read { Parses item_of result self.old self.new (given (λ x. relation x.0 x.1.0.0 x.1.0.1 x.1.1) relation_at) }
-        ensures kinds { IfOk result HasKinds }
+    fn relation(&mut self, alloc: Global) -> Result<Item, Refusal>
+        ensures { Parses (λ x. x) result self.old self.new (given relation_of relation_at) }
     {
         self.word(Reserved::Relation)?;
         let name = self.name()?;
@@ -166,39 +183,45 @@ impl<'a> Cursor<'a> {
         self.sign(Sign::Close)?;
         self.sign(Sign::Semicolon)?;
         let (keys, values) = columns;
-        Ok(Item::Relation { name, keys, values })
+        let kinds = join_kinds(alloc, &keys, &values)?;
+        Ok(Item::Relation {
+            name: name.to_name(alloc),
+            kinds,
+            keys: keys.len() as u32,
+        })
     }
 
     // `at` and a number, or nothing.
     #[tactic(auto, using(crate::proofs::Choice::version_some, crate::proofs::Choice::version_none))]
-    fn version(&mut self) -> Result<Option<&'a [u8]>, Refusal>
-        ensures { Parses digits_of result self.old self.new (maybe is_at (led same_shape at_word (number_at false))) }
+    fn version(&mut self) -> Result<Option<u64>, Refusal>
+        ensures { Parses (λ x. x) result self.old self.new (maybe is_at (led same_shape at_word (valued_number_at false))) }
     {
         if self.word_stands(Reserved::At) {
             self.word(Reserved::At)?;
-            let digits = self.number(false)?;
-            return Ok(Some(digits));
+            let number = self.number(false)?;
+            return Ok(Some(number));
         }
         Ok(None)
     }
 
-    #[tactic(auto, unfolding(lt_grammar::specs::Productions::show_at))]
-    fn show(&mut self) -> Result<Item<'a>, Refusal>
-        ensures read { Parses item_of result self.old self.new (given (λ x. show x.0 x.1) show_at) }
-        ensures kinds { IfOk result HasKinds }
+    #[tactic(auto, unfolding(crate::specs::Valued::valued_show_at))]
+    fn show(&mut self, alloc: Global) -> Result<Item, Refusal>
+        ensures { Parses (λ x. x) result self.old self.new (given show_of valued_show_at) }
     {
         self.word(Reserved::Show)?;
         let name = self.name()?;
         let at = self.version()?;
         self.sign(Sign::Semicolon)?;
-        Ok(Item::Show { name, at })
+        Ok(Item::Show {
+            name: name.to_name(alloc),
+            at,
+        })
     }
 
     /// Reads the next item. At a fault the cursor stands at the token that isn't allowed, or at the end where one is missing.
     #[tactic(auto, using(crate::proofs::Choice::item_relation, crate::proofs::Choice::item_batch, crate::proofs::Choice::item_show))]
-    pub fn item(&mut self, alloc: Global) -> Result<Item<'a>, Refusal>
-        ensures read { Parses item_of result self.old self.new item_at }
-        ensures kinds { IfOk result HasKinds }
+    pub fn item(&mut self, alloc: Global) -> Result<Item, Refusal>
+        ensures { Parses (λ x. x) result self.old self.new valued_item_at }
     {
         if self.word_stands(Reserved::Relation) {
             return self.relation(alloc);
@@ -206,6 +229,6 @@ impl<'a> Cursor<'a> {
         if self.word_stands(Reserved::Batch) {
             return self.batch(alloc);
         }
-        self.show()
+        self.show(alloc)
     }
 }

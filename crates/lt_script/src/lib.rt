@@ -3,7 +3,6 @@
 #![tactic(auto)]
 
 mod among;
-mod build;
 mod cells;
 mod cursor;
 mod feed;
@@ -25,7 +24,6 @@ mod tail;
 mod terms;
 pub mod theorems;
 mod token;
-mod tree;
 
 pub use feed::{Feed, FeedStep};
 pub use lt_model::syntax::{

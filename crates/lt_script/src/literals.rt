@@ -1,13 +1,12 @@
 //! The parts of a body.
 ghost use mathlib.Core.Logic.{inl, inr};
-ghost use Rattle.std.specs.Prelude.{◌≡◌, ◌∷◌, ◌-◌, IfOk, drop, map};
+ghost use Rattle.std.specs.Prelude.{◌≡◌, ◌∷◌, ◌-◌, IfOk, drop};
 ghost use Rattle.lt_face.specs.Limits.{most_literals};
 ghost use Rattle.lt_reading.specs.Reading.{led, given, next_is, past_comma};
 ghost use Rattle.lt_model.specs.Grammar.{comma};
 ghost use Rattle.lt_grammar.specs.Tokens.{same_shape, not_word};
-ghost use Rattle.lt_grammar.specs.Grammar.{absent};
-ghost use Rattle.lt_grammar.specs.Productions.{starts_literal as begins_literal, head_at, equation_of, equation_at, rest_at, literal_at, literal_of as literal_parts, body_at, where_at};
-ghost use Rattle.lt_script.specs.Tree.{literal_of, literals_of, body_of};
+ghost use Rattle.lt_grammar.specs.Productions.{starts_literal as begins_literal};
+ghost use Rattle.lt_script.specs.Valued.{valued_head_at, equation_of, valued_equation_at, valued_rest_at, valued_literal_at, literal_of as literal_parts, valued_body_at, valued_where_at};
 ghost use Rattle.lt_script.specs.Ahead.{shapes};
 ghost use Rattle.lt_script.specs.Parsed.{Parses, Refuses, further};
 
@@ -15,31 +14,30 @@ use crate::cursor::Cursor;
 use crate::label::Label;
 use crate::refusal::{Cause, Refusal};
 use crate::reserved::{Reserved, Sign};
-use crate::tree::{Head, Literal, Term};
 use lt_face::limits::MOST_LITERALS;
-use lt_model::syntax::Op;
+use lt_model::syntax::{Head, Literal, LiteralList, Op, Term};
 use std::alloc::Global;
 
 impl<'a> Cursor<'a> {
     // A name that is equal to a term or to a sum.
-    #[tactic(auto, using(crate::proofs::Choice::equation_sum, crate::proofs::Choice::equation_plain), unfolding(lt_grammar::specs::Productions::equation_at))]
-    fn equation(&mut self, name: Label<'a>) -> Result<Literal<'a>, Refusal>
-        ensures { Parses literal_of result self.old self.new (given (λ x. equation_of name.entry.bytes.now x.0 x.1) equation_at) }
+    #[tactic(auto, using(crate::proofs::Choice::equation_sum, crate::proofs::Choice::equation_plain), unfolding(crate::specs::Valued::valued_equation_at))]
+    fn equation(&mut self, alloc: Global, name: Label<'a>) -> Result<Literal, Refusal>
+        ensures { Parses (λ x. x) result self.old self.new (given (λ x. equation_of name.entry.bytes.now x.0 x.1) valued_equation_at) }
     {
         self.sign(Sign::Equal)?;
-        let left = self.term()?;
+        let left = self.term(alloc)?;
         if self.plus_stands() {
             let minus = self.plus()?;
-            let right = self.term()?;
+            let right = self.term(alloc)?;
             return Ok(Literal::Sum {
-                name,
-                left,
+                var: name.to_name(alloc),
+                a: left,
                 minus,
-                right,
+                b: right,
             });
         }
-        Ok(Literal::Compare {
-            left: Term::Name(name),
+        Ok(Literal::Cmp {
+            left: Term::Name(name.to_name(alloc)),
             op: Op::Eq,
             right: left,
         })
@@ -47,31 +45,31 @@ impl<'a> Cursor<'a> {
 
     // What follows a name.
     #[tactic(auto, using(crate::proofs::Choice::rest_atom, crate::proofs::Choice::rest_equation, crate::proofs::Choice::rest_other))]
-    fn rest_of_literal(&mut self, alloc: Global, name: Label<'a>) -> Result<Literal<'a>, Refusal>
-        ensures { Parses literal_of result self.old self.new (given (λ x. literal_parts (inr (inl (name.entry.bytes.now, x)))) rest_at) }
+    fn rest_of_literal(&mut self, alloc: Global, name: Label<'a>) -> Result<Literal, Refusal>
+        ensures { Parses (λ x. x) result self.old self.new (given (λ x. literal_parts (inr (inl (name.entry.bytes.now, x)))) valued_rest_at) }
     {
         if self.sign_stands(Sign::Open) {
             let terms = self.terms(alloc)?;
             return Ok(Literal::Atom(Head {
-                relation: name,
+                relation: name.to_name(alloc),
                 terms,
             }));
         }
         if self.sign_stands(Sign::Equal) {
-            return self.equation(name);
+            return self.equation(alloc, name);
         }
         let op = self.other_op()?;
-        let right = self.term()?;
-        Ok(Literal::Compare {
-            left: Term::Name(name),
+        let right = self.term(alloc)?;
+        Ok(Literal::Cmp {
+            left: Term::Name(name.to_name(alloc)),
             op,
             right,
         })
     }
 
     // A negated atom.
-    fn negated(&mut self, alloc: Global) -> Result<Literal<'a>, Refusal>
-        ensures { Parses literal_of result self.old self.new (given absent (led same_shape not_word head_at)) }
+    fn negated(&mut self, alloc: Global) -> Result<Literal, Refusal>
+        ensures { Parses (λ x. x) result self.old self.new (given (λ h. literal_parts (inl h)) (led same_shape not_word valued_head_at)) }
     {
         self.word(Reserved::Not)?;
         let head = self.head(alloc)?;
@@ -79,8 +77,8 @@ impl<'a> Cursor<'a> {
     }
 
     #[tactic(auto, using(crate::proofs::Choice::literal_absent, crate::proofs::Choice::literal_named, crate::proofs::Choice::literal_constant))]
-    fn literal(&mut self, alloc: Global) -> Result<Literal<'a>, Refusal>
-        ensures { Parses literal_of result self.old self.new literal_at }
+    fn literal(&mut self, alloc: Global) -> Result<Literal, Refusal>
+        ensures { Parses (λ x. x) result self.old self.new valued_literal_at }
     {
         if self.word_stands(Reserved::Not) {
             return self.negated(alloc);
@@ -91,8 +89,8 @@ impl<'a> Cursor<'a> {
         }
         let left = self.constant()?;
         let op = self.op()?;
-        let right = self.term()?;
-        Ok(Literal::Compare { left, op, right })
+        let right = self.term(alloc)?;
+        Ok(Literal::Cmp { left, op, right })
     }
 
     // Whether a literal may begin with the next token.
@@ -118,8 +116,8 @@ impl<'a> Cursor<'a> {
         Refusal::Fault(Cause::NotAllowed)
     }
 
-    fn next_literal(&mut self, alloc: Global) -> Result<Literal<'a>, Refusal>
-        ensures { Parses literal_of result self.old self.new (led same_shape comma literal_at) }
+    fn next_literal(&mut self, alloc: Global) -> Result<Literal, Refusal>
+        ensures { Parses (λ x. x) result self.old self.new (led same_shape comma valued_literal_at) }
     {
         self.sign(Sign::Comma)?;
         let literal = self.literal(alloc)?;
@@ -127,13 +125,9 @@ impl<'a> Cursor<'a> {
     }
 
     // The literals after the first.
-    fn further_literals(
-        &mut self,
-        alloc: Global,
-        first: Literal<'a>,
-    ) -> Result<Vec<Literal<'a>>, Refusal>
-        ensures read { Parses (λ v. map literal_of (drop 1 v.items)) result self.old self.new (further begins_literal literal_at (most_literals - 1)) }
-        ensures first { IfOk result (λ v. v.items ≡ first.entry ∷ drop 1 v.items) }
+    fn further_literals(&mut self, alloc: Global, first: Literal) -> Result<Vec<Literal>, Refusal>
+        ensures read { Parses (λ v. drop 1 v.items) result self.old self.new (further begins_literal valued_literal_at (most_literals - 1)) }
+        ensures first { IfOk result (λ v. v.items ≡ first ∷ drop 1 v.items) }
     {
         let mut literals = Vec::new(alloc);
         literals.push(first)?;
@@ -148,25 +142,25 @@ impl<'a> Cursor<'a> {
     }
 
     /// At most sixteen literals with commas between, at least one.
-    #[tactic(auto, unfolding(lt_grammar::specs::Productions::body_at))]
-    pub fn body(&mut self, alloc: Global) -> Result<Vec<Literal<'a>>, Refusal>
-        ensures read { Parses (λ v. body_of v.items) result self.old self.new body_at }
-        ensures all { IfOk result (λ v. literals_of v.items ≡ (body_of v.items).0 ∷ (body_of v.items).1) }
+    #[tactic(auto, unfolding(crate::specs::Valued::valued_body_at))]
+    pub fn body(&mut self, alloc: Global) -> Result<LiteralList, Refusal>
+        ensures { Parses (λ v. v) result self.old self.new valued_body_at }
     {
         let first = self.literal(alloc)?;
-        self.further_literals(alloc, first)
+        let literals = self.further_literals(alloc, first)?;
+        Ok(LiteralList::from_vec(literals))
     }
 
     /// `where` and a body, or nothing.
     #[tactic(auto, using(crate::proofs::Choice::where_some, crate::proofs::Choice::where_none))]
-    pub fn where_part(&mut self, alloc: Global) -> Result<Vec<Literal<'a>>, Refusal>
-        ensures { Parses (λ v. literals_of v.items) result self.old self.new where_at }
+    pub fn where_part(&mut self, alloc: Global) -> Result<LiteralList, Refusal>
+        ensures { Parses (λ v. v) result self.old self.new valued_where_at }
     {
         if self.word_stands(Reserved::Where) {
             self.word(Reserved::Where)?;
             let body = self.body(alloc)?;
             return Ok(body);
         }
-        Ok(Vec::new(alloc))
+        Ok(LiteralList::new(alloc))
     }
 }

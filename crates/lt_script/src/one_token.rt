@@ -1,17 +1,19 @@
 //! Parts of the language that are one token.
-ghost use Rattle.std.specs.Prelude.{◌≡◌};
+ghost use Rattle.std.specs.Prelude.{◌≡◌, ◌<◌, IfOk};
 ghost use Rattle.lt_reading.specs.Reading.{token as this_token, next_is, in_table};
 ghost use Rattle.lt_model.specs.Tokens.{word as word_shape, sign as sign_shape};
 ghost use Rattle.lt_grammar.specs.Tokens.{same_shape};
-ghost use Rattle.lt_grammar.specs.Productions.{stands, is_word as word_test, is_number as number_test, is_plus, name_at, number_at, quoted_at, op_at, other_ops, other_op_at, plus_at, need_at, kind_at};
+ghost use Rattle.lt_grammar.specs.Grammar.{past};
+ghost use Rattle.lt_grammar.specs.Productions.{stands, is_word as word_test, is_number as number_test, is_plus, name_at, quoted_at, op_at, other_ops, other_op_at, plus_at, need_at, kind_at};
 ghost use Rattle.lt_script.specs.Reserved.{word_text, sign_text};
+ghost use Rattle.lt_script.specs.Valued.{valued_number_at};
 ghost use Rattle.lt_script.specs.View.{shape};
 ghost use Rattle.lt_script.specs.Ahead.{shapes};
 ghost use Rattle.lt_script.specs.Parsed.{Parses};
 
 use crate::cursor::Cursor;
 use crate::label::Label;
-use crate::range::is_int;
+use crate::range::read_number;
 use crate::refusal::{Cause, Refusal};
 use crate::reserved::{Reserved, Sign};
 use crate::token::{Lexeme, Token};
@@ -161,8 +163,9 @@ impl<'a> Cursor<'a> {
     }
 
     /// A number, in the range of an int, behind a minus or without one.
-    pub fn number(&mut self, minus: bool) -> Result<&'a [u8], Refusal>
-        ensures { Parses (λ x. x.now) result self.old self.new (number_at minus) }
+    pub fn number(&mut self, minus: bool) -> Result<u64, Refusal>
+        ensures read { Parses (λ n. n) result self.old self.new (valued_number_at minus) }
+        ensures within { IfOk result (λ n. n < past minus) }
     {
         match self.peek() {
             Some(
@@ -171,11 +174,11 @@ impl<'a> Cursor<'a> {
                     ..
                 },
             ) => {
-                if !is_int(minus, digits) {
+                let Some(number) = read_number(minus, digits) else {
                     return Err(Refusal::Fault(Cause::TooLarge));
-                }
+                };
                 self.advance();
-                Ok(digits)
+                Ok(number)
             }
             _ => not_allowed(),
         }

@@ -1,10 +1,10 @@
 //! The range of numbers.
-ghost use Rattle.std.specs.Prelude.{◌≡◌, ◌≤◌, nat_lt};
+ghost use Rattle.std.specs.Prelude.{◌≡◌, ◌≤◌, Some, None, cond, nat_lt};
 ghost use Rattle.lt_model.specs.Grammar.{digits_value};
 ghost use Rattle.lt_grammar.specs.Grammar.{past};
 
 // The least number past the range of an int, behind a minus or without one.
-fn past_range(minus: bool) -> u128
+fn past_range(minus: bool) -> u64
     ensures is { result ≡ past minus }
     ensures most { result ≤ 9223372036854775809 }
 {
@@ -15,18 +15,22 @@ fn past_range(minus: bool) -> u128
     }
 }
 
-/// Whether the number is in the range of an int, behind a minus or without one.
-pub fn is_int(minus: bool, digits: &[u8]) -> bool
-    ensures { result ≡ nat_lt (digits_value digits.now) (past minus) }
+// Ten times this is past each range.
+const PAST_TENTH: u64 = 922_337_203_685_477_581;
+
+/// The number that digits spell, where it is in the range of an int, behind a minus or without one. Zeros may stand before it.
+pub fn read_number(minus: bool, digits: &[u8]) -> Option<u64>
+    ensures { result ≡ cond (nat_lt (digits_value digits.now) (past minus)) (Some (digits_value digits.now)) None }
 {
-    let end = past_range(minus);
-    let mut value: u128 = 0;
+    let mut value: u64 = 0;
     'digits: for digit in digits {
-        let next = value * 10 + u128::from(digit.saturating_sub(b'0'));
-        if next >= end {
-            return false;
+        if value >= PAST_TENTH {
+            return None;
         }
-        value = next;
+        value = value * 10 + u64::from(digit.saturating_sub(b'0'));
     }
-    true
+    if value >= past_range(minus) {
+        return None;
+    }
+    Some(value)
 }

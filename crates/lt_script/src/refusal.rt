@@ -4,6 +4,7 @@ ghost use Rattle.lt_reading.specs.Faults.{code_of};
 ghost use Rattle.lt_script.specs.declared.refusal.Refusal.TheVariants.{NoMemory};
 ghost use Rattle.lt_script.specs.Parsed.{cause_of};
 
+use lt_face::memory::NoMemory;
 use std::alloc::{AllocError, AllocFailed};
 
 /// Why a token isn't allowed where it stands.
@@ -26,6 +27,14 @@ impl From<AllocError> for Refusal {
     ghost from_gives = { λ _ e. e ≡ NoMemory };
 
     fn from(_: AllocError) -> Self {
+        Refusal::NoMemory
+    }
+}
+
+impl From<NoMemory> for Refusal {
+    ghost from_gives = { λ _ e. e ≡ NoMemory };
+
+    fn from(_: NoMemory) -> Self {
         Refusal::NoMemory
     }
 }

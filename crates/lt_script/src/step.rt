@@ -1,7 +1,6 @@
 //! The next item of a source, or how the source ends.
 ghost use Rattle.std.specs.Prelude.{◌≡◌, ◌≢◌, []};
 
-use crate::build;
 use crate::cursor::Cursor;
 use crate::refusal::Refusal;
 use crate::standing::Standing;
@@ -62,10 +61,7 @@ impl<'a> Cursor<'a> {
         ensures { IsTaken self.old self.new result }
     {
         match self.item(alloc) {
-            Ok(tree) => match build::item(alloc, &tree) {
-                Ok(item) => Step::Item(item),
-                Err(_) => Step::NoMemory,
-            },
+            Ok(item) => Step::Item(item),
             Err(refusal) => Step::refused(refusal, self.standing()),
         }
     }

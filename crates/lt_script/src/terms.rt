@@ -1,36 +1,40 @@
 //! Terms, and relations with their arguments.
-ghost use Rattle.std.specs.Prelude.{◌≡◌, ◌∷◌, ◌-◌, IfOk, drop, map};
+ghost use Rattle.std.specs.Prelude.{◌≡◌, ◌∷◌, ◌-◌, IfOk, drop};
 ghost use Rattle.lt_face.specs.Limits.{most_columns};
 ghost use Rattle.lt_reading.specs.Reading.{next_is, given, led, past_comma};
 ghost use Rattle.lt_model.specs.Grammar.{comma};
 ghost use Rattle.lt_grammar.specs.Tokens.{same_shape};
-ghost use Rattle.lt_grammar.specs.Grammar.{numeral};
-ghost use Rattle.lt_grammar.specs.Productions.{number_at, constant_at, term_at, starts_term as begins_term, terms_at, head_at};
+ghost use Rattle.lt_grammar.specs.Productions.{starts_term as begins_term};
+ghost use Rattle.lt_script.specs.Valued.{int_term, valued_number_at, valued_constant_at, valued_term_at, valued_terms_at, valued_head_at};
 ghost use Rattle.lt_script.specs.Ahead.{shapes};
-ghost use Rattle.lt_script.specs.Tree.{term_of, terms_of, head_of};
 ghost use Rattle.lt_script.specs.Parsed.{Parses, Refuses, further};
 
+use crate::cells::{int_cell, symbol_cell};
 use crate::cursor::Cursor;
 use crate::refusal::{Cause, Refusal};
 use crate::reserved::Sign;
 use crate::token::Lexeme;
-use crate::tree::{Head, Term, Terms};
 use lt_face::limits::MOST_COLUMNS;
+use lt_model::kind::Kind;
+use lt_model::syntax::{Head, Term, TermList};
 use std::alloc::Global;
+
+// The room that a list of terms begins with.
+const MOST_USED: usize = 4;
 
 impl<'a> Cursor<'a> {
     // A number as a term, behind a minus or without one.
-    fn numeral(&mut self, minus: bool) -> Result<Term<'a>, Refusal>
-        ensures { Parses term_of result self.old self.new (given (λ digits. numeral minus digits) (number_at minus)) }
+    fn numeral(&mut self, minus: bool) -> Result<Term, Refusal>
+        ensures { Parses (λ x. x) result self.old self.new (given (λ n. int_term minus n) (valued_number_at minus)) }
     {
-        let digits = self.number(minus)?;
-        Ok(Term::Numeral { minus, digits })
+        let number = self.number(minus)?;
+        Ok(Term::Cell(Kind::Int, int_cell(minus, number)))
     }
 
     /// A term that is no name.
     #[tactic(auto, using(crate::proofs::Choice::constant_minus, crate::proofs::Choice::constant_number, crate::proofs::Choice::constant_quoted))]
-    pub fn constant(&mut self) -> Result<Term<'a>, Refusal>
-        ensures { Parses term_of result self.old self.new constant_at }
+    pub fn constant(&mut self) -> Result<Term, Refusal>
+        ensures { Parses (λ x. x) result self.old self.new valued_constant_at }
     {
         if self.sign_stands(Sign::Minus) {
             self.sign(Sign::Minus)?;
@@ -40,17 +44,17 @@ impl<'a> Cursor<'a> {
             return self.numeral(false);
         }
         let text = self.quoted()?;
-        Ok(Term::Quoted(text))
+        Ok(Term::Cell(Kind::Sym, symbol_cell(&text)))
     }
 
     /// A name or a constant.
     #[tactic(auto, using(crate::proofs::Choice::term_name, crate::proofs::Choice::term_constant))]
-    pub fn term(&mut self) -> Result<Term<'a>, Refusal>
-        ensures { Parses term_of result self.old self.new term_at }
+    pub fn term(&mut self, alloc: Global) -> Result<Term, Refusal>
+        ensures { Parses (λ x. x) result self.old self.new valued_term_at }
     {
         if self.any_word_stands() {
             let name = self.name()?;
-            return Ok(Term::Name(name));
+            return Ok(Term::Name(name.to_name(alloc)));
         }
         self.constant()
     }
@@ -84,50 +88,53 @@ impl<'a> Cursor<'a> {
         Refusal::Fault(Cause::NotAllowed)
     }
 
-    fn next_term(&mut self) -> Result<Term<'a>, Refusal>
-        ensures { Parses term_of result self.old self.new (led same_shape comma term_at) }
+    fn next_term(&mut self, alloc: Global) -> Result<Term, Refusal>
+        ensures { Parses (λ x. x) result self.old self.new (led same_shape comma valued_term_at) }
     {
         self.sign(Sign::Comma)?;
-        let term = self.term()?;
+        let term = self.term(alloc)?;
         Ok(term)
     }
 
     // The terms after the first.
-    fn further_terms(&mut self, alloc: Global, first: Term<'a>) -> Result<Terms<'a>, Refusal>
-        ensures read { Parses (λ v. map term_of (drop 1 v.items)) result self.old self.new (further begins_term term_at (most_columns - 1)) }
-        ensures first { IfOk result (λ v. v.items ≡ first.entry ∷ drop 1 v.items) }
+    fn further_terms(&mut self, alloc: Global, first: Term) -> Result<Vec<Term>, Refusal>
+        ensures read { Parses (λ v. drop 1 v.items) result self.old self.new (further begins_term valued_term_at (most_columns - 1)) }
+        ensures first { IfOk result (λ v. v.items ≡ first ∷ drop 1 v.items) }
     {
-        let mut terms = Terms::new(alloc);
+        let mut terms = Vec::with_capacity(alloc, MOST_USED)?;
         terms.push(first)?;
         'terms: while self.sign_stands(Sign::Comma) {
             if terms.len() == MOST_COLUMNS {
                 return Err(self.too_many_terms());
             }
-            let term = self.next_term()?;
+            let term = self.next_term(alloc)?;
             terms.push(term)?;
         }
         Ok(terms)
     }
 
     /// At most eight terms between parentheses.
-    #[tactic(auto, unfolding(lt_grammar::specs::Productions::terms_at))]
-    pub fn terms(&mut self, alloc: Global) -> Result<Terms<'a>, Refusal>
-        ensures { Parses (λ v. terms_of v.items) result self.old self.new terms_at }
+    #[tactic(auto, unfolding(crate::specs::Valued::valued_terms_at))]
+    pub fn terms(&mut self, alloc: Global) -> Result<TermList, Refusal>
+        ensures { Parses (λ v. v) result self.old self.new valued_terms_at }
     {
         self.sign(Sign::Open)?;
-        let first = self.term()?;
+        let first = self.term(alloc)?;
         let terms = self.further_terms(alloc, first)?;
         self.sign(Sign::Close)?;
-        Ok(terms)
+        Ok(TermList::from_vec(terms))
     }
 
     /// A relation and its arguments.
-    #[tactic(auto, unfolding(lt_grammar::specs::Productions::head_at))]
-    pub fn head(&mut self, alloc: Global) -> Result<Head<'a>, Refusal>
-        ensures { Parses head_of result self.old self.new head_at }
+    #[tactic(auto, unfolding(crate::specs::Valued::valued_head_at))]
+    pub fn head(&mut self, alloc: Global) -> Result<Head, Refusal>
+        ensures { Parses (λ x. x) result self.old self.new valued_head_at }
     {
         let relation = self.name()?;
         let terms = self.terms(alloc)?;
-        Ok(Head { relation, terms })
+        Ok(Head {
+            relation: relation.to_name(alloc),
+            terms,
+        })
     }
 }

@@ -1,7 +1,7 @@
 use Rattle.std.proofs.Common.{◌≡◌, ◌+◌, ◌-◌, ◌*◌, drop}
 use Rattle.std.specs.Prelude.{fold}
 use Rattle.lt_model.specs.Grammar.{digits_value}
-use Rattle.lt_script.proofs.cells.number.Given as goal
+use Rattle.lt_script.proofs.range.read_number.Given as goal
 
 -- the digits so far have this value, and the others go on from it
 abbrev pub invariant-digits : goal.invariant-digits
