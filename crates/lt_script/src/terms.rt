@@ -19,8 +19,8 @@ use lt_model::kind::Kind;
 use lt_model::syntax::{Head, Term, TermList};
 use std::alloc::Global;
 
-// The room that a list of terms begins with.
-const MOST_USED: usize = 4;
+// The room that a list of terms begins with: most have no more.
+const FIRST_ROOM: usize = 4;
 
 impl<'a> Cursor<'a> {
     // A number as a term, behind a minus or without one.
@@ -101,7 +101,7 @@ impl<'a> Cursor<'a> {
         ensures read { Parses (λ v. drop 1 v.items) result self.old self.new (further begins_term valued_term_at (most_columns - 1)) }
         ensures first { IfOk result (λ v. v.items ≡ first ∷ drop 1 v.items) }
     {
-        let mut terms = Vec::with_capacity(alloc, MOST_USED)?;
+        let mut terms = Vec::with_capacity(alloc, FIRST_ROOM)?;
         terms.push(first)?;
         'terms: while self.sign_stands(Sign::Comma) {
             if terms.len() == MOST_COLUMNS {
