@@ -1,9 +1,10 @@
 //! What is read of a script.
-ghost use Rattle.std.specs.Prelude.{◌≡◌, ◌≤◌, false, IfOk, IfErr};
+ghost use Rattle.std.specs.Prelude.{◌≡◌, ◌≤◌, false, IsTrue, IfOk, IfErr};
 ghost use Rattle.lt_session.specs.declared.input.InputError.TheVariants as errors;
 ghost use Rattle.lt_session.specs.Input.{limit};
 ghost use Rattle.lt_session.specs.Reads.{ReadsOn, StopsReading};
 
+use crate::endings::{begun_behind, may_end};
 use lt_edges::{Failed, Source};
 use lt_face::NoMemory;
 use lt_script::Feed;
@@ -14,7 +15,10 @@ pub const LIMIT: usize = 16_777_216;
 // So many bytes are read at a time.
 const PIECE: usize = 4096;
 
-// An item that is longer is looked at only where it has grown much.
+// An item of which so much was looked at is a batch: no other is as long, but for comments.
+const SHORT: usize = 256;
+
+// Where more is kept, it is looked at only once it has grown much.
 const LONG: usize = 1_048_576;
 
 /// Why the input wasn't read on.
@@ -41,24 +45,43 @@ impl From<Failed> for InputError {
     }
 }
 
-/// How many bytes were taken from a source, and whether its end was met.
+/// How many bytes were taken from a source, and whether its end was met. Where a batch begins behind the last end of a batch in
+/// what was read last, `begun` is how many bytes stand behind that end.
 #[derive(Clone, Copy, Debug)]
 pub struct Taken {
     pub count: usize,
     pub ended: bool,
+    pub begun: Option<usize>,
+}
+
+impl Taken {
+    /// Whether the feed, which keeps so many bytes, stands before a batch whose end isn't among them, and more bytes are at hand.
+    pub fn is_inside(&self, kept: usize) -> bool
+        ensures { IsTrue result → self.now.ended ≡ false }
+    {
+        !self.ended && self.begun == Some(kept)
+    }
+}
+
+// What `begun` is behind this piece. Behind a short one nothing may be at hand.
+fn begun(piece: &[u8]) -> Option<usize> {
+    if piece.len() < PIECE {
+        return None;
+    }
+    begun_behind(piece)
 }
 
 // Whether the feed is asked again behind this piece, where it kept `looked` bytes when it was last asked. As it looks at all
-// bytes that it keeps, it isn't before they are four times as many, unless who feeds the source may wait for an answer: the
-// source has no more at hand, or a batch may end here.
+// bytes that it keeps, it isn't while a batch has no end in sight, unless who feeds the source may wait for an answer: the
+// source has no more at hand. Where much is kept, it isn't before that is four times as much.
 fn is_asked(piece: &[u8], kept: usize, looked: usize) -> bool {
-    if kept / 4 >= looked {
+    if looked < SHORT {
         return true;
     }
     if kept > LONG {
-        return false;
+        return kept / 4 >= looked;
     }
-    piece.len() < PIECE || piece.trim_ascii_end().ends_with(b"commit;")
+    piece.len() < PIECE || may_end(piece)
 }
 
 /// Feeds what comes next of a source from which `count` bytes were taken: one piece, or more where an item is long.
@@ -83,6 +106,7 @@ pub fn read_on<S: Source>(
             return Ok(Taken {
                 count: taken,
                 ended: true,
+                begun: None,
             });
         }
         if read > LIMIT - taken {
@@ -95,6 +119,7 @@ pub fn read_on<S: Source>(
             return Ok(Taken {
                 count: taken,
                 ended: false,
+                begun: begun(&piece[..read]),
             });
         }
     }

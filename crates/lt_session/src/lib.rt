@@ -5,6 +5,7 @@ mod batch;
 mod bench;
 mod beside;
 mod come;
+mod endings;
 mod halt;
 mod input;
 pub mod laws;

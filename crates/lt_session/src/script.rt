@@ -73,6 +73,7 @@ pub fn write_report<R: Threads + Wait + Sync, S: Source, K: Sink, G: Gate>(
     let mut taken = Taken {
         count: 0,
         ended: false,
+        begun: None,
     };
     let mut written = false;
     'steps: loop {
@@ -80,6 +81,9 @@ pub fn write_report<R: Threads + Wait + Sync, S: Source, K: Sink, G: Gate>(
             FeedStep::Item(item) => {
                 world.take(rt, alloc, sink, item, options, gate)?;
                 written = true;
+                if taken.is_inside(feed.kept()) {
+                    taken = go_on(source, sink, &mut feed, taken.count, &mut written)?;
+                }
             }
             FeedStep::More => { taken = go_on(source, sink, &mut feed, taken.count, &mut written)? }
             FeedStep::End => return Ok(false),
