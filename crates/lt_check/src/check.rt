@@ -10,7 +10,7 @@ ghost use Rattle.lt_check.specs.States.{IsStateOf};
 ghost use Rattle.lt_check.specs.Outcome.{IsFault};
 
 use crate::schema::Schema;
-use crate::statement::check_statement;
+use crate::statement::{Desk, check_statement};
 use lt_face::memory::NoMemory;
 use lt_model::normal::Prog;
 use lt_model::syntax::Program;
@@ -45,10 +45,27 @@ pub fn check(alloc: Global, program: &Program, schema: &Schema) -> Result<Prog, 
     ensures keyed { IfOk result (λ prog. AllByRecursion (InsertsBy (keys_in schema.now)) prog) }
     ensures bad { IfErr result (λ fault. IsFault (checked program.now schema.now) fault) }
 {
+    let mut desk = Desk::new(alloc);
+    check_at(alloc, program, schema, &mut desk)
+}
+
+/// The same, at a desk whose room serves the next program.
+pub fn check_at<'a>(
+    alloc: Global,
+    program: &'a Program,
+    schema: &'a Schema,
+    desk: &mut Desk<'a>,
+) -> Result<Prog, CheckFault>
+    requires { IsProgramWithin program.now }
+    ensures good { IfOk result (λ prog. checked program.now schema.now ≡ Good prog) }
+    ensures fits { IfOk result (λ prog. (state : State) → IsStateOf schema.now state → Fits state prog) }
+    ensures keyed { IfOk result (λ prog. AllByRecursion (InsertsBy (keys_in schema.now)) prog) }
+    ensures bad { IfErr result (λ fault. IsFault (checked program.now schema.now) fault) }
+{
     let _keyed = schema.headings();
     let mut prog = Prog::new(alloc);
     for (place, statement) in program.statements.as_slice().iter().enumerate() {
-        let stmt = check_statement(alloc, schema, statement, place as u32 + 1)?;
+        let stmt = check_statement(alloc, schema, statement, place as u32 + 1, desk)?;
         prog.push(stmt)?;
     }
     Ok(prog)

@@ -1,5 +1,5 @@
 //! The columns of a statement's atoms. Each relation is looked up once.
-ghost use Rattle.std.specs.Prelude.{◌≡◌, ◌==◌, not, length, IfOk, IfSome, is_none};
+ghost use Rattle.std.specs.Prelude.{◌≡◌, ◌==◌, not, length, true, IfOk};
 ghost use Rattle.std.specs.List.{list_any};
 ghost use Rattle.lt_model.specs.Check.{is_unknown, is_misfit};
 ghost use Rattle.lt_check.specs.Seen.{seen, HasColumns};
@@ -8,25 +8,24 @@ use crate::schema::Schema;
 use lt_face::memory::NoMemory;
 use lt_model::kind::Kind;
 use lt_model::syntax::Head;
-use std::alloc::Global;
 
-/// The kinds of the columns of each atom's relation, None where a relation isn't there.
-pub fn columns_of<'a>(
-    alloc: Global,
+/// Lists the kinds of the columns of each atom's relation, and says whether each relation is there.
+pub fn list_columns<'a>(
+    columns: &mut Vec<&'a [Kind]>,
     schema: &'a Schema,
     atoms: &[&Head],
-) -> Result<Option<Vec<&'a [Kind]>>, NoMemory>
-    ensures unknown { IfOk result (λ found. is_none found ≡ list_any (is_unknown schema.now) (seen atoms.now)) }
-    ensures columns { IfOk result (λ found. IfSome found (λ columns. HasColumns schema.now (seen atoms.now) (seen columns.items))) }
+) -> Result<bool, NoMemory>
+    ensures unknown { IfOk result (λ known. not known ≡ list_any (is_unknown schema.now) (seen atoms.now)) }
+    ensures columns { IfOk result (λ known. known ≡ true → HasColumns schema.now (seen atoms.now) (seen columns.new.items)) }
 {
-    let mut columns = Vec::new(alloc);
+    columns.clear();
     for atom in atoms {
         let Some(kinds) = schema.known_columns(&atom.relation) else {
-            return Ok(None);
+            return Ok(false);
         };
         columns.push(kinds)?;
     }
-    Ok(Some(columns))
+    Ok(true)
 }
 
 // Whether the atom has another number of arguments than these columns.

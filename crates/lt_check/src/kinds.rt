@@ -1,5 +1,5 @@
 //! The kinds of a statement's variables, found from what each condition says of them.
-ghost use Rattle.std.specs.Prelude.{◌≡◌, ◌≤◌, ◌&&◌, IfOk, map, length, replicate, unwrap_or, slice_index_or};
+ghost use Rattle.std.specs.Prelude.{◌≡◌, ◌≤◌, ◌&&◌, if◌then◌else◌, [], Some, None, IfOk, map, length, replicate, unwrap_or, slice_index_or};
 ghost use Rattle.std.specs.List.{list_all};
 ghost use Rattle.lt_face.specs.Limits.{most_columns};
 ghost use Rattle.lt_model.specs.Check.{kind_of, same_kind, same_kinds, atom_fits, literal_fits};
@@ -63,13 +63,22 @@ impl Model for Known {
 }
 
 impl Known {
-    /// Nothing is known of so many variables.
-    pub fn new(alloc: Global, count: usize) -> Result<Known, NoMemory>
-        ensures { IfOk result (λ known. known ≡ replicate count None) }
+    /// There is no variable.
+    pub fn new(alloc: Global) -> Known
+        ensures { result ≡ [] }
     {
-        Ok(Known {
-            kinds: vec![in alloc; None; count]?,
-        })
+        Known {
+            kinds: Vec::new(alloc),
+        }
+    }
+
+    // Nothing is known of so many variables.
+    fn forget(&mut self, count: usize) -> Result<(), NoMemory>
+        ensures { IfOk result (λ _. self.new ≡ replicate count None) }
+    {
+        self.kinds.clear();
+        self.kinds.resize(count, None)?;
+        Ok(())
     }
 
     fn at(&self, place: u32) -> Option<Kind>
@@ -222,24 +231,24 @@ impl Known {
     }
 }
 
-/// Kinds of so many variables as there are names, by which every argument has its column's kind and every literal
-/// fits. None where there are no such kinds.
-pub fn settled(
-    alloc: Global,
+/// Finds kinds of so many variables as there are names, by which every argument has its column's kind and every literal
+/// fits, and says whether there are such kinds.
+pub fn settle(
+    known: &mut Known,
     schema: &Schema,
     names: &Names,
     atoms: &[&Head],
     columns: &[&[Kind]],
     body: &[Literal],
-) -> Result<Option<Known>, NoMemory>
+) -> Result<bool, NoMemory>
     requires { HasColumns schema.now (seen atoms.now) (seen columns.now) }
-    ensures { IfOk result (λ found. Settles (all_fit schema.now names.now (seen atoms.now) body.now) (length names.now) found) }
+    ensures { IfOk result (λ found. Settles (all_fit schema.now names.now (seen atoms.now) body.now) (length names.now) (if found then Some known.new else None)) }
 {
-    let mut known = Known::new(alloc, names.count())?;
+    known.forget(names.count())?;
     loop {
         match known.learn_all(schema, names, atoms, columns, body) {
-            Told::Nothing => return Ok(Some(known)),
-            Told::Conflict => return Ok(None),
+            Told::Nothing => return Ok(true),
+            Told::Conflict => return Ok(false),
             Told::More => {}
         }
     }

@@ -10,3 +10,5 @@ mod normal_form;
 mod occurrences;
 pub mod schema;
 mod statement;
+
+pub use statement::Desk;

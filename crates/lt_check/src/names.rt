@@ -1,13 +1,17 @@
 //! The numbers of a statement's variables.
-ghost use Rattle.std.specs.Prelude.{◌≡◌, ◌≤◌, length};
+ghost use Rattle.std.specs.Prelude.{◌≡◌, ◌≤◌, [], length, IfOk};
 ghost use Rattle.std.specs.List.{list_any};
 ghost use Rattle.std.specs.Str.{bytes_eq};
 ghost use Rattle.lt_face.specs.Limits.{most_variables};
-ghost use Rattle.lt_model.specs.Variables.{place_of};
+ghost use Rattle.lt_model.specs.Variables.{place_of, variables};
 ghost use Rattle.lt_check.specs.Seen.{seen};
 
+use crate::occurrences::list_variables;
+use lt_face::memory::NoMemory;
 use lt_model::name::Name;
+use lt_model::syntax::Statement;
 use lt_reading::texts::are_same;
+use std::alloc::Global;
 use std::marker::Model;
 
 /// At most 16 names by number.
@@ -41,12 +45,27 @@ pub fn has_name(names: &[&[u8]], name: &[u8]) -> bool
 }
 
 impl<'a> Names<'a> {
-    /// These names, each with the number of those before it.
-    pub fn over(names: Vec<&'a [u8]>) -> Names<'a>
-        requires { length names.items ≤ most_variables }
-        ensures { result ≡ seen names.entry.items }
+    /// No names.
+    pub fn new(alloc: Global) -> Names<'a>
+        ensures { result ≡ [] }
     {
-        Names { names }
+        Names {
+            names: Vec::new(alloc),
+        }
+    }
+
+    /// The variables of a statement, each with the number of those before it, in place of the names that were here.
+    pub fn list(&mut self, statement: &'a Statement) -> Result<(), NoMemory>
+        requires { length (variables statement.now) ≤ most_variables }
+        ensures { IfOk result (λ _. self.new ≡ variables statement.now) }
+    {
+        match list_variables(&mut self.names, statement) {
+            Ok(()) => Ok(()),
+            Err(fault) => {
+                self.names.clear();
+                Err(fault)
+            }
+        }
     }
 
     /// How many there are.

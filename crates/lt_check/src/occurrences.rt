@@ -7,7 +7,6 @@ ghost use Rattle.lt_check.specs.Seen.{seen, with_variables};
 use crate::names::has_name;
 use lt_face::memory::NoMemory;
 use lt_model::syntax::{Head, Literal, Statement, Term};
-use std::alloc::Global;
 
 /// The literals of a statement's body.
 pub fn body_of(statement: &Statement) -> &[Literal]
@@ -36,11 +35,11 @@ fn push_atoms<'a>(atoms: &mut Vec<&'a Head>, literals: &'a [Literal]) -> Result<
     Ok(())
 }
 
-/// A statement's heads, and the atoms of its body, negated or not.
-pub fn atoms_of(alloc: Global, statement: &Statement) -> Result<Vec<&Head>, NoMemory>
-    ensures { IfOk result (λ atoms. seen atoms.items ≡ model.atoms_of statement.now) }
+/// Lists a statement's heads, and the atoms of its body, negated or not.
+pub fn list_atoms<'a>(atoms: &mut Vec<&'a Head>, statement: &'a Statement) -> Result<(), NoMemory>
+    ensures { IfOk result (λ _. seen atoms.new.items ≡ model.atoms_of statement.now) }
 {
-    let mut atoms = Vec::new(alloc);
+    atoms.clear();
     match statement {
         Statement::Insert { head, .. } => atoms.push(head)?,
         Statement::Delete { head, .. } => atoms.push(head)?,
@@ -51,8 +50,7 @@ pub fn atoms_of(alloc: Global, statement: &Statement) -> Result<Vec<&Head>, NoMe
         Statement::Require { .. } => {}
         Statement::Print { .. } => {}
     }
-    push_atoms(&mut atoms, body_of(statement))?;
-    Ok(atoms)
+    push_atoms(atoms, body_of(statement))
 }
 
 // Adds a name, if it is new.
@@ -129,13 +127,15 @@ fn add_front<'a>(names: &mut Vec<&'a [u8]>, statement: &'a Statement) -> Result<
     Ok(())
 }
 
-/// The different variables of a statement, in text order.
+/// Lists the different variables of a statement, in text order.
 #[tactic(auto, using(crate::proofs::Steps::with_variables_both))]
-pub fn variables_of(alloc: Global, statement: &Statement) -> Result<Vec<&[u8]>, NoMemory>
-    ensures { IfOk result (λ names. seen names.items ≡ model.variables statement.now) }
+pub fn list_variables<'a>(
+    names: &mut Vec<&'a [u8]>,
+    statement: &'a Statement,
+) -> Result<(), NoMemory>
+    ensures { IfOk result (λ _. seen names.new.items ≡ model.variables statement.now) }
 {
-    let mut names = Vec::new(alloc);
-    add_front(&mut names, statement)?;
-    add_literals(&mut names, body_of(statement))?;
-    Ok(names)
+    names.clear();
+    add_front(names, statement)?;
+    add_literals(names, body_of(statement))
 }

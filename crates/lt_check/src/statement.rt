@@ -1,5 +1,5 @@
 //! The check of one statement.
-ghost use Rattle.std.specs.Prelude.{◌≡◌, ◌≤◌, IfOk, IfErr, None, length, map};
+ghost use Rattle.std.specs.Prelude.{◌≡◌, ◌≤◌, if◌then◌else◌, IfOk, IfErr, Some, None, length, map};
 ghost use Rattle.std.specs.List.{list_all};
 ghost use Rattle.lt_face.specs.Limits.{most_columns};
 ghost use Rattle.lt_model.specs.Bound.{is_bound};
@@ -13,11 +13,11 @@ ghost use Rattle.lt_check.specs.Seen.{seen, HasColumns};
 
 use crate::bound::Bound;
 use crate::check::CheckFault;
-use crate::columns::{columns_of, has_misfit};
-use crate::kinds::{Known, settled};
+use crate::columns::{has_misfit, list_columns};
+use crate::kinds::{Known, settle};
 use crate::names::Names;
 use crate::normal_form::{atom, body as normal_body, numbered};
-use crate::occurrences::{atoms_of, body_of, variables_of};
+use crate::occurrences::{body_of, list_atoms};
 use crate::schema::Schema;
 use lt_face::memory::NoMemory;
 use lt_model::kind::{Kind, KindList};
@@ -100,21 +100,21 @@ fn with_body(
     }
 }
 
-// Kinds by which the statement's conditions fit.
-fn kinds_of(
-    alloc: Global,
+// Finds kinds by which the statement's conditions fit.
+fn settle_kinds(
+    known: &mut Known,
     schema: &Schema,
     names: &Names,
     atoms: &[&Head],
     columns: &[&[Kind]],
     statement: &Statement,
-) -> Result<Option<Known>, NoMemory>
+) -> Result<bool, NoMemory>
     requires columns { HasColumns schema.now (seen atoms.now) (seen columns.now) }
     requires names { names.now ≡ variables statement.now }
     requires atoms { seen atoms.now ≡ model.atoms_of statement.now }
-    ensures { IfOk result (λ found. Settles (choice_fits schema.now statement.now) (length names.now) found) }
+    ensures { IfOk result (λ found. Settles (choice_fits schema.now statement.now) (length names.now) (if found then Some known.new else None)) }
 {
-    settled(alloc, schema, names, atoms, columns, body_of(statement))
+    settle(known, schema, names, atoms, columns, body_of(statement))
 }
 
 // Whether the body binds each of these variables.
@@ -126,32 +126,64 @@ fn binds(alloc: Global, body: &Body, names: &Names) -> Result<bool, NoMemory>
     Ok(bound.has_all(names))
 }
 
+/// Lists for the check of one statement after another. They keep their room.
+#[derive(Drop)]
+pub struct Desk<'a> {
+    atoms: Vec<&'a Head>,
+    columns: Vec<&'a [Kind]>,
+    names: Names<'a>,
+    known: Known,
+}
+
+impl<'a> Desk<'a> {
+    /// Empty lists.
+    pub fn new(alloc: Global) -> Desk<'a> {
+        Desk {
+            atoms: Vec::new(alloc),
+            columns: Vec::new(alloc),
+            names: Names::new(alloc),
+            known: Known::new(alloc),
+        }
+    }
+}
+
 /// The normal form of the statement of this number, or its first code.
-pub fn check_statement(
+pub fn check_statement<'a>(
     alloc: Global,
-    schema: &Schema,
-    statement: &Statement,
+    schema: &'a Schema,
+    statement: &'a Statement,
     number: u32,
+    desk: &mut Desk<'a>,
 ) -> Result<Stmt, CheckFault>
     requires { IsStatementWithin statement.now }
     ensures good { IfOk result (λ stmt. (code_of schema.now statement.now ≡ None) × (stmt ≡ normal schema.now statement.now)) }
     ensures bad { IfErr result (λ fault. IsCode (code_of schema.now statement.now) number fault) }
 {
-    let atoms = atoms_of(alloc, statement)?;
-    let Some(columns) = columns_of(alloc, schema, &atoms)? else {
+    list_atoms(&mut desk.atoms, statement)?;
+    let known = list_columns(&mut desk.columns, schema, &desk.atoms)?;
+    if !known {
         return bad(20, number);
-    };
-    if has_misfit(schema, &atoms, &columns) {
+    }
+    if has_misfit(schema, &desk.atoms, &desk.columns) {
         return bad(21, number);
     }
-    let names = Names::over(variables_of(alloc, statement)?);
-    let Some(known) = kinds_of(alloc, schema, &names, &atoms, &columns, statement)? else {
+    desk.names.list(statement)?;
+    let settled = settle_kinds(
+        &mut desk.known,
+        schema,
+        &desk.names,
+        &desk.atoms,
+        &desk.columns,
+        statement,
+    )?;
+    if !settled {
         return bad(22, number);
-    };
-    let body = normal_body(alloc, schema, &names, body_of(statement))?;
-    if !binds(alloc, &body, &names)? {
+    }
+    let body = normal_body(alloc, schema, &desk.names, body_of(statement))?;
+    let bound = binds(alloc, &body, &desk.names)?;
+    if !bound {
         return bad(23, number);
     }
-    let stmt = with_body(alloc, schema, &names, &known, statement, body)?;
+    let stmt = with_body(alloc, schema, &desk.names, &desk.known, statement, body)?;
     Ok(stmt)
 }

@@ -1,7 +1,7 @@
 use Rattle.std.proofs.Common.{◌≡◌, ◌+◌, drop}
 use Rattle.lt_model.specs.Check.{checked_from}
 use Rattle.lt_check.proofs.Statements.{after_all}
-use Rattle.lt_check.proofs.check.check.Given as goal
+use Rattle.lt_check.proofs.check.check_at.Given as goal
 
 -- the answer is the statements so far, and then what is left gives
 abbrev pub invariant-loop-place : goal.invariant-loop-place

@@ -4,7 +4,7 @@ use Rattle.std.proofs.lemmas.Result.{err_from_is_err_and}
 use Rattle.lt_model.specs.Check.{Good, checked, checked_from}
 use Rattle.lt_check.proofs.Fitting.{good_fits, good_inserts}
 use Rattle.lt_check.proofs.Statements.{after_all, checked_more, fault_of, after_all_good}
-use Rattle.lt_check.proofs.check.check.Goals as goal
+use Rattle.lt_check.proofs.check.check_at.Goals as goal
 
 pub returns-in_err-stmt-clause-bad : goal.returns-in_err-stmt-clause-bad
 returns-in_err-stmt-clause-bad c =

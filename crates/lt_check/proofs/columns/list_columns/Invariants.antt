@@ -2,7 +2,7 @@ use Rattle.std.proofs.Common.{◌≡◌, take, drop}
 use Rattle.std.specs.List.{list_any}
 use Rattle.lt_model.specs.Check.{is_unknown}
 use Rattle.lt_check.specs.Seen.{seen, HasColumns}
-use Rattle.lt_check.proofs.columns.columns_of.Given as goal
+use Rattle.lt_check.proofs.columns.list_columns.Given as goal
 
 abbrev pub invariant-loop-atom : goal.invariant-loop-atom
 invariant-loop-atom l =
