@@ -14,7 +14,8 @@ ghost use Rattle.lt_report.specs.Puts.{Puts};
 ghost use Rattle.lt_session.specs.Batches.{checked_of, FitsIfGood, HasAnswers, told};
 
 use lt_batch::{Effects, Replies};
-use lt_check::check::{CheckFault, check};
+use lt_check::Desk;
+use lt_check::check::{CheckFault, check_at};
 use lt_check::schema::Schema;
 use lt_delta::Marks;
 use lt_edges::{Failed, Sink};
@@ -44,12 +45,17 @@ pub struct Ran {
 }
 
 // Checks a program.
-fn judged(alloc: Global, program: &Program, schema: &Schema) -> Result<Judgement, NoMemory>
+fn judged<'a>(
+    alloc: Global,
+    program: &'a Program,
+    schema: &'a Schema,
+    desk: &mut Desk<'a>,
+) -> Result<Judgement, NoMemory>
     requires { IsProgramWithin program.now }
     ensures checked { IfOk result (λ judgement. checked_of judgement ≡ checked program.now schema.now) }
     ensures fits { IfOk result (λ judgement. (state : State) → IsStateOf schema.now state → FitsIfGood state (checked_of judgement)) }
 {
-    match check(alloc, program, schema) {
+    match check_at(alloc, program, schema, desk) {
         Ok(prog) => {
             let prog = Arc::new(alloc, prog)?;
             Ok(Judgement::Good(prog))
@@ -69,9 +75,10 @@ pub fn all_judged(
     ensures checked { IfOk result (λ judgements. map checked_of judgements.items ≡ map (λ (p : ProgramType). checked p schema.now) programs.now) }
     ensures fit { IfOk result (λ judgements. (state : State) → IsStateOf schema.now state → AllByRecursion (FitsIfGood state) (map checked_of judgements.items)) }
 {
+    let mut desk = Desk::new(alloc);
     let mut judgements = Vec::new(alloc);
     for program in programs {
-        let judgement = judged(alloc, program, schema)?;
+        let judgement = judged(alloc, program, schema, &mut desk)?;
         judgements.push(judgement)?;
     }
     Ok(judgements)
