@@ -35,7 +35,7 @@ or_left : (a b : Bool) → a ≡ true → (a || b) ≡ true
 or_left true b h = refl
 or_left false b h = absurd (true≢false (sym h))
 
-not_lt : (o : Ordering) → not (is_lt o) ≡ true → is_lt o ≡ false
+pub not_lt : (o : Ordering) → not (is_lt o) ≡ true → is_lt o ≡ false
 not_lt Less h = absurd (true≢false (sym h))
 not_lt Equal h = refl
 not_lt Greater h = refl

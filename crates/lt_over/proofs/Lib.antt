@@ -2,5 +2,6 @@ pub mod Candidates
 pub mod Counts
 pub mod Edited
 pub mod Firsts
+pub mod Masks
 pub mod Overlays
 pub mod Stacks

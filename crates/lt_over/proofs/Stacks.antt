@@ -66,7 +66,7 @@ map_end : {W X : Type 0} (g : W → X) (ws : List W) (w : W) → map g (ws ++ w 
 map_end g [] w = refl
 map_end g (v ∷ ws) w = ap (λ (xs : List _). g v ∷ xs) (map_end g ws w)
 
-all_end : {X : Type 0} (P : X → Type 0) (xs : List X) (x : X) → AllByRecursion P xs → P x → AllByRecursion P (xs ++ x ∷ [])
+pub all_end : {X : Type 0} (P : X → Type 0) (xs : List X) (x : X) → AllByRecursion P xs → P x → AllByRecursion P (xs ++ x ∷ [])
 all_end P [] x all one = (one, tt)
 all_end P (y ∷ xs) x all one = (all.0, all_end P xs x all.1 one)
 

@@ -4,6 +4,7 @@ use Rattle.std.specs.Ordering.{is_lt}
 use Rattle.std.specs.declared.cmp.Ordering.TheVariants.{Less}
 use Rattle.lt_face.specs.Rows.{IsRow, row_cmp, has_row}
 use Rattle.lt_face.specs.State.{Row}
+use Rattle.lt_over.specs.Layers.{Edits}
 
 -- the row isn't below q
 abbrev pub from : Row → Row → Bool
@@ -30,3 +31,8 @@ pub record IsAhead (width : ℕ) (rows all : List Row) (passes : Row → Bool) (
 abbrev pub IsCandidate : ℕ → List Row → List Row → (Row → Bool) → Option Row → Bool → Type 0
 IsCandidate width rows all passes None stays = (s : Row) → has_row rows s ≡ true → passes s ≡ true → ⊥
 IsCandidate width rows all passes (Some r) stays = IsAhead width rows all passes r stays
+
+-- the layer has no row that isn't below q and isn't above r
+abbrev pub IsApart : Edits → Row → Option Row → Type 0
+IsApart layer q None = ⊥
+IsApart layer q (Some r) = (s : Row) → is_lt (row_cmp s q) ≡ false → is_lt (row_cmp r s) ≡ false → (has_row layer.gone s ≡ false) × (has_row layer.come s ≡ false)

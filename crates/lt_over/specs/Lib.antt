@@ -1,3 +1,4 @@
 pub mod Candidates
 pub mod Layers
+pub mod Masks
 pub mod Overlaid

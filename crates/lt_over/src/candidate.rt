@@ -1,12 +1,13 @@
 //! Searches of rows under layers of edits: the least row in the base or in a layer, and whether all layers let it stay.
-ghost use Rattle.std.specs.Prelude.{◌≡◌, ◌<◌, ◌++◌, ◌∷◌, ◌&&◌, [], List, Bool, find, length, map, not};
+ghost use Rattle.std.specs.Prelude.{◌≡◌, ◌<◌, ◌++◌, ◌∷◌, ◌&&◌, [], List, Bool, find, length, map, not, IsTrue};
 ghost use Rattle.std.specs.Arc.{arc_value};
 ghost use Rattle.std.specs.List.{AllByRecursion};
 ghost use Rattle.std.specs.Option.{option_copied};
 ghost use Rattle.lt_face.specs.Rows.{IsRow, has_row};
 ghost use Rattle.lt_face.specs.State.{Row as RowView};
-ghost use Rattle.lt_over.specs.Candidates.{IsCandidate, IsRising, above, from as at_least};
+ghost use Rattle.lt_over.specs.Candidates.{IsApart, IsCandidate, IsRising, above, from as at_least};
 ghost use Rattle.lt_over.specs.Layers.{IsLayer, gathered, stacked, under};
+ghost use Rattle.lt_over.specs.Masks.{first_cell};
 
 use crate::layer::Layer;
 use crate::search::reaches;
@@ -24,7 +25,7 @@ pub(crate) struct Candidate<'a> {
 fn stays_behind(stays: bool, layer: &Layer, row: &Row) -> bool
     ensures { result ≡ (stays && not (has_row layer.now.gone row.now)) }
 {
-    stays && !layer.gone().has(row)
+    stays && !layer.takes(row)
 }
 
 /// The candidate behind one more layer, which puts `more` in as the least row that the search meets.
@@ -55,6 +56,51 @@ fn passed<'a>(candidate: Candidate<'a>, layer: &Layer, more: Option<&'a Row>) ->
     }
 }
 
+/// The first cell of the prefix with the bound behind it.
+#[inline]
+fn first_of(prefix: &Row, bound: Key) -> Key
+    ensures { result ≡ first_cell prefix.now bound }
+{
+    match prefix.cells().first() {
+        Some(cell) => *cell,
+        None => bound,
+    }
+}
+
+/// Whether the layer is known to have no row from the prefix and then the bound up to this row.
+#[inline]
+fn is_apart(row: Option<&Row>, layer: &Layer, prefix: &Row, bound: Key) -> bool
+    ensures { IsTrue result → IsApart layer.now (prefix.now ++ bound ∷ []) (option_copied row.entry) }
+{
+    match row {
+        None => false,
+        Some(row) => match row.cells().first() {
+            Some(last) => layer.lacks(first_of(prefix, bound), *last),
+            None => false,
+        },
+    }
+}
+
+/// The candidate of a search from the prefix and then the bound on, behind one more layer: the same where the layer has no
+/// row up to it. Rows are searched by halves, as nothing is known of where the last search in this layer ended.
+fn behind<'a>(candidate: Candidate<'a>, layer: &'a Layer, prefix: &Row, bound: Key) -> Candidate<'a>
+    requires narrow { length prefix.now < layer.now.width }
+    ensures { (rows all : List RowView)
+        → IsCandidate layer.now.width rows all (at_least (prefix.now ++ bound ∷ [])) (option_copied candidate.entry.row) candidate.entry.stays
+        → IsCandidate layer.now.width (under rows layer.now) (all ++ layer.now.come) (at_least (prefix.now ++ bound ∷ [])) (option_copied result.row) result.stays }
+{
+    let _width = layer.width();
+    if is_apart(candidate.row, layer, prefix, bound) {
+        return candidate;
+    }
+    let mut behind_all = Near {
+        list: 0,
+        at: usize::MAX,
+    };
+    let more = layer.come().row_near(&mut behind_all, prefix, bound);
+    passed(candidate, layer, more)
+}
+
 /// The candidate of a search from the prefix and then the bound on.
 pub(crate) fn candidate_near<'a, B: RowReads>(
     base: &'a B,
@@ -74,9 +120,7 @@ pub(crate) fn candidate_near<'a, B: RowReads>(
         stays: true,
     };
     for layer in layers {
-        let mut place = Near::start();
-        let more = layer.come().row_near(&mut place, prefix, bound);
-        candidate = passed(candidate, layer, more);
+        candidate = behind(candidate, layer, prefix, bound);
     }
     candidate
 }

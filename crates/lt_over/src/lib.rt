@@ -5,6 +5,7 @@ mod candidate;
 mod counting;
 mod edits;
 mod layer;
+mod mask;
 mod over;
 mod search;
 mod shared_over;

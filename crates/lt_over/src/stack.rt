@@ -105,10 +105,10 @@ fn has_stacked<B: RowReads>(base: &B, layers: &[Arc<Layer>], row: &Row) -> bool
     let mut left = layers.len();
     while left > 0 {
         let layer: &Layer = &layers[left - 1];
-        if layer.come().has(row) {
+        if layer.puts(row) {
             return true;
         }
-        if layer.gone().has(row) {
+        if layer.takes(row) {
             return false;
         }
         left -= 1;

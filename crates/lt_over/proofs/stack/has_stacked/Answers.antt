@@ -14,22 +14,22 @@ on : (b : Bool) → (b && true) ≡ b
 on true = refl
 on false = refl
 
-pub returns-then-has : goal.returns-then-has
-returns-then-has g c =
+pub returns-then-puts : goal.returns-then-puts
+returns-then-puts g c =
     let base = g.B.RowReads.rows c.args.base.now in
     let rest = has_row (stacked base (map arc_value (take (c.loop-left.left - 1) c.args.layers.now))) c.args.row.now in
     sym (c.loop-left.invariant.same
     ∙ last_tells base arc_value c.args.layers.now c.loop-left.left c.index-layers-left.result c.deref-layer.result.now c.args.row.now c.loop-left-test.true c.loop-left.invariant.within c.index-layers-left.is c.deref-layer.ensures
-    ∙ ap (λ b. b || (rest && not (has_row c.deref-layer.result.now.gone c.args.row.now))) (ap (λ (rs : List Row). has_row rs c.args.row.now) (sym c.come.ensures.rows) ∙ sym c.has.ensures ∙ c.if-has.true))
+    ∙ ap (λ b. b || (rest && not (has_row c.deref-layer.result.now.gone c.args.row.now))) (sym c.puts.ensures ∙ c.if-puts.true))
 
-pub returns-then-has-2 : goal.returns-then-has-2
-returns-then-has-2 g c =
+pub returns-then-takes : goal.returns-then-takes
+returns-then-takes g c =
     let base = g.B.RowReads.rows c.args.base.now in
     let rest = has_row (stacked base (map arc_value (take (c.loop-left.left - 1) c.args.layers.now))) c.args.row.now in
     sym (c.loop-left.invariant.same
     ∙ last_tells base arc_value c.args.layers.now c.loop-left.left c.index-layers-left.result c.deref-layer.result.now c.args.row.now c.loop-left-test.true c.loop-left.invariant.within c.index-layers-left.is c.deref-layer.ensures
-    ∙ ap (λ b. b || (rest && not (has_row c.deref-layer.result.now.gone c.args.row.now))) (ap (λ (rs : List Row). has_row rs c.args.row.now) (sym c.come.ensures.rows) ∙ sym c.has.ensures ∙ c.if-has.false)
-    ∙ ap (λ b. rest && not b) (ap (λ (rs : List Row). has_row rs c.args.row.now) (sym c.gone.ensures.rows) ∙ sym c.has-in-loop-left.ensures ∙ c.if-has-2.true)
+    ∙ ap (λ b. b || (rest && not (has_row c.deref-layer.result.now.gone c.args.row.now))) (sym c.puts.ensures ∙ c.if-puts.false)
+    ∙ ap (λ b. rest && not b) (sym c.takes.ensures ∙ c.if-takes.true)
     ∙ off rest)
 
 pub loop-left-preserved : goal.loop-left-preserved
@@ -40,7 +40,7 @@ loop-left-preserved g c =
       within = omega (arith, c.loop-left.invariant.within);
       same = c.loop-left.invariant.same
           ∙ last_tells base arc_value c.args.layers.now c.loop-left.left c.index-layers-left.result c.deref-layer.result.now c.args.row.now c.loop-left-test.true c.loop-left.invariant.within c.index-layers-left.is c.deref-layer.ensures
-          ∙ ap (λ b. b || (rest && not (has_row c.deref-layer.result.now.gone c.args.row.now))) (ap (λ (rs : List Row). has_row rs c.args.row.now) (sym c.come.ensures.rows) ∙ sym c.has.ensures ∙ c.if-has.false)
-          ∙ ap (λ b. rest && not b) (ap (λ (rs : List Row). has_row rs c.args.row.now) (sym c.gone.ensures.rows) ∙ sym c.has-in-loop-left.ensures ∙ c.if-has-2.false)
+          ∙ ap (λ b. b || (rest && not (has_row c.deref-layer.result.now.gone c.args.row.now))) (sym c.puts.ensures ∙ c.if-puts.false)
+          ∙ ap (λ b. rest && not b) (sym c.takes.ensures ∙ c.if-takes.false)
           ∙ on rest;
     }
