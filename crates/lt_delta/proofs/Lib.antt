@@ -11,3 +11,4 @@ pub mod Edited
 pub mod Puts
 pub mod Layered
 pub mod Starts
+pub mod Searched

@@ -31,13 +31,13 @@ pub after_empty : (a b : Marks) → length a ≡ 0 → AreMarks b → and_then a
 after_empty [] b none up = after_none b up
 after_empty (x ∷ a) b none up = absurd (omega arith)
 
-merge_less : (x y : Mark) (xs ys : Marks) → AreMarks (y ∷ ys) → mark_cmp x y ≡ Less → and_then (x ∷ xs) (y ∷ ys) ≡ x ∷ and_then xs (y ∷ ys)
+pub merge_less : (x y : Mark) (xs ys : Marks) → AreMarks (y ∷ ys) → mark_cmp x y ≡ Less → and_then (x ∷ xs) (y ∷ ys) ≡ x ∷ and_then xs (y ∷ ys)
 merge_less x y xs ys up less = front_stays x xs (y ∷ ys) (less, above_lower x y ys less up.0)
 
-merge_equal : (x y : Mark) (xs ys : Marks) → AreMarks (y ∷ ys) → mark_cmp x y ≡ Equal → and_then (x ∷ xs) (y ∷ ys) ≡ y ∷ and_then xs ys
+pub merge_equal : (x y : Mark) (xs ys : Marks) → AreMarks (y ∷ ys) → mark_cmp x y ≡ Equal → and_then (x ∷ xs) (y ∷ ys) ≡ y ∷ and_then xs ys
 merge_equal x y xs ys up equal = rw equal (front_stays y xs ys up.0)
 
-merge_greater : (x y : Mark) (xs ys : Marks) → AreMarks (y ∷ ys) → mark_cmp x y ≡ Greater → and_then (x ∷ xs) (y ∷ ys) ≡ y ∷ and_then (x ∷ xs) ys
+pub merge_greater : (x y : Mark) (xs ys : Marks) → AreMarks (y ∷ ys) → mark_cmp x y ≡ Greater → and_then (x ∷ xs) (y ∷ ys) ≡ y ∷ and_then (x ∷ xs) ys
 merge_greater x y xs ys up greater = rw greater (front_stays y (x ∷ xs) ys up.0)
 
 pub rest_ascends : (xs : Marks) (i : ℕ) → AreMarks xs → AreMarks (drop i xs)
@@ -45,7 +45,7 @@ rest_ascends xs zero up = up
 rest_ascends [] (suc i) up = tt
 rest_ascends (x ∷ xs) (suc i) up = rest_ascends xs i up.1
 
-next : (xs : Marks) (i : ℕ) (d : Mark) → i < length xs → drop i xs ≡ get_or xs i d ∷ drop (i + 1) xs
+pub next : (xs : Marks) (i : ℕ) (d : Mark) → i < length xs → drop i xs ≡ get_or xs i d ∷ drop (i + 1) xs
 next xs i d lt = let e : suc i ≡ i + 1 = omega arith in drop-cons xs i d lt ∙ ap (λ n. get_or xs i d ∷ drop n xs) e
 
 module _ (a b : Marks) (i j : ℕ) (x y : Mark) (in_a : i < length a) (in_b : j < length b) (is_x : x ≡ get_or a i x) (is_y : y ≡ get_or b j y) (up : AreMarks b) where

@@ -14,12 +14,12 @@ use Rattle.lt_delta.specs.Finding.{is_before, IsPlaceFor, tied_at}
 use Rattle.lt_delta.proofs.Finds.{less_is, parted_owners, all_owned}
 use Rattle.lt_delta.proofs.Owners.{owned_at}
 
-equal_is : (o : Ordering) → is_eq o ≡ true → o ≡ Equal
+pub equal_is : (o : Ordering) → is_eq o ≡ true → o ≡ Equal
 equal_is Less h = absurd (true≢false (sym h))
 equal_is Equal h = refl
 equal_is Greater h = absurd (true≢false (sym h))
 
-above_is : (o : Ordering) → is_lt o ≡ false → is_eq o ≡ false → o ≡ Greater
+pub above_is : (o : Ordering) → is_lt o ≡ false → is_eq o ≡ false → o ≡ Greater
 above_is Less h k = absurd (true≢false h)
 above_is Equal h k = absurd (true≢false k)
 above_is Greater h k = refl

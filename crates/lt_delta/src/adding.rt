@@ -37,7 +37,7 @@ fn place_among(marks: &[Arc<Mark>], mark: &Mark) -> usize
 }
 
 /// Whether the mark at the place is on the same row.
-fn is_taken(marks: &[Arc<Mark>], place: usize, mark: &Mark) -> bool
+pub(crate) fn is_taken(marks: &[Arc<Mark>], place: usize, mark: &Mark) -> bool
     ensures value { result ≡ tied_at (map arc_value marks.now) place mark.now }
     ensures within { IsTrue result → place < length marks.now }
 {

@@ -13,7 +13,7 @@ use crate::finding::{place_for, sign_on};
 use crate::index_edits::IndexEdits;
 use crate::joining::{Way, joined_all};
 use crate::known::KnownEdits;
-use crate::merging::merged;
+use crate::merging::merged_lists;
 use crate::order::is_same;
 use crate::sorting::settled;
 use lt_face::memory::NoMemory;
@@ -88,7 +88,7 @@ impl Marks {
             return second.share();
         }
         let alloc = first.allocator();
-        let marks = merged(alloc, &first.list, &second.list)?;
+        let marks = merged_lists(alloc, &first.list, &second.list)?;
         let edits = joined_all(alloc, first, second, way)?;
         let known = KnownEdits::of(edits)?;
         let list = Arc::new(alloc, marks)?;
