@@ -48,8 +48,8 @@ impl Model for Database {
     ghost view = { λ d. map arc_value d.relations.items };
 }
 
-/// Whether a mark names the relation.
-fn is_named(marks: &Marks, relation: usize) -> bool
+/// Whether one of the marks, which are all looked at, names the relation.
+fn is_among(marks: &Marks, relation: usize) -> bool
     ensures named { IsTrue result → relation < 2 ^ 32 }
     ensures unnamed { result ≡ false → AllByRecursion (λ (m : MarkType). m.relation ≢ relation) marks.now }
 {
@@ -60,6 +60,17 @@ fn is_named(marks: &Marks, relation: usize) -> bool
         }
     }
     false
+}
+
+/// Whether a mark names the relation: found by a binary search, where the number is one that a mark can have.
+fn is_named(marks: &Marks, relation: usize) -> bool
+    ensures named { IsTrue result → relation < 2 ^ 32 }
+    ensures unnamed { result ≡ false → AllByRecursion (λ (m : MarkType). m.relation ≢ relation) marks.now }
+{
+    if relation <= u32::MAX as usize {
+        return marks.is_on(relation as u32);
+    }
+    is_among(marks, relation)
 }
 
 /// The relation of this number with the marks laid on it. Where none names it, it is shared.
