@@ -29,6 +29,7 @@ pub mod KeysLooked
 pub mod KeysAll
 pub mod Noted
 pub mod Parts
+pub mod Firsts
 pub mod SenseGrows
 pub mod Alike
 pub mod ReadingMarked

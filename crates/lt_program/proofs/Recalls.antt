@@ -84,9 +84,12 @@ second_even (Replace gone come keys body) state =
 second_even (Require some body) state = none_even
 second_even (Print terms kinds body) state = none_even
 
+pub outcome_ordered : (stmt : Stmt) (state : State) (outcome : Outcome) → outcome ≡ outcome_on stmt state → IsOrdered outcome
+outcome_ordered stmt state outcome is =
+    subst IsOrdered (sym is) (record { first = first_rise stmt state; second = second_rise stmt state; displaced = displaced_rise stmt state; even = second_even stmt state })
+
 pub part_ordered : (stmt : Stmt) (state : State) (part : Part) → IsPartOn stmt state part → IsOrdered part.outcome
-part_ordered stmt state part is =
-    subst IsOrdered (sym is.outcome) (record { first = first_rise stmt state; second = second_rise stmt state; displaced = displaced_rise stmt state; even = second_even stmt state })
+part_ordered stmt state part is = outcome_ordered stmt state part.outcome is.outcome
 
 twice_not : (b : Bool) → not (not b) ≡ b
 twice_not true = refl
@@ -130,8 +133,11 @@ effect_on (Require true body) state = rw twice_not refl
 effect_on (Require false body) state = refl
 effect_on (Print terms kinds body) state = refl
 
+pub effect_told : (stmt : Stmt) (state : State) (outcome : Outcome) → outcome ≡ outcome_on stmt state → effect_by stmt outcome ≡ effect stmt state
+effect_told stmt state outcome is = ap (effect_by stmt) is ∙ effect_on stmt state
+
 pub effect_recalled : (stmt : Stmt) (state : State) (part : Part) → IsPartOn stmt state part → effect_by stmt part.outcome ≡ effect stmt state
-effect_recalled stmt state part is = ap (effect_by stmt) is.outcome ∙ effect_on stmt state
+effect_recalled stmt state part is = effect_told stmt state part.outcome is.outcome
 
 -- a statement of which the part was kept
 pub grows_kept : (base : State) (number : ℕ) (stmt : Stmt) (part : Part) (e : Effect) (old new : Course) → IsPartOn stmt (laid base old.marks) part → e ≡ effect_by stmt part.outcome

@@ -30,6 +30,43 @@ fewer_left old new one run going =
 
 -- ---- where the program ends
 
+ends_least : (left j : ℕ) (program : List Stmt) (state : State) → j ≤ ends_from left j program state
+ends_least zero j program state = omega arith
+ends_least (suc left) j program state =
+    let rest = ends_least left (j + 1) program state in
+    elim (is_refused (run_of_first j program state).0) as (λ b. j ≤ (if b then j else ends_from left (j + 1) program state)) [ true ↦ omega arith | false ↦ omega arith ]
+
+-- the first n statements were evaluated
+module _ (program : List Stmt) (state : State) (n : ℕ) (within : n ≤ length program) (went_on : (j : ℕ) → j < n → is_refused (run_of_first j program state).0 ≡ false) where
+  ends_is : (n < length program → is_refused (run_of_first n program state).0 ≡ true) → (left j : ℕ) → j ≤ n → j + left ≡ length program → ends_from left j program state ≡ n
+  ends_is last zero j le sum = omega (arith, within, le, sum)
+  ends_is last (suc left) j le sum = elim (cases_lt j n) [
+    | inl lt ↦ ap (λ b. if b then j else ends_from left (j + 1) program state) (went_on j lt) ∙ ends_is last left (j + 1) (omega arith) (omega arith)
+    | inr ge ↦
+        let e : n ≡ j = omega arith in
+        let refused : is_refused (run_of_first j program state).0 ≡ true = ap (λ k. is_refused (run_of_first k program state).0) (sym e) ∙ last (omega arith) in
+        ap (λ b. if b then j else ends_from left (j + 1) program state) refused ∙ sym e
+  ]
+
+  -- none is left, or the last of them was refused
+  pub first_end : (n < length program → is_refused (run_of_first n program state).0 ≡ true) → n ≡ ends_at program state
+  first_end last = sym (ends_is last (length program) 0 (omega arith) (omega arith))
+
+  ends_past : is_refused (run_of_first n program state).0 ≡ false → n < length program → (left j : ℕ) → j ≤ n → j + left ≡ length program → n < ends_from left j program state
+  ends_past goes more zero j le sum = absurd (omega (arith, more, le, sum))
+  ends_past goes more (suc left) j le sum = elim (cases_lt j n) [
+    | inl lt ↦ rw (went_on j lt) (ends_past goes more left (j + 1) (omega arith) (omega arith))
+    | inr ge ↦
+        let e : n ≡ j = omega arith in
+        let still : is_refused (run_of_first j program state).0 ≡ false = ap (λ k. is_refused (run_of_first k program state).0) (sym e) ∙ goes in
+        let least = ends_least left (j + 1) program state in
+        rw still (omega arith)
+  ]
+
+  -- some are left, and the program goes on
+  pub first_goes_on : is_refused (run_of_first n program state).0 ≡ false → n < length program → n < ends_at program state
+  first_goes_on goes more = ends_past goes more (length program) 0 (omega arith) (omega arith)
+
 module _ (t : TallyView) (run : IsRun t) (ended : has_ended t ≡ true) where
   last : length t.parts < length t.program → is_refused (run_of_first (length t.parts) t.program (state_of t.base)).0 ≡ true
   last lt = elim (or_cases (is_refused t.reply) (length t.parts == length t.program) ended) [
@@ -37,49 +74,20 @@ module _ (t : TallyView) (run : IsRun t) (ended : has_ended t ≡ true) where
     | inr all ↦ (let e = eqb-true (length t.parts) (length t.program) all in absurd (omega (arith, e, lt)))
   ]
 
-  ends_is : (left j : ℕ) → j ≤ length t.parts → j + left ≡ length t.program → ends_from left j t.program (state_of t.base) ≡ length t.parts
-  ends_is zero j le sum = omega (arith, run.evaluated, le, sum)
-  ends_is (suc left) j le sum = elim (cases_lt j (length t.parts)) [
-    | inl lt ↦ ap (λ b. if b then j else ends_from left (j + 1) t.program (state_of t.base)) (run.went_on j lt) ∙ ends_is left (j + 1) (omega arith) (omega arith)
-    | inr ge ↦
-        let e : length t.parts ≡ j = omega arith in
-        let refused : is_refused (run_of_first j t.program (state_of t.base)).0 ≡ true = ap (λ k. is_refused (run_of_first k t.program (state_of t.base)).0) (sym e) ∙ last (omega arith) in
-        ap (λ b. if b then j else ends_from left (j + 1) t.program (state_of t.base)) refused ∙ sym e
-  ]
-
   pub ends_here : (program : List Stmt) (next : List Table) → t.program ≡ program → t.base ≡ next → length t.parts ≡ ends_at program (state_of next)
   ends_here program next a b =
-      sym (ends_is (length t.program) 0 (omega arith) (omega arith))
+      first_end t.program (state_of t.base) (length t.parts) run.evaluated run.went_on last
       ∙ ap (λ (p : List Stmt). ends_at p (state_of t.base)) a ∙ ap (λ (x : List Table). ends_at program (state_of x)) b
 
 -- ---- a run that goes on
 
-ends_least : (left j : ℕ) (program : List Stmt) (state : State) → j ≤ ends_from left j program state
-ends_least zero j program state = omega arith
-ends_least (suc left) j program state =
-    let rest = ends_least left (j + 1) program state in
-    elim (is_refused (run_of_first j program state).0) as (λ b. j ≤ (if b then j else ends_from left (j + 1) program state)) [ true ↦ omega arith | false ↦ omega arith ]
-
 module _ (t : TallyView) (run : IsRun t) (going : has_ended t ≡ false) where
-  goes : is_refused (run_of_first (length t.parts) t.program (state_of t.base)).0 ≡ false
-  goes = ap is_refused (sym run.reply) ∙ (going_on t going run).0
-
-  ends_past : (left j : ℕ) → j ≤ length t.parts → j + left ≡ length t.program → length t.parts < ends_from left j t.program (state_of t.base)
-  ends_past zero j le sum = absurd (omega (arith, (going_on t going run).1, le, sum))
-  ends_past (suc left) j le sum = elim (cases_lt j (length t.parts)) [
-    | inl lt ↦ rw (run.went_on j lt) (ends_past left (j + 1) (omega arith) (omega arith))
-    | inr ge ↦
-        let e : length t.parts ≡ j = omega arith in
-        let still : is_refused (run_of_first j t.program (state_of t.base)).0 ≡ false = ap (λ k. is_refused (run_of_first k t.program (state_of t.base)).0) (sym e) ∙ goes in
-        let least = ends_least left (j + 1) t.program (state_of t.base) in
-        rw still (omega arith)
-  ]
-
   -- a run that goes on hasn't reached the program's end
   pub goes_on_to : (program : List Stmt) (base : List Table) → t.program ≡ program → t.base ≡ base → length t.parts < ends_at program (state_of base)
   goes_on_to program base a b =
       subst (λ (x : List Table). length t.parts < ends_at program (state_of x)) b
-      (subst (λ (p : List Stmt). length t.parts < ends_at p (state_of t.base)) a (ends_past (length t.program) 0 (omega arith) (omega arith)))
+      (subst (λ (p : List Stmt). length t.parts < ends_at p (state_of t.base)) a
+      (first_goes_on t.program (state_of t.base) (length t.parts) run.evaluated run.went_on (ap is_refused (sym run.reply) ∙ (going_on t going run).0) (going_on t going run).1))
 
 -- what the first statements may take grows with their number
 pub cost_grows : (n k : ℕ) (program : List Stmt) (state : State) → n ≤ k → cost_of_first n program state ≤ cost_of_first k program state
@@ -90,9 +98,16 @@ cost_grows n (suc k) program state le = elim (cases_lt k n) [
 ]
 
 -- a statement was begun, and the moves so far are within what the program's statements may take
+pub cost_within : (begun mid now n : ℕ) (program : List Stmt) (state : State) → n < ends_at program state → mid ≤ begun + cost_of_first n program state → now ≤ mid + cost_on (slice_get program n) (state_before n program state) → now ≤ begun + cost_of_first (ends_at program state) program state
+cost_within begun mid now n program state lt before step =
+    let one = cost_more begun mid now n (suc n) program program state state refl refl before step refl in
+    let most = cost_grows (suc n) (ends_at program state) program state (omega arith) in
+    omega arith
+
+-- so it is of a tally
 pub cost_begun : (t : TallyView) (begun mid now : ℕ) (program : List Stmt) (base : List Table) → IsRun t → has_ended t ≡ false → t.program ≡ program → t.base ≡ base → mid ≤ begun + cost_of_first (length t.parts) program (state_of base)
     → now ≤ mid + cost_on (slice_get t.program (length t.parts)) (state_before (length t.parts) t.program (state_of t.base)) → now ≤ begun + cost_of_first (ends_at program (state_of base)) program (state_of base)
 cost_begun t begun mid now program base run going a b before step =
-    let one = cost_more begun mid now (length t.parts) (suc (length t.parts)) program t.program (state_of base) (state_of t.base) a (ap state_of b) before step refl in
-    let most = cost_grows (suc (length t.parts)) (ends_at program (state_of base)) program (state_of base) (let lt = goes_on_to t run going program base a b in omega arith) in
-    omega arith
+    cost_within begun mid now (length t.parts) program (state_of base) (goes_on_to t run going program base a b) before
+    (subst (λ (x : List Table). now ≤ mid + cost_on (slice_get program (length t.parts)) (state_before (length t.parts) program (state_of x))) b
+    (subst (λ (p : List Stmt). now ≤ mid + cost_on (slice_get p (length t.parts)) (state_before (length t.parts) p (state_of t.base))) a step))

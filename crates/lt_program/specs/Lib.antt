@@ -4,5 +4,6 @@ pub mod Keyed
 pub mod Planned
 pub mod Tally
 pub mod Sound
+pub mod Alone
 pub mod Kept
 pub mod Displacing

@@ -101,6 +101,41 @@ fn followed(laid: Laid, marks: &Marks) -> Option<Laid>
     }
 }
 
+/// What is laid, with more marks to be laid after it, if anything is.
+pub(crate) fn followed_by(laid: Option<Laid>, marks: &Marks) -> Option<Laid>
+    ensures { (base : List Table) (before : MarksView) → IsLaid base before laid → IsLaid base (and_then before marks.now) result }
+{
+    match laid {
+        None => None,
+        Some(laid) => followed(laid, marks),
+    }
+}
+
+/// The database with the marks laid on it, of which the first may be laid.
+pub(crate) fn all_laid(
+    laid: Option<Laid>,
+    base: &Database,
+    marks: &Marks,
+) -> Result<Database, NoMemory>
+    requires laid { IsLaid base.now marks.now laid }
+    requires fits { FitMarks (state_of base.now) marks.now }
+    ensures laid { IfOk result (IsLaidOn base.now marks.now) }
+    ensures ascending { AreMarks marks.now }
+{
+    let _ascending = marks.len();
+    match laid {
+        Some(laid) => {
+            base.look_over();
+            let tables = laid.finish()?;
+            Ok(tables)
+        }
+        None => {
+            let tables = base.laid(marks)?;
+            Ok(tables)
+        }
+    }
+}
+
 /// The part, sensitive to nothing.
 fn insensitive(alloc: Global, part: Part) -> Part
     ensures { result ≡ record { outcome = part.outcome; sense = record { gaps = []; hits = [] }; slices = [] } }
@@ -118,7 +153,7 @@ fn insensitive(alloc: Global, part: Part) -> Part
 }
 
 /// One more printed list, unless the program was refused. Want of memory leaves the reply as it was.
-fn print(reply: &mut Reply, printed: Printed) -> Result<(), NoMemory>
+pub(crate) fn print(reply: &mut Reply, printed: Printed) -> Result<(), NoMemory>
     ensures ok { OnOk result (reply.new ≡ with_print reply.old printed) }
     ensures err { OnErr result (reply.new ≡ reply.old) }
 {
@@ -183,18 +218,9 @@ impl Course {
         ensures ascending { AreMarks self.old.marks }
         ensures rest { self.new ≡ record self.old { laid = None } }
     {
-        let _ascending = self.marks.len();
-        match mem::replace(&mut self.laid, None) {
-            Some(laid) => {
-                base.look_over();
-                let tables = laid.finish()?;
-                Ok(tables)
-            }
-            None => {
-                let tables = base.laid(&self.marks)?;
-                Ok(tables)
-            }
-        }
+        let laid = mem::replace(&mut self.laid, None);
+        let tables = all_laid(laid, base, &self.marks)?;
+        Ok(tables)
     }
 
     /// Keeps marks that aren't laid yet, where a database is laid.
@@ -202,12 +228,8 @@ impl Course {
         ensures rest { self.new ≡ record self.old { laid = self.new.laid } }
         ensures laid { (base : List Table) (before : MarksView) → IsLaid base before self.old.laid → IsLaid base (and_then before marks.now) self.new.laid }
     {
-        match mem::replace(&mut self.laid, None) {
-            None => {}
-            Some(laid) => {
-                self.laid = followed(laid, marks);
-            }
-        }
+        let laid = mem::replace(&mut self.laid, None);
+        self.laid = followed_by(laid, marks);
     }
 
     /// One more part that leaves the reply as it is, and these marks after the others.

@@ -139,7 +139,7 @@ fn replaced<L>(
 }
 
 /// The part of a statement whose rows come into a relation with value columns, of the rows that go and those that come.
-fn keyed<L>(
+pub(crate) fn keyed<L>(
     alloc: Global,
     tables: &Database,
     head: &Atom,
@@ -365,7 +365,7 @@ fn evaluate_part<L>(
 }
 
 /// The plan of a body that fits, by its shape's route.
-fn planned(route: &Route, body: &Body) -> Result<Plan, NoMemory>
+pub(crate) fn planned(route: &Route, body: &Body) -> Result<Plan, NoMemory>
     requires fits { (state : State) × AreWide state × IsBodyOf state body.now }
     requires route { route.now ≡ route_of body.now }
     ensures { IfOk result (IsPlanned body.now) }

@@ -1,11 +1,13 @@
 //! The run of a program: its answers to each statement, its marks and its reply.
 #![tactic(auto)]
 
+mod alone;
 mod copying;
 mod course;
 mod displacing;
 mod effect;
 mod evaluation;
+mod going;
 mod heads;
 mod indexing;
 mod kept;
@@ -18,6 +20,7 @@ mod tally;
 
 pub use copying::{copied, copied_reply};
 pub use effect::{Effect, marked};
+pub use going::{Ran, run_alone};
 pub use indexing::indexed;
 pub use lt_delta::{Mark, MarkList, Marks};
 pub use lt_model::reply::{Printed, Prints, Reply};

@@ -40,7 +40,7 @@ fn has_level(body: &Body) -> bool
 }
 
 /// Whether the cells of both lists have room in one row.
-fn have_room(first: &TermList, second: &TermList) -> bool
+pub(crate) fn have_room(first: &TermList, second: &TermList) -> bool
     requires first { length first.now ≤ most_columns }
     requires second { length second.now ≤ most_columns }
     ensures { result ≡ nat_le (length first.now + length second.now) most_columns }

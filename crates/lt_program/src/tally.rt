@@ -51,7 +51,7 @@ impl Model for Tally {
 }
 
 /// Whether a requirement was false, or two rows of one statement clashed.
-fn is_refusal(reply: &Reply) -> bool
+pub(crate) fn is_refusal(reply: &Reply) -> bool
     ensures { result ≡ is_refused reply.now }
 {
     match reply {

@@ -1,0 +1,24 @@
+use Rattle.std.proofs.Common.{◌∙◌, sym, ap, subst}
+use Rattle.lt_base.specs.Tables.{state_of}
+use Rattle.lt_model.specs.declared.normal.Body.{Body}
+use Rattle.lt_model.specs.Fits.{IsBodyOf}
+use Rattle.lt_query.specs.Planned.{route_of}
+use Rattle.lt_program.specs.Planned.{IsPlanned}
+use Rattle.lt_program.proofs.IndexesMade.{body_fits}
+use Rattle.lt_program.proofs.Recalls.{outcome_ordered, effect_told}
+use Rattle.lt_program.proofs.alone.effect_alone.Goals as goal
+
+pub planned-requires-clause-fits : goal.planned-requires-clause-fits
+planned-requires-clause-fits g c = (state_of c.args.tables.now, c.requires.wide, subst (IsBodyOf (state_of c.args.tables.now)) (sym c.body_of.ensures) (body_fits (state_of c.args.tables.now) c.args.stmt.now c.requires.fits))
+
+pub planned-requires-clause-route : goal.planned-requires-clause-route
+planned-requires-clause-route g c = c.requires.route ∙ ap route_of (sym c.body_of.ensures)
+
+pub outcome_alone-requires-clause-plan : goal.outcome_alone-requires-clause-plan
+outcome_alone-requires-clause-plan g c = subst (λ (b : Body). IsPlanned b c.in_ok-plan.plan) c.body_of.ensures c.in_ok-plan.ensures
+
+pub effect_by-requires : goal.effect_by-requires
+effect_by-requires g c = outcome_ordered c.args.stmt.now (state_of c.args.tables.now) c.in_ok-outcome.outcome c.in_ok-outcome.ensures.outcome
+
+pub returns-clause-effect : goal.returns-clause-effect
+returns-clause-effect g c = c.in_ok-effect.ensures ∙ effect_told c.args.stmt.now (state_of c.args.tables.now) c.in_ok-outcome.outcome c.in_ok-outcome.ensures.outcome

@@ -1,0 +1,273 @@
+//! What a statement does on a database, where nobody will ask what that was sensitive to: its join keeps no sense. What is said of
+//! moves holds also where memory is refused.
+ghost use Rattle.std.specs.Prelude.{◌≡◌, ◌+◌, ◌≤◌, false, length, IfOk};
+ghost use Rattle.std.specs.List.{AllByRecursion};
+ghost use Rattle.lt_face.specs.Rows.{IsAscending, IsRow};
+ghost use Rattle.lt_model.specs.Answers.{answers as answers_of, some_answer};
+ghost use Rattle.lt_model.specs.Effect.{effect as effect_of, is_plain as is_plain_in};
+ghost use Rattle.lt_model.specs.Fits.{IsWide, IsBodyOf, IsHeadOf, AreKeysOf, FitsStatement};
+ghost use Rattle.lt_base.specs.Tables.{state_of};
+ghost use Rattle.lt_query.specs.Needs.{body_of as body_in};
+ghost use Rattle.lt_query.specs.Planned.{route_of};
+ghost use Rattle.lt_query.specs.Runnable.{AreWide};
+ghost use Rattle.lt_query.specs.Stated.{stated_plan};
+ghost use Rattle.lt_join.specs.Cost.{bound};
+ghost use Rattle.lt_program.specs.Effect.{view};
+ghost use Rattle.lt_program.specs.Planned.{IsPlanned, ArePicked};
+ghost use Rattle.lt_program.specs.Tally.{HasIndexesOf, keyed_on, keys_cost, outcome_on, statement_cost};
+
+use crate::effect::Effect;
+use crate::evaluation::{keyed, planned};
+use crate::heads::{split_answers, terms_of_both};
+use crate::kept::effect_by;
+use crate::part::{Outcome, Part};
+use crate::slicing::{have_room, is_plain};
+use lt_base::Database;
+use lt_face::items::{Items, RowList};
+use lt_face::memory::NoMemory;
+use lt_face::moves::Moves;
+use lt_join::{answers_alone, some_alone};
+use lt_model::normal::{Atom, Body, Stmt, TermList};
+use lt_query::{Plan, Route, body_of};
+use lt_sense::Sense;
+use std::alloc::Global;
+
+/// The terms' answers on the database.
+fn rows_alone<L>(
+    alloc: Global,
+    tables: &Database,
+    body: &Body,
+    plan: &Plan,
+    terms: &TermList,
+    moves: &mut Moves<L>,
+) -> Result<RowList, NoMemory>
+    requires plan { IsPlanned body.now plan.now }
+    requires indexes { HasIndexesOf tables.now body.now }
+    requires fits { IsBodyOf (state_of tables.now) body.now }
+    requires terms { ArePicked body.now terms.now }
+    ensures rows { IfOk result (λ rows. rows ≡ answers_of terms.now body.now (state_of tables.now)) }
+    ensures cost { moves.new ≤ moves.old + bound body.now (stated_plan body.now) (state_of tables.now) }
+    ensures moves { moves.old ≤ moves.new }
+{
+    let rows = answers_alone(alloc, body, plan, terms, tables, moves)?;
+    Ok(rows)
+}
+
+/// Whether the body's conditions can be met on the database.
+fn truth_alone<L>(
+    alloc: Global,
+    tables: &Database,
+    body: &Body,
+    plan: &Plan,
+    moves: &mut Moves<L>,
+) -> Result<bool, NoMemory>
+    requires plan { IsPlanned body.now plan.now }
+    requires indexes { HasIndexesOf tables.now body.now }
+    requires fits { IsBodyOf (state_of tables.now) body.now }
+    ensures truth { IfOk result (λ truth. truth ≡ some_answer body.now (state_of tables.now)) }
+    ensures cost { moves.new ≤ moves.old + bound body.now (stated_plan body.now) (state_of tables.now) }
+    ensures moves { moves.old ≤ moves.new }
+{
+    let truth = some_alone(alloc, body, plan, tables, moves)?;
+    Ok(truth)
+}
+
+/// The answers of two heads: by one join for the terms of both, where their cells have room in one row.
+fn both_alone<L>(
+    alloc: Global,
+    tables: &Database,
+    body: &Body,
+    plan: &Plan,
+    gone: &TermList,
+    come: &TermList,
+    moves: &mut Moves<L>,
+) -> Result<(RowList, RowList), NoMemory>
+    requires plan { IsPlanned body.now plan.now }
+    requires indexes { HasIndexesOf tables.now body.now }
+    requires fits { IsBodyOf (state_of tables.now) body.now }
+    requires gone { ArePicked body.now gone.now }
+    requires come { ArePicked body.now come.now }
+    ensures gone { IfOk result (λ both. both.0 ≡ answers_of gone.now body.now (state_of tables.now)) }
+    ensures come { IfOk result (λ both. both.1 ≡ answers_of come.now body.now (state_of tables.now)) }
+    ensures cost { moves.new ≤ moves.old + (bound body.now (stated_plan body.now) (state_of tables.now) + bound body.now (stated_plan body.now) (state_of tables.now)) }
+    ensures moves { moves.old ≤ moves.new }
+{
+    if have_room(gone, come) {
+        let terms = terms_of_both(gone, come)?;
+        let rows = rows_alone(alloc, tables, body, plan, &terms, moves)?;
+        let both = split_answers(alloc, &rows, gone.len())?;
+        return Ok(both);
+    }
+    let first = rows_alone(alloc, tables, body, plan, gone, moves)?;
+    let second = rows_alone(alloc, tables, body, plan, come, moves)?;
+    Ok((first, second))
+}
+
+/// The outcome of a statement whose rows come into a relation with value columns, of the rows that go and those that come.
+fn keyed_alone<L>(
+    alloc: Global,
+    tables: &Database,
+    head: &Atom,
+    keys: u32,
+    gone: RowList,
+    come: RowList,
+    moves: &mut Moves<L>,
+) -> Result<Outcome, NoMemory>
+    requires keyed { is_plain_in head.now keys ≡ false }
+    requires keys { AreKeysOf head.now keys }
+    requires wide { IsWide (state_of tables.now) head.now.relation (length head.now.terms) }
+    requires ascend { IsAscending come }
+    requires rows { AllByRecursion (IsRow (length head.now.terms)) come }
+    ensures outcome { IfOk result (λ outcome. outcome ≡ keyed_on head.now keys gone come (state_of tables.now)) }
+    ensures cost { moves.new ≤ moves.old + keys_cost head.now keys come (state_of tables.now) }
+    ensures moves { moves.old ≤ moves.new }
+{
+    let part = keyed(
+        alloc,
+        tables,
+        head,
+        keys,
+        gone,
+        come,
+        Sense::new(alloc),
+        moves,
+    )?;
+    let Part {
+        outcome,
+        sense: _,
+        slices: _,
+    } = part;
+    Ok(outcome)
+}
+
+/// The outcome of an `insert`.
+fn inserted_alone<L>(
+    alloc: Global,
+    tables: &Database,
+    head: &Atom,
+    keys: u32,
+    body: &Body,
+    plan: &Plan,
+    moves: &mut Moves<L>,
+) -> Result<Outcome, NoMemory>
+    requires plan { IsPlanned body.now plan.now }
+    requires wide { AreWide (state_of tables.now) }
+    requires indexes { HasIndexesOf tables.now body.now }
+    requires fits { IsBodyOf (state_of tables.now) body.now }
+    requires head { IsHeadOf (state_of tables.now) body.now head.now }
+    requires keys { AreKeysOf head.now keys }
+    ensures outcome { IfOk result (λ outcome. outcome ≡ outcome_on (Stmt.Insert head.now keys body.now) (state_of tables.now)) }
+    ensures cost { moves.new ≤ moves.old + statement_cost (Stmt.Insert head.now keys body.now) (state_of tables.now) }
+    ensures moves { moves.old ≤ moves.new }
+{
+    tables.look_over();
+    let come = rows_alone(alloc, tables, body, plan, &head.terms, moves)?;
+    if is_plain(head, keys) {
+        return Ok(Outcome::Rows(come));
+    }
+    let outcome = keyed_alone(alloc, tables, head, keys, Items::new(alloc), come, moves)?;
+    Ok(outcome)
+}
+
+/// The outcome of a `replace`.
+fn replaced_alone<L>(
+    alloc: Global,
+    tables: &Database,
+    gone: &Atom,
+    come: &Atom,
+    keys: u32,
+    body: &Body,
+    plan: &Plan,
+    moves: &mut Moves<L>,
+) -> Result<Outcome, NoMemory>
+    requires plan { IsPlanned body.now plan.now }
+    requires wide { AreWide (state_of tables.now) }
+    requires indexes { HasIndexesOf tables.now body.now }
+    requires fits { IsBodyOf (state_of tables.now) body.now }
+    requires gone { IsHeadOf (state_of tables.now) body.now gone.now }
+    requires come { IsHeadOf (state_of tables.now) body.now come.now }
+    requires keys { AreKeysOf come.now keys }
+    ensures outcome { IfOk result (λ outcome. outcome ≡ outcome_on (Stmt.Replace gone.now come.now keys body.now) (state_of tables.now)) }
+    ensures cost { moves.new ≤ moves.old + statement_cost (Stmt.Replace gone.now come.now keys body.now) (state_of tables.now) }
+    ensures moves { moves.old ≤ moves.new }
+{
+    tables.look_over();
+    let both = both_alone(alloc, tables, body, plan, &gone.terms, &come.terms, moves)?;
+    let (first, second) = both;
+    if is_plain(come, keys) {
+        return Ok(Outcome::Both(first, second));
+    }
+    let outcome = keyed_alone(alloc, tables, come, keys, first, second, moves)?;
+    Ok(outcome)
+}
+
+/// What the evaluation of a statement on the database gives.
+fn outcome_alone<L>(
+    alloc: Global,
+    tables: &Database,
+    stmt: &Stmt,
+    plan: &Plan,
+    moves: &mut Moves<L>,
+) -> Result<Outcome, NoMemory>
+    requires plan { IsPlanned (body_in stmt.now) plan.now }
+    requires wide { AreWide (state_of tables.now) }
+    requires indexes { HasIndexesOf tables.now (body_in stmt.now) }
+    requires fits { FitsStatement (state_of tables.now) stmt.now }
+    ensures outcome { IfOk result (λ outcome. outcome ≡ outcome_on stmt.now (state_of tables.now)) }
+    ensures cost { moves.new ≤ moves.old + statement_cost stmt.now (state_of tables.now) }
+    ensures moves { moves.old ≤ moves.new }
+{
+    match stmt {
+        Stmt::Insert { head, keys, body } => {
+            let outcome = inserted_alone(alloc, tables, head, *keys, body, plan, moves)?;
+            Ok(outcome)
+        }
+        Stmt::Delete { head, body } => {
+            let rows = rows_alone(alloc, tables, body, plan, &head.terms, moves)?;
+            Ok(Outcome::Rows(rows))
+        }
+        Stmt::Replace {
+            gone,
+            come,
+            keys,
+            body,
+        } => {
+            let outcome = replaced_alone(alloc, tables, gone, come, *keys, body, plan, moves)?;
+            Ok(outcome)
+        }
+        Stmt::Require { some: _, body } => {
+            let truth = truth_alone(alloc, tables, body, plan, moves)?;
+            Ok(Outcome::Truth(truth))
+        }
+        Stmt::Print {
+            terms,
+            kinds: _,
+            body,
+        } => {
+            let rows = rows_alone(alloc, tables, body, plan, terms, moves)?;
+            Ok(Outcome::Rows(rows))
+        }
+    }
+}
+
+/// What the statement does on the database.
+pub(crate) fn effect_alone<L>(
+    alloc: Global,
+    tables: &Database,
+    stmt: &Stmt,
+    route: &Route,
+    moves: &mut Moves<L>,
+) -> Result<Effect, NoMemory>
+    requires route { route.now ≡ route_of (body_in stmt.now) }
+    requires wide { AreWide (state_of tables.now) }
+    requires indexes { HasIndexesOf tables.now (body_in stmt.now) }
+    requires fits { FitsStatement (state_of tables.now) stmt.now }
+    ensures effect { IfOk result (λ e. view e ≡ effect_of stmt.now (state_of tables.now)) }
+    ensures cost { moves.new ≤ moves.old + statement_cost stmt.now (state_of tables.now) }
+    ensures moves { moves.old ≤ moves.new }
+{
+    let plan = planned(route, body_of(stmt))?;
+    let outcome = outcome_alone(alloc, tables, stmt, &plan, moves)?;
+    let effect = effect_by(alloc, stmt, &outcome)?;
+    Ok(effect)
+}
