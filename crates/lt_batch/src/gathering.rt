@@ -41,7 +41,7 @@ pub(crate) fn gathered(
     let mut replies = Items::new(alloc);
     let mut effects = Items::new(alloc);
     for leaf in 0..leaves {
-        let reply = copied_reply(alloc, circuit.tally(leaf).run.reply())?;
+        let reply = copied_reply(alloc, circuit.tally(leaf).reply())?;
         let effect = circuit.effect(leaf).share()?;
         replies.push(reply)?;
         effects.push(effect)?;

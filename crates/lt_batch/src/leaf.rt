@@ -1,12 +1,52 @@
 //! What a leaf of a batch's circuit keeps.
+ghost use Rattle.std.specs.Prelude.{◌≡◌};
+ghost use Rattle.lt_batch.specs.LeafRun.{effect_of, reply_of};
+
 use lt_delta::Marks;
+use lt_model::reply::Reply;
 use lt_program::Tally;
 
 /// The run of a program, what of its correction was laid on the snapshot before it, and what it writes: the marks of the run,
 /// with what they do to each index of the snapshot.
 #[derive(Drop)]
-pub struct LeafTally {
+pub struct KeptTally {
     pub run: Tally,
     pub correction: Marks,
     pub effect: Marks,
+}
+
+/// The reply of a run of which no more is kept, and what it writes.
+#[derive(Drop)]
+pub struct BareTally {
+    pub reply: Reply,
+    pub effect: Marks,
+}
+
+/// What is kept of a program's run: all, so that it can be restated, or what it answered and wrote.
+#[derive(Drop)]
+pub enum LeafTally {
+    Kept(KeptTally),
+    Bare(BareTally),
+}
+
+impl LeafTally {
+    /// What the program answered.
+    pub fn reply(&self) -> &Reply
+        ensures { result.now ≡ reply_of self.now }
+    {
+        match self {
+            LeafTally::Kept(kept) => kept.run.reply(),
+            LeafTally::Bare(bare) => &bare.reply,
+        }
+    }
+
+    /// The marks that it wrote, as an effect.
+    pub(crate) fn effect(&self) -> &Marks
+        ensures { result.now ≡ effect_of self.now }
+    {
+        match self {
+            LeafTally::Kept(kept) => &kept.effect,
+            LeafTally::Bare(bare) => &bare.effect,
+        }
+    }
 }

@@ -1,5 +1,5 @@
 //! How dear a program's run was, and how it hangs on the programs before it. No clause speaks of it.
-use crate::leaf::LeafTally;
+use crate::leaf::KeptTally;
 use lt_delta::Marks;
 use lt_face::memory::NoMemory;
 use lt_model::mark::Mark;
@@ -137,7 +137,7 @@ fn hangs_on_some(part: &Part, ties: Ties, marks: &Marks) -> bool {
 }
 
 /// Whether most of the run hangs on its correction.
-pub(crate) fn is_tied(ties: Ties, tally: &LeafTally) -> bool {
+pub(crate) fn is_tied(ties: Ties, tally: &KeptTally) -> bool {
     let mut size: usize = 0;
     for shared in tally.run.parts() {
         let part = shared.part();

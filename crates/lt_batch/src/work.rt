@@ -1,5 +1,5 @@
 //! The work of a batch: its programs as the leaves of a circuit.
-ghost use Rattle.std.specs.Prelude.{◌≡◌, ◌<◌, ◌≤◌, ◌+◌, ℕ, [], map, length, IfOk, IfSome, IsTrue};
+ghost use Rattle.std.specs.Prelude.{◌≡◌, ◌<◌, ◌≤◌, ◌+◌, ℕ, [], None, map, length, IfOk, IfSome, IsTrue};
 ghost use Rattle.lt_face.specs.State.{State};
 ghost use Rattle.std.specs.Arc.{arc_value};
 ghost use Rattle.std.specs.List.{AllByRecursion};
@@ -12,11 +12,11 @@ ghost use Rattle.lt_program.specs.Tally.{HasIndexes, cost_of_first, ends_at};
 ghost use Rattle.lt_query.specs.Planned.{HaveWidths};
 ghost use Rattle.lt_restate.specs.Touches.{cost_again};
 ghost use Rattle.lt_batch.specs.LeafRun.{IsTallyOn, IsRunOn, StandsFor};
-ghost use Rattle.lt_batch.specs.Priors.{IsPriorOf, IsRestated, run_bound, leaf_bound};
+ghost use Rattle.lt_batch.specs.Priors.{IsPriorOf, IsKept, IsRestated, IsRestatedFrom, kept_in, run_bound, leaf_bound};
 ghost use Rattle.lt_batch.specs.Work.{AreRunnable, FitsBatch, IsLeaf, marks_for};
 
 use crate::indexing::all_indexed;
-use crate::leaf::LeafTally;
+use crate::leaf::{BareTally, KeptTally, LeafTally};
 use crate::ties::{Ties, is_tied, ties_of, weight_of};
 use lt_base::Database;
 use lt_circuit::LeafWork;
@@ -24,7 +24,7 @@ use lt_delta::Marks;
 use lt_face::memory::NoMemory;
 use lt_face::moves::Moves;
 use lt_model::normal::Prog;
-use lt_program::{Tally, reads, reads_marked, run};
+use lt_program::{Ran, Tally, reads, reads_marked, run, run_alone};
 use lt_query::laws::plans_of_bodies;
 use lt_query::{Planned, plan_all};
 use lt_restate::restate_marks;
@@ -141,7 +141,7 @@ fn begun<L>(
 fn restated<L>(
     prog: &Arc<Planned>,
     snapshot: &Database,
-    old: &LeafTally,
+    old: &KeptTally,
     on: &Marks,
     moves: &mut Moves<L>,
 ) -> Result<Tally, NoMemory>
@@ -161,14 +161,14 @@ fn restated<L>(
 }
 
 /// The tally of a run on the snapshot with the marks laid on it.
-fn kept(snapshot: &Database, run: Tally, on: Marks, is_reading: bool) -> Result<LeafTally, NoMemory>
+fn kept(snapshot: &Database, run: Tally, on: Marks, is_reading: bool) -> Result<KeptTally, NoMemory>
     requires { FitMarks (state_of snapshot.now) run.marks }
     ensures run { IfOk result (λ tally. tally.run ≡ run) }
     ensures correction { IfOk result (λ tally. tally.correction ≡ on) }
     ensures effect { IfOk result (λ tally. tally.effect ≡ run.marks) }
 {
     let effect = effect_of(snapshot, run.marks(), is_reading)?;
-    Ok(LeafTally {
+    Ok(KeptTally {
         run,
         correction: on,
         effect,
@@ -176,13 +176,13 @@ fn kept(snapshot: &Database, run: Tally, on: Marks, is_reading: bool) -> Result<
 }
 
 /// A second owner of the tally.
-fn shared(old: &LeafTally) -> Result<LeafTally, NoMemory>
+fn shared(old: &KeptTally) -> Result<KeptTally, NoMemory>
     ensures { IfOk result (λ same. same ≡ old.now) }
 {
     let run = old.run.share()?;
     let correction = old.correction.share()?;
     let effect = old.effect.share()?;
-    Ok(LeafTally {
+    Ok(KeptTally {
         run,
         correction,
         effect,
@@ -202,11 +202,11 @@ fn are_empty(first: &Marks, second: &Marks) -> bool
 fn tally_on<L>(
     prog: &Arc<Planned>,
     snapshot: &Database,
-    prior: Option<&LeafTally>,
+    prior: Option<&KeptTally>,
     on: Marks,
     is_reading: bool,
     moves: &mut Moves<L>,
-) -> Result<LeafTally, NoMemory>
+) -> Result<KeptTally, NoMemory>
     requires marks { FitMarks (state_of snapshot.now) on }
     requires fits { Fits (state_of snapshot.now) (arc_value prog.now) }
     requires indexes { HasIndexes snapshot.now (arc_value prog.now) }
@@ -233,6 +233,43 @@ fn tally_on<L>(
             Ok(tally)
         }
     }
+}
+
+/// The run of a prior tally, if it was kept.
+fn kept_of(prior: Option<&LeafTally>) -> Option<&KeptTally>
+    ensures { option_map (λ kept. kept.now) result ≡ kept_in (option_map (λ old. old.now) prior.entry) }
+{
+    match prior {
+        None => None,
+        Some(old) => match old {
+            LeafTally::Kept(kept) => Some(kept),
+            LeafTally::Bare(_) => None,
+        },
+    }
+}
+
+/// What a program answers and writes on the snapshot with the marks laid on it, of which no more is kept.
+fn bare_on<L>(
+    prog: &Arc<Planned>,
+    snapshot: &Database,
+    on: &Marks,
+    is_reading: bool,
+    moves: &mut Moves<L>,
+) -> Result<BareTally, NoMemory>
+    requires marks { FitMarks (state_of snapshot.now) on.now }
+    requires fits { Fits (state_of snapshot.now) (arc_value prog.now) }
+    requires indexes { HasIndexes snapshot.now (arc_value prog.now) }
+    requires written { FitMarks (state_of snapshot.now) (run_of (arc_value prog.now) (laid (state_of snapshot.now) on.now)).1 }
+    ensures reply { IfOk result (λ tally. tally.reply ≡ (run_of (arc_value prog.now) (laid (state_of snapshot.now) on.now)).0) }
+    ensures marks { IfOk result (λ tally. tally.effect ≡ (run_of (arc_value prog.now) (laid (state_of snapshot.now) on.now)).1) }
+    ensures moves { moves.new ≤ moves.old + run_bound None (arc_value prog.now) (laid (state_of snapshot.now) on.now) }
+    ensures rises { moves.old ≤ moves.new }
+{
+    let base = corrected(snapshot, prog, on)?;
+    let ran = run_alone(prog, &base, moves)?;
+    let effect = effect_of(snapshot, &ran.marks, is_reading)?;
+    let Ran { reply, marks: _ } = ran;
+    Ok(BareTally { reply, effect })
 }
 
 impl BatchWork {
@@ -312,25 +349,51 @@ impl LeafWork for BatchWork {
         ensures stands { IfOk result (λ tally. StandsFor self.now tally leaf correction.now) }
         ensures moves { IfSome (leaf_bound self.now (option_map (λ old. old.now) prior.entry) leaf correction.now) (λ most. moves.new ≤ moves.old + most) }
         ensures rises { moves.old ≤ moves.new }
-        ensures restated { IfOk result (λ tally. IfSome prior.entry (λ old. IsRestated old.now.run tally.run)) }
+        ensures restated { IfOk result (λ tally. IfSome (kept_in (option_map (λ old. old.now) prior.entry)) (λ old. IsRestatedFrom old tally)) }
+        ensures kept { IfOk result IsKept }
     {
         let prog = &self.programs[leaf as usize];
         let on = marks_to_lay(prog, correction)?;
-        let tally = tally_on(prog, &self.snapshot, prior, on, self.is_reading, moves)?;
-        Ok(tally)
+        let kept = kept_of(prior);
+        let tally = tally_on(prog, &self.snapshot, kept, on, self.is_reading, moves)?;
+        Ok(LeafTally::Kept(tally))
+    }
+
+    fn work_last<L>(
+        &self,
+        leaf: u32,
+        correction: &Marks,
+        moves: &mut Moves<L>,
+    ) -> Result<LeafTally, NoMemory>
+        requires leaf { IsLeaf self.now leaf }
+        requires correction { FitsBatch self.now correction.now }
+        ensures stands { IfOk result (λ tally. StandsFor self.now tally leaf correction.now) }
+        ensures moves { IfSome (leaf_bound self.now None leaf correction.now) (λ most. moves.new ≤ moves.old + most) }
+        ensures rises { moves.old ≤ moves.new }
+    {
+        let prog = &self.programs[leaf as usize];
+        let on = marks_to_lay(prog, correction)?;
+        let tally = bare_on(prog, &self.snapshot, &on, self.is_reading, moves)?;
+        Ok(LeafTally::Bare(tally))
     }
 
     fn effect<'a>(&self, tally: &'a LeafTally) -> &'a Marks {
-        &tally.effect
+        tally.effect()
     }
 
     fn weight(&self, tally: &LeafTally) -> usize {
-        weight_of(&tally.run)
+        match tally {
+            LeafTally::Kept(kept) => weight_of(&kept.run),
+            LeafTally::Bare(_) => 0,
+        }
     }
 
     fn is_tied(&self, leaf: u32, tally: &LeafTally) -> bool {
         let leaf = leaf as usize;
-        leaf < self.ties.len() && is_tied(self.ties[leaf], tally)
+        match tally {
+            LeafTally::Kept(kept) => leaf < self.ties.len() && is_tied(self.ties[leaf], kept),
+            LeafTally::Bare(_) => false,
+        }
     }
 
     fn is_free(&self, leaf: u32) -> bool {

@@ -148,8 +148,7 @@ fn is_serial(circuit: &Circuit<BatchWork>, serial: &Serial, leaves: u32) -> bool
     }
     for leaf in 0..leaves {
         let ran = &serial.runs[leaf as usize];
-        let run = &circuit.tally(leaf).run;
-        if !is_same_reply(run.reply(), &ran.reply)
+        if !is_same_reply(circuit.tally(leaf).reply(), &ran.reply)
             || !Marks::equal(circuit.effect(leaf), &ran.marks)
         {
             return false;

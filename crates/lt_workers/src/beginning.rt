@@ -58,6 +58,12 @@ fn called<W: LeafWork>(circuit: &Circuit<W>, pace: &Pace, workers: u32, job: &Jo
     Begun::On
 }
 
+// Whether a leaf's run is thought to be its last, so that its tally need not tell how dear it was. In walk order it is, while one
+// worker is alone. Where others may be called, some leaves are weighed.
+fn is_last(pace: &Pace, workers: u32) -> bool {
+    workers < 2 || !pace.weighs()
+}
+
 // Passes the gate and does the job, which worker 0 claimed. No other claim stands.
 fn work_alone<R: Wait, W: LeafWork, G: Gate>(
     rt: &R,
@@ -65,6 +71,7 @@ fn work_alone<R: Wait, W: LeafWork, G: Gate>(
     job: Job<W>,
     gate: &G,
     pace: &mut Pace,
+    workers: u32,
 ) -> Begun
     requires work { job.work ≡ circuit.old.work }
     requires claim { (state circuit.old).claim 0 ≡ Some (claim_of_job job) }
@@ -74,9 +81,10 @@ fn work_alone<R: Wait, W: LeafWork, G: Gate>(
 {
     gate.pass(rt, 0, job.name().code());
     let mut moves: Moves<()> = Moves::new();
-    match job.work(&mut moves) {
+    let is_last = is_last(pace, workers);
+    match job.work(is_last, &mut moves) {
         Ok(output) => {
-            pace.note(&output);
+            pace.note(&output, is_last);
             circuit.finish(0, output);
             Begun::On
         }
@@ -102,7 +110,7 @@ fn go_on_alone<R: Wait, W: LeafWork, G: Gate>(
         Claim::Job(given) => {
             let called = called(circuit, pace, workers, &given);
             if called == Begun::On {
-                return work_alone(rt, circuit, given, gate, pace);
+                return work_alone(rt, circuit, given, gate, pace, workers);
             }
             circuit.abandon(0, given);
             called

@@ -110,7 +110,7 @@ where
     {
         gate.pass(rt, seat.first(), job.name().code());
         let mut moves: Moves<()> = Moves::new();
-        match job.work(&mut moves) {
+        match job.work(false, &mut moves) {
             Ok(output) => {
                 luck.note(seat.first(), gate.waits(), &output);
                 self.finish(rt, seat, output);

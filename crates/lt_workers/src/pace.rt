@@ -10,11 +10,15 @@ const WORTH: usize = 1024;
 /// How many leaves are looked at, whether they are tied to those before them.
 const LOOKS: u32 = 2;
 
+/// Of so many leaves one is weighed, and the first ones.
+const WEIGHED: u32 = 8;
+
 /// What is known of the leaves that one worker alone has run in their order.
 #[derive(Drop)]
 pub(crate) struct Pace {
     left: u32,
     ran: u32,
+    weighed: u32,
     weight: usize,
     loose: u32,
     tied: u32,
@@ -26,20 +30,30 @@ impl Pace {
         Pace {
             left: leaves,
             ran: 0,
+            weighed: 0,
             weight: 0,
             loose: 0,
             tied: 0,
         }
     }
 
-    /// A job is done. An inner node's tells nothing.
-    pub(crate) fn note<W: LeafWork>(&mut self, output: &Output<W>) {
+    /// Whether the next leaf is to be weighed.
+    pub(crate) fn weighs(&self) -> bool {
+        self.ran < LOOKS || self.ran % WEIGHED == 0
+    }
+
+    /// A job is done. An inner node's tells nothing, and a leaf's last run only that it is done.
+    pub(crate) fn note<W: LeafWork>(&mut self, output: &Output<W>, is_last: bool) {
         let Some(weight) = output.weight() else {
             return;
         };
         self.ran = self.ran.saturating_add(1);
-        self.weight = self.weight.saturating_add(weight);
         self.left = self.left.saturating_sub(1);
+        if is_last {
+            return;
+        }
+        self.weighed = self.weighed.saturating_add(1);
+        self.weight = self.weight.saturating_add(weight);
         if self.is_worth(self.left) && self.loose.saturating_add(self.tied) < LOOKS {
             self.note_tie(output.is_tied());
         }
@@ -60,7 +74,7 @@ impl Pace {
 
     /// Whether so many leaves are worth to be run ahead.
     pub(crate) fn is_worth(&self, leaves: u32) -> bool {
-        let ran = self.ran as usize;
+        let ran = self.weighed as usize;
         if ran == 0 || leaves < 2 || self.weight < ran.saturating_mul(DEAR) {
             return false;
         }

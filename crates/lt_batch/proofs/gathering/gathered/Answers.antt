@@ -12,7 +12,7 @@ loop-leaf-preserved c =
     c.loop-leaf.leaf c.loop-leaf.replies c.loop-leaf.effects c.in_ok-reply.reply c.in_ok-effect.effect
     (omega arith) c.loop-leaf.invariant
     (sym c.effect.ensures.value ∙ c.effect.ensures.serial c.requires.settled)
-    (c.in_ok-reply.ensures ∙ c.reply.ensures.reply ∙ c.tally.ensures.stands.reply)
+    (c.in_ok-reply.ensures ∙ c.reply.ensures ∙ c.tally.ensures.stands.reply)
     (c.in_ok-effect.ensures ∙ c.effect.ensures.value))
 
 pub returns-clause-leaves : goal.returns-clause-leaves

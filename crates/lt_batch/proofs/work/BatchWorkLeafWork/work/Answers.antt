@@ -7,10 +7,12 @@ use Rattle.lt_model.specs.declared.normal.Stmt.{Stmt}
 use Rattle.lt_model.specs.Marks.{laid}
 use Rattle.lt_model.specs.Run.{run}
 use Rattle.lt_base.specs.Tables.{state_of}
+use Rattle.lt_batch.specs.declared.leaf.KeptTally.{KeptTally}
 use Rattle.lt_batch.specs.declared.leaf.LeafTally.{LeafTally}
 use Rattle.lt_batch.specs.Batch.{program_at}
 use Rattle.lt_batch.specs.Work.{BatchView, marks_for}
-use Rattle.lt_batch.proofs.Runs.{item_at, prior_for, stands_is, bound_kept, written_fits}
+use Rattle.lt_batch.specs.Priors.{kept_in}
+use Rattle.lt_batch.proofs.Runs.{item_at, prior_for, stands_is, bound_kept, restated_for, written_fits}
 use Rattle.lt_program.specs.Tally.{HasIndexes}
 use Rattle.lt_batch.proofs.Indexed.{each_item}
 use Rattle.lt_batch.proofs.work.BatchWorkLeafWork.work.Goals as goal
@@ -49,7 +51,7 @@ tally_on-requires-clause-prior g c =
     let prog_is : program_at c.args.self.now.programs c.args.leaf ≡ arc_value c.index-prog.result.now =
     ap (λ (w : BatchView). program_at w.programs c.args.leaf) (sym c.self.view_is) ∙ item_at arc_value c.self.inside.programs.items c.args.leaf c.index-prog.result.now here c.index-prog.ensures in
     let snapshot_is : state_of c.args.self.now.snapshot ≡ state_of c.self.inside.snapshot = ap (λ (w : BatchView). state_of w.snapshot) (sym c.self.view_is) in
-    prior_for c.args.prior c.args.self.now c.args.leaf (arc_value c.index-prog.result.now) (state_of c.self.inside.snapshot) prog_is snapshot_is c.requires.prior
+    prior_for c.args.prior c.kept_of-kept.result c.args.self.now c.args.leaf (arc_value c.index-prog.result.now) (state_of c.self.inside.snapshot) c.kept_of-kept.ensures prog_is snapshot_is c.requires.prior
 
 pub returns-clause-stands : goal.returns-clause-stands
 returns-clause-stands g c =
@@ -71,4 +73,7 @@ returns-clause-moves g c =
     ap (λ (w : BatchView). program_at w.programs c.args.leaf) (sym c.self.view_is) ∙ item_at arc_value c.self.inside.programs.items c.args.leaf c.index-prog.result.now here c.index-prog.ensures in
     let snapshot_is : state_of c.args.self.now.snapshot ≡ state_of c.self.inside.snapshot = ap (λ (w : BatchView). state_of w.snapshot) (sym c.self.view_is) in
     let on_is : c.in_ok-on.on ≡ marks_for (arc_value c.index-prog.result.now) c.args.correction.now = c.in_ok-on.ensures.marks ∙ ap (λ (p : List Stmt). marks_for p c.args.correction.now) c.deref.ensures in
-    bound_kept (option_map (λ (old : Bor LeafTally). old.now) c.args.prior) c.args.self.now c.args.leaf (arc_value c.index-prog.result.now) (state_of c.self.inside.snapshot) c.in_ok-on.on c.args.correction.now c.args.moves.now c.tally_on.new.moves prog_is snapshot_is on_is c.tally_on.ensures.moves
+    bound_kept (option_map (λ (old : Bor LeafTally). old.now) c.args.prior) (option_map (λ (kept : Bor KeptTally). kept.now) c.kept_of-kept.result) c.args.self.now c.args.leaf (arc_value c.index-prog.result.now) (state_of c.self.inside.snapshot) c.in_ok-on.on c.args.correction.now c.args.moves.now c.tally_on.new.moves c.kept_of-kept.ensures prog_is snapshot_is on_is c.tally_on.ensures.moves
+
+pub returns-clause-restated : goal.returns-clause-restated
+returns-clause-restated g c = restated_for c.kept_of-kept.result (kept_in (option_map (λ (old : Bor LeafTally). old.now) c.args.prior)) c.in_ok-tally.tally c.kept_of-kept.ensures c.in_ok-tally.ensures.restated
