@@ -5,8 +5,10 @@ ghost use Rattle.std.specs.List.{AllByRecursion};
 ghost use Rattle.lt_model.specs.Fits.{Fits, FitMarks};
 ghost use Rattle.lt_model.specs.Limits.{IsProgramWithin};
 ghost use Rattle.lt_base.specs.Tables.{state_of};
+ghost use Rattle.lt_program.specs.Tally.{HasIndexes};
 ghost use Rattle.lt_run_trials.specs.Fitting.{AreBoth, FitsBoth};
 
+use crate::comparing::is_same_reply;
 use lt_base::Database;
 use lt_check::check::{CheckFault, check};
 use lt_check::schema::{DeclareFault, Schema};
@@ -17,7 +19,7 @@ use lt_face::moves::Moves;
 use lt_model::kind::{Kind, KindList};
 use lt_model::name::Name;
 use lt_model::normal::Prog;
-use lt_program::{Tally, indexed, run};
+use lt_program::{Tally, indexed, run, run_alone};
 use lt_query::Planned;
 use lt_query::laws::plans_of_bodies;
 use lt_script::{Item, ProgramList, Reader, Step};
@@ -173,7 +175,19 @@ pub(crate) fn routed(alloc: Global, base: &Database, prog: Prog) -> Result<Arc<P
     Ok(shared)
 }
 
-/// The run by joins.
+/// Whether the run of which the reply and the marks alone are kept answers and writes what this one did.
+fn is_alone(prog: &Arc<Planned>, db: &Database, tally: &Tally) -> Result<bool, NoMemory>
+    requires fits { Fits (state_of db.now) (arc_value prog.now) }
+    requires indexes { HasIndexes db.now (arc_value prog.now) }
+{
+    let mut moves: Moves<()> = Moves::new();
+    let ran = run_alone(prog, db, &mut moves)?;
+    let is_so = is_same_reply(&ran.reply, tally.reply()) && Marks::equal(&ran.marks, tally.marks());
+    drop(ran);
+    Ok(is_so)
+}
+
+/// The run by joins. Where the run of which the reply and the marks alone are kept isn't alike, the answer is as if memory had ended.
 pub(crate) fn joined<R: Threads + Sync>(
     rt: &R,
     alloc: Global,
@@ -187,6 +201,9 @@ pub(crate) fn joined<R: Threads + Sync>(
     let db = indexed(rt, base, &shared)?;
     let mut moves: Moves<()> = Moves::new();
     let tally = run(&shared, &db, &mut moves)?;
+    if !is_alone(&shared, &db, &tally)? {
+        return Err(NoMemory);
+    }
     Ok(tally)
 }
 
