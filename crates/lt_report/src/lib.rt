@@ -7,9 +7,11 @@ mod marks;
 mod reply;
 mod rows;
 mod show;
+mod traces;
 
 pub use line::put_line;
 pub use lines::{put_bad_item, put_bad_program, put_batch, put_fault, put_usage, put_version};
 pub use marks::put_marks;
 pub use reply::put_reply;
 pub use show::put_rows;
+pub use traces::{put_bad_trace, put_entry, put_trace};
