@@ -76,7 +76,8 @@ end_of : {X Y : Type 0} (f : X → Y) (xs : List X) (x : X) → map f (xs ++ x �
 end_of f [] x = refl
 end_of f (y ∷ xs) x = ap (λ ys. f y ∷ ys) (end_of f xs x)
 
-each_end : {X : Type 0} (P : X → Type 0) (xs : List X) (x : X) → AllByRecursion P xs → P x → AllByRecursion P (xs ++ x ∷ [])
+-- one more at the end
+pub each_end : {X : Type 0} (P : X → Type 0) (xs : List X) (x : X) → AllByRecursion P xs → P x → AllByRecursion P (xs ++ x ∷ [])
 each_end P [] x all h = (h, tt)
 each_end P (y ∷ xs) x all h = (all.0, each_end P xs x all.1 h)
 
