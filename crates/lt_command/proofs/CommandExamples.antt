@@ -4,28 +4,28 @@ use Rattle.clap.specs.Words.{Text}
 use Rattle.clap.proofs.OnLiterals.{clap_on_literals}
 use Rattle.lt_command.specs.Command.{command}
 use Rattle.lt_command.specs.declared.words.Command as declared
-use Rattle.lt_command.specs.declared.words.Command.TheVariants.{Bench, Run}
+use Rattle.lt_command.specs.declared.words.Command.TheVariants.{Bench, Replay, Run}
 
 abbrev asked : List Text → Option declared.Command
 asked words = command (codes "lt_shell" ∷ words)
 
-four_where_no_number : asked (codes "run" ∷ []) ≡ Some (Run 4 false)
+four_where_no_number : asked (codes "run" ∷ []) ≡ Some (Run 4 false false)
 unfolding command clap_on_literals
 four_where_no_number = refl
 
-one : asked (codes "run" ∷ codes "--workers" ∷ codes "1" ∷ []) ≡ Some (Run 1 false)
+one : asked (codes "run" ∷ codes "--workers" ∷ codes "1" ∷ []) ≡ Some (Run 1 false false)
 unfolding command clap_on_literals
 one = refl
 
-sixteen : asked (codes "run" ∷ codes "--workers=16" ∷ []) ≡ Some (Run 16 false)
+sixteen : asked (codes "run" ∷ codes "--workers=16" ∷ []) ≡ Some (Run 16 false false)
 unfolding command clap_on_literals
 sixteen = refl
 
-leading_zero : asked (codes "run" ∷ codes "--workers" ∷ codes "04" ∷ []) ≡ Some (Run 4 false)
+leading_zero : asked (codes "run" ∷ codes "--workers" ∷ codes "04" ∷ []) ≡ Some (Run 4 false false)
 unfolding command clap_on_literals
 leading_zero = refl
 
-plus : asked (codes "run" ∷ codes "--workers" ∷ codes "+4" ∷ []) ≡ Some (Run 4 false)
+plus : asked (codes "run" ∷ codes "--workers" ∷ codes "+4" ∷ []) ≡ Some (Run 4 false false)
 unfolding command clap_on_literals
 plus = refl
 
@@ -57,7 +57,7 @@ help : asked (codes "help" ∷ []) ≡ None
 unfolding command clap_on_literals
 help = refl
 
-end_of_options : asked (codes "run" ∷ codes "--" ∷ []) ≡ Some (Run 4 false)
+end_of_options : asked (codes "run" ∷ codes "--" ∷ []) ≡ Some (Run 4 false false)
 unfolding command clap_on_literals
 end_of_options = refl
 
@@ -77,7 +77,7 @@ no_word : command [] ≡ None
 unfolding command clap_on_literals
 no_word = refl
 
-with_marks : asked (codes "run" ∷ codes "--marks" ∷ codes "--workers" ∷ codes "2" ∷ []) ≡ Some (Run 2 true)
+with_marks : asked (codes "run" ∷ codes "--marks" ∷ codes "--workers" ∷ codes "2" ∷ []) ≡ Some (Run 2 true false)
 unfolding command clap_on_literals
 with_marks = refl
 
@@ -104,3 +104,27 @@ nine_readers = refl
 readers_of_a_run : asked (codes "run" ∷ codes "--readers" ∷ codes "1" ∷ []) ≡ None
 unfolding command clap_on_literals
 readers_of_a_run = refl
+
+with_traces : asked (codes "run" ∷ codes "--trace" ∷ codes "--marks" ∷ []) ≡ Some (Run 4 true true)
+unfolding command clap_on_literals
+with_traces = refl
+
+traces_of_a_bench : asked (codes "bench" ∷ codes "--seed" ∷ codes "1" ∷ codes "--items=64" ∷ codes "--programs" ∷ codes "32" ∷ codes "--trace" ∷ []) ≡ None
+unfolding command clap_on_literals
+traces_of_a_bench = refl
+
+replay : asked (codes "replay" ∷ []) ≡ Some (Replay false)
+unfolding command clap_on_literals
+replay = refl
+
+replay_with_marks : asked (codes "replay" ∷ codes "--marks" ∷ []) ≡ Some (Replay true)
+unfolding command clap_on_literals
+replay_with_marks = refl
+
+workers_of_a_replay : asked (codes "replay" ∷ codes "--workers" ∷ codes "1" ∷ []) ≡ None
+unfolding command clap_on_literals
+workers_of_a_replay = refl
+
+traces_of_a_replay : asked (codes "replay" ∷ codes "--trace" ∷ []) ≡ None
+unfolding command clap_on_literals
+traces_of_a_replay = refl

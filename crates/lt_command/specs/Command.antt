@@ -8,7 +8,7 @@ use Rattle.clap.specs.ValueTests.{is_numeral}
 use Rattle.clap.specs.Walk.{is_empty}
 use Rattle.clap.specs.Words.{Row, Text, fault_of, first_of, one_of, subcommand_of}
 use Rattle.lt_command.specs.declared.words.Command as declared
-use Rattle.lt_command.specs.declared.words.Command.TheVariants.{Bench, Run}
+use Rattle.lt_command.specs.declared.words.Command.TheVariants.{Bench, Replay, Run}
 use Rattle.lt_command.specs.Definition as definition
 
 -- the number that a text spells, where it is below 2^k
@@ -27,9 +27,17 @@ number_within least most otherwise id rows =
 abbrev pub workers_in : List Row → ℕ
 workers_in = number_within 1 most_workers 4 (codes "workers")
 
+-- whether an option without a value is given
+abbrev pub is_given_in : Text → List Row → Bool
+is_given_in id rows = option_map_or (λ text. bytes_eq text (codes "true")) (first_of id rows) false
+
 -- whether they ask for the marks
 abbrev pub marks_in : List Row → Bool
-marks_in rows = option_map_or (λ text. bytes_eq text (codes "true")) (first_of (codes "marks") rows) false
+marks_in = is_given_in (codes "marks")
+
+-- whether they ask for the traces
+abbrev pub trace_in : List Row → Bool
+trace_in = is_given_in (codes "trace")
 
 abbrev pub seed_in : List Row → ℕ
 seed_in rows = unwrap_or (option_and_then (number_of 64) (one_of (codes "seed") rows)) 0
@@ -46,16 +54,18 @@ readers_in = number_within 0 definition.most_readers 0 (codes "readers")
 
 -- it has from 1 to 16 workers, from 1 to 16384 items, from 1 to 65536 programs and at most 8 readers
 abbrev pub IsWithin : declared.Command → Type 0
-IsWithin (Run workers marks) = (1 ≤ workers) × (workers ≤ most_workers)
+IsWithin (Run workers marks trace) = (1 ≤ workers) × (workers ≤ most_workers)
 IsWithin (Bench seed items programs workers readers) =
     (1 ≤ items) × (items ≤ 16384) × (1 ≤ programs) × (programs ≤ 65536) × (1 ≤ workers) × (workers ≤ most_workers) × (readers ≤ definition.most_readers)
+IsWithin (Replay marks) = Unit {0}
 
 -- the command whose matches these are
 abbrev pub command_in : Option (Text × List Row) → Option declared.Command
 command_in None = None
 command_in (Some p) =
-    if bytes_eq p.0 (codes "run") then Some (Run (workers_in p.1) (marks_in p.1))
+    if bytes_eq p.0 (codes "run") then Some (Run (workers_in p.1) (marks_in p.1) (trace_in p.1))
     else if bytes_eq p.0 (codes "bench") then Some (Bench (seed_in p.1) (items_in p.1) (programs_in p.1) (workers_in p.1) (readers_in p.1))
+    else if bytes_eq p.0 (codes "replay") then Some (Replay (marks_in p.1))
     else None
 
 -- the command that the words ask for; none where the definition doesn't take them

@@ -23,6 +23,13 @@ marks = record (new_rule (codes "marks")) {
   action = Some SetTrue;
 }
 
+-- `--trace`
+abbrev pub trace : Rule
+trace = record (new_rule (codes "trace")) {
+  long = Some (codes "trace");
+  action = Some SetTrue;
+}
+
 -- `--seed S`, with S below 2^64
 abbrev pub seed : Rule
 seed = record (new_rule (codes "seed")) {
@@ -56,7 +63,7 @@ readers = record (new_rule (codes "readers")) {
 
 -- `run`
 abbrev pub run : App
-run = with_rule (with_rule (new_app (codes "run")) workers) marks
+run = with_rule (with_rule (with_rule (new_app (codes "run")) workers) marks) trace
 
 -- `bench`, as far as it says which script is generated
 abbrev pub bench_of_script : App
@@ -66,6 +73,10 @@ bench_of_script = with_rule (with_rule (with_rule (new_app (codes "bench")) seed
 abbrev pub bench : App
 bench = with_rule (with_rule bench_of_script workers) readers
 
+-- `replay`
+abbrev pub replay : App
+replay = with_rule (new_app (codes "replay")) marks
+
 -- one of the commands is required
 abbrev pub program : App
 program =
@@ -73,4 +84,4 @@ program =
     record a { top = record a.top { subcommand_required = true } }
 
 abbrev pub commands : App
-commands = with_subcommand (with_subcommand program run.top) bench.top
+commands = with_subcommand (with_subcommand (with_subcommand program run.top) bench.top) replay.top

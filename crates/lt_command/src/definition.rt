@@ -31,6 +31,16 @@ fn marks<'a>(alloc: Global) -> Arg<'a>
         .action(ArgAction::SetTrue)
 }
 
+// `--trace`: the journals of the batches are written behind the report.
+fn trace<'a>(alloc: Global) -> Arg<'a>
+    ensures rule { rule_of result ≡ definition.trace }
+    ensures local { result.global ≡ false }
+{
+    Arg::new(alloc, "trace")
+        .long("trace")
+        .action(ArgAction::SetTrue)
+}
+
 // `--seed S`: where the draws of a generated script begin.
 fn seed<'a>(alloc: Global) -> Arg<'a>
     ensures rule { rule_of result ≡ definition.seed }
@@ -80,7 +90,8 @@ fn run<'a>(alloc: Global) -> Result<Command<'a>, AllocError>
     ensures local { IfOk result (λ command. (fields_of command).has_globals ≡ false) }
 {
     let run = Command::new(alloc, "run").arg(workers(alloc))?;
-    run.arg(marks(alloc))
+    let run = run.arg(marks(alloc))?;
+    run.arg(trace(alloc))
 }
 
 // What `bench` needs to know of the script that it generates.
@@ -103,13 +114,23 @@ fn bench<'a>(alloc: Global) -> Result<Command<'a>, AllocError>
     bench.arg(readers(alloc))
 }
 
+// `replay`: a script is run by journals that were written down.
+fn replay<'a>(alloc: Global) -> Result<Command<'a>, AllocError>
+    ensures app { IfOk result (λ command. app_of command ≡ definition.replay) }
+    ensures local { IfOk result (λ command. (fields_of command).has_globals ≡ false) }
+{
+    Command::new(alloc, "replay").arg(marks(alloc))
+}
+
 /// The commands. The words name one of them.
 pub fn commands<'a>(alloc: Global) -> Result<Command<'a>, AllocError>
     ensures { IfOk result (λ command. app_of command ≡ definition.commands) }
 {
     let run = run(alloc)?;
     let bench = bench(alloc)?;
+    let replay = replay(alloc)?;
     let program = Command::new(alloc, "lt_shell").subcommand_required(true);
     let program = program.subcommand(run)?;
-    program.subcommand(bench)
+    let program = program.subcommand(bench)?;
+    program.subcommand(replay)
 }

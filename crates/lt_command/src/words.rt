@@ -1,7 +1,7 @@
 //! What words ask for.
 ghost use Rattle.std.specs.Prelude.{◌≡◌, ◌≤◌, IfOk, IfSome, map, string_bytes};
 ghost use Rattle.clap.specs.Words.{found_of, rows_of, subcommand_rows_of};
-ghost use Rattle.lt_command.specs.Command.{command, command_in, marks_in, number_within, seed_in, IsWithin};
+ghost use Rattle.lt_command.specs.Command.{command, command_in, is_given_in, number_within, seed_in, IsWithin};
 
 use crate::definition::{MOST_READERS, commands};
 use clap::ArgMatches;
@@ -13,10 +13,11 @@ use std::alloc::Global;
 /// A command, with what its options say.
 #[derive(Clone, Copy, Debug, PartialEq, Eq)]
 pub enum Command {
-    /// Reads a script and writes its report; so many workers run each batch.
+    /// Reads a script and writes its report; so many workers run each batch. Where the traces are asked for, they follow.
     Run {
         workers: u32,
         marks: bool,
+        trace: bool,
     },
     /// Runs a generated script and writes its summary.
     Bench {
@@ -25,6 +26,10 @@ pub enum Command {
         programs: u32,
         workers: u32,
         readers: u32,
+    },
+    /// Reads traces and a script, and writes its report where the traces are its.
+    Replay {
+        marks: bool,
     },
 }
 
@@ -41,11 +46,11 @@ fn number_of(matches: &ArgMatches<'_>, id: &str, otherwise: u32, least: u32, mos
         .clamp(least, most)
 }
 
-// Whether the marks are asked for.
-fn has_marks(matches: &ArgMatches<'_>) -> bool
-    ensures { result ≡ marks_in (rows_of (found_of matches.now)) }
+// Whether an option without a value is given.
+fn is_given(matches: &ArgMatches<'_>, id: &str) -> bool
+    ensures { result ≡ is_given_in id.now (rows_of (found_of matches.now)) }
 {
-    match matches.get_str("marks") {
+    match matches.get_str(id) {
         Some(text) => text == "true",
         None => false,
     }
@@ -68,7 +73,8 @@ fn command_met(matches: &ArgMatches<'_>) -> Option<Command>
     if name == "run" {
         return Some(Command::Run {
             workers: number_of(inner, "workers", 4, 1, MOST_WORKERS as u32),
-            marks: has_marks(inner),
+            marks: is_given(inner, "marks"),
+            trace: is_given(inner, "trace"),
         });
     }
     if name == "bench" {
@@ -78,6 +84,11 @@ fn command_met(matches: &ArgMatches<'_>) -> Option<Command>
             programs: number_of(inner, "programs", 1, 1, 65536),
             workers: number_of(inner, "workers", 4, 1, MOST_WORKERS as u32),
             readers: number_of(inner, "readers", 0, 0, MOST_READERS),
+        });
+    }
+    if name == "replay" {
+        return Some(Command::Replay {
+            marks: is_given(inner, "marks"),
         });
     }
     None
