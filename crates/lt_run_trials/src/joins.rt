@@ -16,7 +16,7 @@ use lt_face::items::{Items, RowList};
 use lt_face::key::{END, Key};
 use lt_face::memory::NoMemory;
 use lt_face::moves::Moves;
-use lt_join::{answers, some};
+use lt_join::{answers, answers_alone, some, some_alone};
 use lt_model::normal::{Body, Stmt, TermList};
 use lt_program::indexed;
 use lt_query::laws::plans_of_bodies;
@@ -29,6 +29,8 @@ use std::thread::Threads;
 #[derive(Drop)]
 struct Finding {
     rows: RowList,
+    /// The answers again, where nothing is kept of what they were sensitive to.
+    alone: RowList,
     any: bool,
     sense: Sense,
 }
@@ -58,11 +60,17 @@ fn answered(
     let plan = planned(body)?;
     let mut moves = Moves::<()>::new();
     let (rows, sense) = answers(alloc, body, &plan, terms, db, &mut moves)?;
+    let alone = answers_alone(alloc, body, &plan, terms, db, &mut moves)?;
     let any = rows.len() > 0;
-    Ok(Finding { rows, any, sense })
+    Ok(Finding {
+        rows,
+        alone,
+        any,
+        sense,
+    })
 }
 
-/// What a requirement finds.
+/// What a requirement finds. Where it finds another truth when nothing is kept, the answer is as if memory had ended.
 fn asked(alloc: Global, db: &Database, body: &Body) -> Result<Finding, NoMemory>
     requires wide { AreWide (state_of db.now) }
     requires indexes { HasIndexesOf db.now body.now }
@@ -71,8 +79,16 @@ fn asked(alloc: Global, db: &Database, body: &Body) -> Result<Finding, NoMemory>
     let plan = planned(body)?;
     let mut moves = Moves::<()>::new();
     let (any, sense) = some(alloc, body, &plan, db, &mut moves)?;
-    let rows = Items::new(alloc);
-    Ok(Finding { rows, any, sense })
+    let told = some_alone(alloc, body, &plan, db, &mut moves)?;
+    if told != any {
+        return Err(NoMemory);
+    }
+    Ok(Finding {
+        rows: Items::new(alloc),
+        alone: Items::new(alloc),
+        any,
+        sense,
+    })
 }
 
 /// What a print or a requirement finds. Where it is neither, the answer is as if memory had ended.
@@ -106,7 +122,7 @@ fn found<R: Threads + Sync>(
     }
 }
 
-/// Whether a print answers these ints.
+/// Whether a print answers these ints, also where nothing is kept.
 fn finds<R: Threads + Sync>(
     rt: &R,
     alloc: Global,
@@ -115,7 +131,9 @@ fn finds<R: Threads + Sync>(
     ints: &[i64],
 ) -> Result<bool, NoMemory> {
     let found = found(rt, alloc, stock, statement)?;
-    Ok(are_int_rows(alloc, found.rows.as_slice(), ints))
+    let same = are_int_rows(alloc, found.rows.as_slice(), ints);
+    let alone = are_int_rows(alloc, found.alone.as_slice(), ints);
+    Ok(same && alone)
 }
 
 #[test]

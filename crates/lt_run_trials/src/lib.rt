@@ -8,6 +8,8 @@ mod agreeing;
 #[cfg(test)]
 mod batches;
 #[cfg(test)]
+mod boards;
+#[cfg(test)]
 mod by_hand;
 #[cfg(test)]
 mod by_key;
