@@ -1,0 +1,12 @@
+//! The blocks of a trace: the journals of a script's batches, as they are written, and as they are read from bytes that come in
+//! pieces.
+#![tactic(auto)]
+
+mod block;
+mod reader;
+mod words;
+mod writing;
+
+pub use block::Block;
+pub use reader::{Reader, Stage};
+pub use writing::put_blocks;
