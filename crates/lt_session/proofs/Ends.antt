@@ -1,18 +1,17 @@
 -- What was read and what was written, as a run ends.
-use Rattle.std.proofs.Common.{◌≡◌, ◌≤◌, ◌++◌, Bool, true, false, List, [], ℕ, length, refl, sym, ap, subst, append-nil, ◌∙◌, arith}
+use Rattle.std.proofs.Common.{◌≡◌, ◌≤◌, ◌++◌, Bool, true, false, List, [], ℕ, length, refl, sym, ap, subst, ◌∙◌, arith}
 use Rattle.std.specs.Prelude.{Option, Some, None, Result, Err, IfErr}
 use Rattle.std.proofs.lemmas.List.{length-append}
-use Rattle.std.proofs.KnownBytes.{Appends-nil, Appends-trans, Consumes-nil, Consumes-trans}
-use Rattle.std.specs.Io.KnownBytes.{Appends, Consumes, Keeps}
+use Rattle.std.proofs.KnownBytes.{Appends-nil, Consumes-nil, Consumes-trans}
+use Rattle.std.specs.Io.KnownBytes.{Consumes}
 use Rattle.lt_command.specs.declared.words.Command.{Command}
 use Rattle.lt_command.specs.declared.words.Command.TheVariants.{Bench, Run}
 use Rattle.lt_edges.specs.Causes.{Rose}
 use Rattle.lt_model.specs.declared.syntax.Item.{Item}
-use Rattle.lt_model.specs.Script.{Close, End, Fault, Script}
 use Rattle.lt_model.specs.Report.{report}
 use Rattle.lt_script.proofs.Totality.{some_reading}
-use Rattle.lt_session.specs.Reports.{is_fault, IsFrontOf, IsReportOf}
-use Rattle.lt_session.specs.Ends.{IfRun, IsInput, IsFaultReported, IsLongPart, IsPart, IsReported, StopsAs}
+use Rattle.lt_session.specs.Reports.{IsFrontOf}
+use Rattle.lt_session.specs.Ends.{IfRun, IsLongPart, IsPart, StopsAs}
 use Rattle.lt_session.specs.Reads.{StopsGoing, StopsReading, TakesBeyond, TakesWithin}
 use Rattle.lt_session.specs.Stops.{halted, unread}
 use Rattle.lt_session.specs.declared.stop.Stop.{Stop}
@@ -21,39 +20,9 @@ use Rattle.lt_session.specs.declared.halt.Halt.{Halt}
 use Rattle.lt_session.specs.declared.halt.Halt.TheVariants as halts
 use Rattle.lt_session.specs.declared.input.InputError.{InputError}
 use Rattle.lt_session.specs.declared.input.InputError.TheVariants as errors
-use Rattle.lt_session.proofs.Writing.{kept_appends}
 
 abbrev Bytes : Type 0
 Bytes = Option (List ℕ)
-
--- a flush behind it
-then_kept : (h i j : Bytes) (text : List ℕ) → Appends h i text → Keeps i j → Appends h j text
-then_kept h i j text a k = subst (Appends h j) (append-nil text) (Appends-trans h i j text [] a (kept_appends i j k))
-
-module _ (marks : Bool) (l m h i j : Bytes) (bytes : List ℕ) (all : IsInput l m bytes) where
-  by_end : (items : List Item) (close : Close) → Script bytes items close → false ≡ is_fault close → Appends h i (report marks items close) → Keeps i j → IsReported marks l m h j
-  by_end items End s f w k = record { bytes = bytes; input = all; items = items; script = s; written = then_kept h i j (report marks items End) w k }
-  by_end items (Fault line code) s f w k = absurd (let e : false ≡ true = f in cc)
-
-  by_fault : (items : List Item) (close : Close) → Script bytes items close → true ≡ is_fault close → Appends h i (report marks items close) → Keeps i j → IsFaultReported marks l m h j
-  by_fault items End s f w k = absurd (let e : true ≡ false = f in cc)
-  by_fault items (Fault line code) s f w k = record { bytes = bytes; input = all; items = items; line = line; code = code; script = s; written = then_kept h i j (report marks items (Fault line code)) w k }
-
-  module _ (faulty : Bool) (r : IsReportOf marks bytes faulty h i) (k : Keeps i j) where
-    pub reported : faulty ≡ false → IsReported marks l m h j
-    reported f = by_end r.items r.close r.script (sym f ∙ r.told) r.written k
-
-    pub fault_reported : faulty ≡ true → IsFaultReported marks l m h j
-    fault_reported f = by_fault r.items r.close r.script (sym f ∙ r.told) r.written k
-
-    -- a flush that failed
-    pub unflushed : IsPart marks l m h j
-    unflushed = record {
-      bytes = bytes;
-      taken = all.consumed;
-      within = all.within;
-      front = record { items = r.items; close = r.close; script = r.script; written = (report marks r.items r.close, [], sym (append-nil (report marks r.items r.close)), then_kept h i j (report marks r.items r.close) r.written k) };
-    }
 
 -- nothing was read and nothing was written
 pub none_taken : (marks : Bool) (l h : Bytes) → IsPart marks l l h h
@@ -68,7 +37,8 @@ none_taken marks l h =
 
 -- so for a run, whatever the words are
 pub none_run : (o : Option Command) (l h : Bytes) → IfRun o (λ marks. IsPart marks l l h h)
-none_run (Some (Run workers marks)) l h = none_taken marks l h
+none_run (Some (Run workers marks false)) l h = none_taken marks l h
+none_run (Some (Run workers marks true)) l h = tt
 none_run (Some (Bench seed items programs workers readers)) l h = tt
 none_run None l h = tt
 

@@ -20,3 +20,5 @@ pub mod Asked
 pub mod Posted
 pub mod Compared
 pub mod Beginning
+pub mod Traced
+pub mod TracedEnds

@@ -20,7 +20,10 @@ use Rattle.lt_session.specs.Input.{limit}
 use Rattle.lt_session.specs.Reads.{ReadsOn, StopsGoing}
 use Rattle.lt_session.specs.Reports.{IsFrontOf}
 use Rattle.lt_session.specs.Ends.{IsInput, IsPart, IsWritten, StopsAs}
+use Rattle.lt_blocks.specs.declared.block.Block.{Block}
+use Rattle.lt_session.specs.Traces.{AreKept, KeepsBlock}
 use Rattle.lt_session.specs.World.{said, Shows, Takes}
+use Rattle.lt_session.proofs.Traced.{kept_more, kept_none}
 use Rattle.lt_session.proofs.Ends.{by_going}
 use Rattle.lt_session.proofs.Fed.{fed_reading, feeds_on, kept_few, none_more}
 use Rattle.lt_session.proofs.Fronts.{front_fault, front_here, front_item, report_ends, report_faults}
@@ -31,8 +34,8 @@ use Rattle.lt_session.proofs.Writing.{did_kept}
 abbrev Bytes : Type 0
 Bytes = Option (List ℕ)
 
--- What was taken was fed, the world stands behind the items that were answered, and what they say was written.
-pub record Stands (marks : Bool) (feed : Feed) (world : World) (taken : Taken) (l m : Bytes) (r s : ℕ) (h i : Bytes) (w x : ℕ) : Type 0 where
+-- What was taken was fed, the world stands behind the items that were answered, what they say was written, and their blocks were kept.
+pub record Stands (trace : Bool) (blocks : List Block) (marks : Bool) (feed : Feed) (world : World) (taken : Taken) (l m : Bytes) (r s : ℕ) (h i : Bytes) (w x : ℕ) : Type 0 where
   pub bytes : List ℕ
   pub items : List Item
   pub fed : HasFed feed bytes items
@@ -44,11 +47,12 @@ pub record Stands (marks : Bool) (feed : Feed) (world : World) (taken : Taken) (
   pub ended : feed.ended ≡ taken.ended
   pub end : taken.ended ≡ true → IsAtEnd m
   pub later : r ≤ s
+  pub kept : AreKept trace marks items blocks
 
 -- before anything was read
-pub stands_first : (marks : Bool) (feed : Feed) (world : World) (taken : Taken) (l : Bytes) (r : ℕ) (h : Bytes) (w : ℕ) → HasFed feed [] [] → feed.ended ≡ false → Shows world opening → taken.count ≡ 0 → taken.ended ≡ false
-    → Stands marks feed world taken l l r r h h w w
-stands_first marks feed world taken l r h w fed before shows none on = record {
+pub stands_first : (trace : Bool) (blocks : List Block) → blocks ≡ [] → (marks : Bool) (feed : Feed) (world : World) (taken : Taken) (l : Bytes) (r : ℕ) (h : Bytes) (w : ℕ) → HasFed feed [] [] → feed.ended ≡ false → Shows world opening → taken.count ≡ 0 → taken.ended ≡ false
+    → Stands trace blocks marks feed world taken l l r r h h w w
+stands_first trace blocks empty marks feed world taken l r h w fed before shows none on = record {
   bytes = [];
   items = [];
   fed = fed;
@@ -60,17 +64,18 @@ stands_first marks feed world taken l r h w fed before shows none on = record {
   ended = before ∙ sym on;
   end = λ e. absurd (let f : false ≡ true = sym on ∙ e in cc);
   later = omega arith;
+  kept = kept_none trace marks blocks empty;
 }
 
-module _ (marks : Bool) (feed : Feed) (world : World) (taken : Taken) (l m : Bytes) (r s : ℕ) (h i : Bytes) (w x : ℕ) (at : Stands marks feed world taken l m r s h i w x) where
+module _ (trace : Bool) (blocks : List Block) (marks : Bool) (feed : Feed) (world : World) (taken : Taken) (l m : Bytes) (r s : ℕ) (h i : Bytes) (w x : ℕ) (at : Stands trace blocks marks feed world taken l m r s h i w x) where
   -- where its fold stands
   abbrev here : model.World
   here = fold (step marks) opening at.items
 
   -- an item was answered and taken
-  pub stands_item : (new : Feed) (after : World) (item : Item) (j : Bytes) (y : ℕ) → Gives feed new at.bytes at.items item → new.ended ≡ feed.ended → Takes world item after → Appends i j (said marks here item) → x ≤ y
-      → Stands marks new after taken l m r s h j w y
-  stands_item new after item j y gives same takes wrote later = record {
+  pub stands_item : (new : Feed) (after : World) (later_blocks : List Block) (item : Item) (j : Bytes) (y : ℕ) → Gives feed new at.bytes at.items item → new.ended ≡ feed.ended → Takes world item after → Appends i j (said marks here item) → x ≤ y
+      → KeepsBlock trace here item blocks later_blocks → Stands trace later_blocks marks new after taken l m r s h j w y
+  stands_item new after later_blocks item j y gives same takes wrote later keeps = record {
     bytes = at.bytes;
     items = at.items ++ item ∷ [];
     fed = gives.fed;
@@ -84,11 +89,12 @@ module _ (marks : Bool) (feed : Feed) (world : World) (taken : Taken) (l m : Byt
     ended = same ∙ at.ended;
     end = at.end;
     later = at.later;
+    kept = kept_more trace marks at.items item blocks later_blocks at.kept keeps;
   }
 
   -- more was read
   pub stands_more : (old new : Feed) (next : Taken) (n : Bytes) (q : ℕ) (j : Bytes) (y : ℕ) → HasFed old at.bytes at.items → ReadsOn old new taken.count next m n → s ≤ q → Keeps i j → x ≤ y
-      → Stands marks new world next l n r q h j w y
+      → Stands trace blocks marks new world next l n r q h j w y
   stands_more old new next n q j y fed reads later kept sink_later = record {
     bytes = at.bytes ++ reads.piece;
     items = at.items;
@@ -101,6 +107,7 @@ module _ (marks : Bool) (feed : Feed) (world : World) (taken : Taken) (l m : Byt
     ended = reads.ended;
     end = reads.end;
     later = omega (arith, at.later, later);
+    kept = at.kept;
   }
 
   -- so less is left to do
@@ -139,15 +146,15 @@ module _ (marks : Bool) (feed : Feed) (world : World) (taken : Taken) (l m : Byt
   input : taken.ended ≡ true → IsInput l m at.bytes
   input e = record { consumed = at.consumed; end = at.end e; within = omega (arith, at.counted, at.within) }
 
-  pub written_here : feed.ended ≡ true → Script at.bytes at.items End → IsWritten marks false l m h i
-  written_here e script = (at.bytes, input (sym at.ended ∙ e), report_ends marks at.bytes at.items h i w x at.did script)
+  pub written_here : feed.ended ≡ true → Script at.bytes at.items End → IsWritten trace marks false blocks l m h i
+  written_here e script = (at.bytes, input (sym at.ended ∙ e), report_ends marks at.bytes at.items h i w x at.did trace blocks at.kept script)
 
   module _ (line code : ℕ) (closed : IsClosed feed.ended at.bytes at.items (Fault line code)) where
     is_script : Script at.bytes at.items (Fault line code)
     is_script = subst (λ (bs : List ℕ). Script bs at.items (Fault line code)) (append-nil at.bytes) (closed [] (none_more feed.ended))
 
-    pub fault_written : (j : Bytes) → taken.ended ≡ true → Appends i j (close_text (Fault line code)) → IsWritten marks true l m h j
-    fault_written j e wrote = (at.bytes, input e, report_faults marks at.bytes at.items h i w x at.did line code j is_script wrote)
+    pub fault_written : (j : Bytes) → taken.ended ≡ true → Appends i j (close_text (Fault line code)) → IsWritten trace marks true blocks l m h j
+    fault_written j e wrote = (at.bytes, input e, report_faults marks at.bytes at.items h i w x at.did trace blocks at.kept line code j is_script wrote)
 
     pub part_fault : (j : Bytes) → AppendsFront i j (close_text (Fault line code)) → IsPart marks l m h j
     part_fault j wrote = part_of j (front_fault marks at.bytes at.items h i w x at.did line code j is_script wrote)

@@ -43,6 +43,13 @@ module _ {T : Type 0} where
       subst (λ (q : Result T Halt). Writes q h h w w said) (sym (is ∙ ap (λ (f : Halt). let q : Result T Halt = Err f in q) none))
       (record { ok = tt; err = ([], said, refl, Appends-nil h); later = omega arith; failed = λ e. absurd cc })
 
+module _ {T : Type 0} where
+  -- memory was refused behind what was written
+  pub refused_behind : (r : Result T Halt) (e : Halt) {U E : Type 0} (u : U) (h i : Bytes) (w x : ℕ) (text said : List ℕ) → r ≡ Err e → e ≡ NoMemory → Puts {T = U} {E = E} (Ok u) h i w x text → said ≡ text → Writes r h i w x said
+  refused_behind r e {U} {E} u h i w x text said is none p same =
+      subst (λ (q : Result T Halt). Writes q h i w x said) (sym (is ∙ ap (λ (f : Halt). let q : Result T Halt = Err f in q) none))
+      (record { ok = tt; err = (text, [], same ∙ sym (append-nil text), p.ok); later = p.cause.later; failed = λ e. absurd cc })
+
 pub kept_appends : (a b : Bytes) → Keeps a b → Appends a b []
 kept_appends None b k = tt
 kept_appends (Some x) None k = absurd k

@@ -1,7 +1,8 @@
 -- What each way to end shows of the source and the sink.
-use Rattle.std.specs.Prelude.{ℕ, Bool, ◌<◌, ◌≤◌, List, length, Some, None, ⊤}
+use Rattle.std.specs.Prelude.{ℕ, Bool, true, false, ◌<◌, ◌≤◌, List, length, Some, None, ⊤}
 use Rattle.std.specs.declared.option.Option.{Option}
 use Rattle.std.specs.Io.KnownBytes.{Appends, Consumes, IsAtEnd, Keeps}
+use Rattle.lt_blocks.specs.declared.block.Block.{Block}
 use Rattle.lt_command.specs.declared.words.Command.{Command}
 use Rattle.lt_command.specs.declared.words.Command.TheVariants.{Bench, Run}
 use Rattle.lt_edges.specs.Causes.{Rose}
@@ -17,15 +18,16 @@ use Rattle.lt_session.specs.declared.stop.Stop.TheVariants as stops
 use Rattle.lt_session.specs.Input.{limit}
 use Rattle.lt_session.specs.Reports.{IsFrontOf, IsReportOf}
 
--- the words ask for a run, with marks or without, of which this holds
+-- the words ask for a run without traces, with marks or without, of which this holds
 abbrev pub IfRun : Option Command → (Bool → Type 0) → Type 0
-IfRun (Some (Run workers marks)) P = P marks
+IfRun (Some (Run workers marks false)) P = P marks
+IfRun (Some (Run workers marks true)) P = ⊤
 IfRun (Some (Bench seed items programs workers readers)) P = ⊤
 IfRun None P = ⊤
 
 -- the words ask for a bench, with this seed and so many items, programs and readers, of which this holds
 abbrev pub IfBench : Option Command → (ℕ → ℕ → ℕ → ℕ → Type 0) → Type 0
-IfBench (Some (Run workers marks)) P = ⊤
+IfBench (Some (Run workers marks trace)) P = ⊤
 IfBench (Some (Bench seed items programs workers readers)) P = P seed items programs readers
 IfBench None P = ⊤
 
@@ -71,9 +73,9 @@ pub record IsLongPart (marks : Bool) (left_old left_new holds_old holds_new : Op
 abbrev pub IsTooLong : Option (List ℕ) → Option (List ℕ) → Type 0
 IsTooLong left_old left_new = (taken : List ℕ) × Consumes left_old left_new taken × (limit < length taken)
 
--- the input was read to its end and its report was written, and it is told whether it has a fault
-abbrev pub IsWritten : Bool → Bool → Option (List ℕ) → Option (List ℕ) → Option (List ℕ) → Option (List ℕ) → Type 0
-IsWritten marks faulty l m h i = (bytes : List ℕ) × IsInput l m bytes × IsReportOf marks bytes faulty h i
+-- the input was read to its end and its report was written, it is told whether it has a fault, and these blocks were kept
+abbrev pub IsWritten : Bool → Bool → Bool → List Block → Option (List ℕ) → Option (List ℕ) → Option (List ℕ) → Option (List ℕ) → Type 0
+IsWritten trace marks faulty blocks l m h i = (bytes : List ℕ) × IsInput l m bytes × IsReportOf trace blocks marks bytes faulty h i
 
 -- how a script stops that isn't run to its end
 abbrev pub StopsAs : Bool → Stop → Option (List ℕ) → Option (List ℕ) → ℕ → ℕ → Option (List ℕ) → Option (List ℕ) → ℕ → ℕ → Type 0

@@ -14,3 +14,6 @@ pub mod Coming
 pub mod Reading
 pub mod Asking
 pub mod Posting
+pub mod Outcomes
+pub mod Traces
+pub mod TracedEnds

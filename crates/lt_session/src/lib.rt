@@ -14,6 +14,7 @@ mod repair;
 mod script;
 mod status;
 mod stop;
+mod tracing;
 mod world;
 
 pub use repair::repair_main;

@@ -9,13 +9,15 @@ ghost use Rattle.lt_gen.specs.Summaries.{summary_text};
 ghost use Rattle.lt_report.specs.Puts.{AppendsFront, Puts};
 ghost use Rattle.lt_session.specs.Input.{limit};
 ghost use Rattle.lt_session.specs.Statuses.{status_code};
-ghost use Rattle.lt_session.specs.Ends.{bench_text, BenchEndsAs, EndsAs, IfBench, IfRun, IsFaultReported, IsLongPart, IsPart, IsReported, IsTooLong};
+ghost use Rattle.lt_blocks.specs.Blocks.{blocks_text};
+ghost use Rattle.lt_session.specs.TracedEnds.{IfTraced, IsFaultTraced, IsTraced, IsTracedPart, RunEndsAs};
+ghost use Rattle.lt_session.specs.Ends.{bench_text, BenchEndsAs, IfBench, IfRun, IsFaultReported, IsLongPart, IsPart, IsReported, IsTooLong};
 
 use crate::bench::summarize;
 use crate::options::{Generated, Options};
 use crate::script::write_report;
-use crate::status::{Status, code};
-use crate::stop::Stop;
+use crate::status::{Status, code, status_of};
+use lt_blocks::{Block, put_blocks};
 use lt_command::{Command, command_of};
 use lt_edges::{Failed, Gate, Sink, Source};
 use lt_gen::{Summary, bench_summary};
@@ -45,6 +47,14 @@ fn refuse_words<K: Sink>(sink: &mut K) -> Status
     }
 }
 
+// Writes the journals of batches and passes on what was written.
+fn write_blocks<K: Sink>(sink: &mut K, blocks: &[Block]) -> Result<(), Failed>
+    ensures { Puts result (K.holds sink.old) (K.holds sink.new) (K.faults sink.old) (K.faults sink.new) (blocks_text blocks.now) }
+{
+    put_blocks(sink, blocks)?;
+    sink.flush()
+}
+
 // Runs a script as it comes and passes its report on.
 fn run_script<R: Threads + Wait + Sync, S: Source, K: Sink, G: Gate>(
     rt: &R,
@@ -55,21 +65,21 @@ fn run_script<R: Threads + Wait + Sync, S: Source, K: Sink, G: Gate>(
     gate: &G,
 ) -> Status
     requires workers { (1 ≤ options.workers) × (options.workers ≤ most_workers) }
-    ensures { EndsAs options.marks result (S.left source.old) (S.left source.new) (S.faults source.old) (S.faults source.new)
+    ensures { RunEndsAs options.trace options.marks result (S.left source.old) (S.left source.new) (S.faults source.old) (S.faults source.new)
         (K.holds sink.old) (K.holds sink.new) (K.faults sink.old) (K.faults sink.new) }
 {
-    let faulty = match write_report(rt, alloc, source, sink, options, gate) {
-        Ok(faulty) => faulty,
-        Err(Stop::NoMemory) => return Status::NoMemory,
-        Err(Stop::ReadFailed) => return Status::ReadFault,
-        Err(Stop::WriteFailed) => return Status::WriteFault,
-        Err(Stop::TooLong) => return Status::TooLong,
+    let ended = match write_report(rt, alloc, source, sink, options, gate) {
+        Ok(ended) => ended,
+        Err(stop) => return status_of(stop),
     };
-    match sink.flush() {
-        Ok(()) if faulty => Status::Faulty,
-        Ok(()) => Status::Done,
-        Err(_) => Status::WriteFault,
+    let (faulty, blocks) = ended;
+    let Ok(()) = write_blocks(sink, &blocks) else {
+        return Status::WriteFault;
+    };
+    if faulty {
+        return Status::Faulty;
     }
+    Status::Done
 }
 
 // Writes the lines of a summary and passes them on.
@@ -118,6 +128,9 @@ pub fn repair_main<R: Threads + Wait + Sync, S: Source, K: Sink, G: Gate>(
     // A run: the bytes written are the report of the bytes read, with marks where they are asked for.
     ensures reported { result ≡ 0 → IfRun (command (map string_bytes words.now)) (λ marks. IsReported marks (S.left source.old) (S.left source.new) (K.holds sink.old) (K.holds sink.new)) }
     ensures faulty { result ≡ 2 → IfRun (command (map string_bytes words.now)) (λ marks. IsFaultReported marks (S.left source.old) (S.left source.new) (K.holds sink.old) (K.holds sink.new)) }
+    // A run with traces: behind the report stands a block for each batch, whose entries settle the batch's circuit.
+    ensures traced { result ≡ 0 → IfTraced (command (map string_bytes words.now)) (λ marks. IsTraced marks (S.left source.old) (S.left source.new) (K.holds sink.old) (K.holds sink.new)) }
+    ensures traced_faulty { result ≡ 2 → IfTraced (command (map string_bytes words.now)) (λ marks. IsFaultTraced marks (S.left source.old) (S.left source.new) (K.holds sink.old) (K.holds sink.new)) }
     // A bench: the bytes written tell what comes of the generated script, its programs run one after another; and of readers beside
     // them, that each reply was that of the version that it named.
     ensures summed { result ≡ 0 → IfBench (command (map string_bytes words.now)) (λ seed items programs readers. Appends (K.holds sink.old) (K.holds sink.new) (bench_text seed items programs readers)) }
@@ -134,6 +147,8 @@ pub fn repair_main<R: Threads + Wait + Sync, S: Source, K: Sink, G: Gate>(
     // What was written until then.
     ensures part { ((result ≡ 3) ⊎ (result ≡ 4) ⊎ (result ≡ 5)) → IfRun (command (map string_bytes words.now)) (λ marks. IsPart marks (S.left source.old) (S.left source.new) (K.holds sink.old) (K.holds sink.new)) }
     ensures long_part { result ≡ 6 → IfRun (command (map string_bytes words.now)) (λ marks. IsLongPart marks (S.left source.old) (S.left source.new) (K.holds sink.old) (K.holds sink.new)) }
+    ensures traced_part { ((result ≡ 3) ⊎ (result ≡ 4) ⊎ (result ≡ 5)) → IfTraced (command (map string_bytes words.now)) (λ marks. IsTracedPart marks (S.left source.old) (S.left source.new) (K.holds sink.old) (K.holds sink.new)) }
+    ensures traced_long_part { result ≡ 6 → IfTraced (command (map string_bytes words.now)) (λ marks. IsLongPart marks (S.left source.old) (S.left source.new) (K.holds sink.old) (K.holds sink.new)) }
     ensures bench_part { result ≡ 4 → IfBench (command (map string_bytes words.now)) (λ seed items programs readers. AppendsFront (K.holds sink.old) (K.holds sink.new) (bench_text seed items programs readers)) }
     ensures bench_unwritten { result ≡ 5 → IfBench (command (map string_bytes words.now)) (λ seed items programs readers. Keeps (K.holds sink.old) (K.holds sink.new)) }
     ensures usage_part { result ≡ 4 → is_taken (map string_bytes words.now) ≡ false → AppendsFront (K.holds sink.old) (K.holds sink.new) usage_text }
@@ -141,11 +156,25 @@ pub fn repair_main<R: Threads + Wait + Sync, S: Source, K: Sink, G: Gate>(
     // Where no read and no write failed and the input is within the limit, it is run, or memory ran out.
     ensures complete { IfRun (command (map string_bytes words.now)) (λ marks. (Rose (S.faults source.old) (S.faults source.new) → ⊥) → (Rose (K.faults sink.old) (K.faults sink.new) → ⊥)
         → IfSome (S.left source.old) (λ bytes. length bytes ≤ limit) → IsSome (S.left source.old) → (result ≡ 0) ⊎ (result ≡ 2) ⊎ (result ≡ 5)) }
+    ensures traced_complete { IfTraced (command (map string_bytes words.now)) (λ marks. (Rose (S.faults source.old) (S.faults source.new) → ⊥) → (Rose (K.faults sink.old) (K.faults sink.new) → ⊥)
+        → IfSome (S.left source.old) (λ bytes. length bytes ≤ limit) → IsSome (S.left source.old) → (result ≡ 0) ⊎ (result ≡ 2) ⊎ (result ≡ 5)) }
     ensures bench_complete { IfBench (command (map string_bytes words.now)) (λ seed items programs readers. (Rose (K.faults sink.old) (K.faults sink.new) → ⊥) → (result ≡ 0) ⊎ (result ≡ 5)) }
 {
     match command_of(alloc, words) {
-        Ok(Some(Command::Run { workers, marks })) => {
-            let options = Options { workers, marks };
+        Ok(
+            Some(
+                Command::Run {
+                    workers,
+                    marks,
+                    trace,
+                },
+            ),
+        ) => {
+            let options = Options {
+                workers,
+                marks,
+                trace,
+            };
             code(run_script(rt, alloc, source, sink, options, gate))
         }
         Ok(

@@ -10,7 +10,8 @@ ghost use Rattle.lt_session.specs.Ends.{IsWritten, StopsAs};
 use crate::input::{Taken, read_on};
 use crate::options::Options;
 use crate::stop::Stop;
-use crate::world::World;
+use crate::tracing::Traced;
+use lt_blocks::Block;
 use lt_edges::{Failed, Gate, Sink, Source};
 use lt_report::put_fault;
 use lt_script::{Feed, FeedStep};
@@ -18,8 +19,8 @@ use std::alloc::Global;
 use std::sync::Wait;
 use std::thread::Threads;
 
-// Passes on the lines that were written, where some were since it was last done.
-fn pass_on<K: Sink>(sink: &mut K, written: &mut bool) -> Result<(), Failed>
+/// Passes on the lines that were written, where some were since it was last done.
+pub fn pass_on<K: Sink>(sink: &mut K, written: &mut bool) -> Result<(), Failed>
     ensures bytes { Keeps (K.holds sink.old) (K.holds sink.new) }
     ensures cause { HasCause (K.faults sink.old) (K.faults sink.new) result }
 {
@@ -30,9 +31,9 @@ fn pass_on<K: Sink>(sink: &mut K, written: &mut bool) -> Result<(), Failed>
     sink.flush()
 }
 
-// Feeds what comes next of a source from which `count` bytes were taken. As it may be long in coming, what was written goes
-// out before.
-fn go_on<S: Source, K: Sink>(
+/// Feeds what comes next of a source from which `count` bytes were taken. As it may be long in coming, what was written goes
+/// out before.
+pub fn go_on<S: Source, K: Sink>(
     source: &mut S,
     sink: &mut K,
     feed: &mut Feed,
@@ -53,7 +54,7 @@ fn go_on<S: Source, K: Sink>(
 }
 
 /// Reads a script to its end, writes its report item by item as they come, and says whether the script has a fault. The
-/// fault's line is written behind the end of the source.
+/// fault's line is written behind the end of the source. Where traces are asked for, the journals of its batches are given, too.
 pub fn write_report<R: Threads + Wait + Sync, S: Source, K: Sink, G: Gate>(
     rt: &R,
     alloc: Global,
@@ -61,15 +62,15 @@ pub fn write_report<R: Threads + Wait + Sync, S: Source, K: Sink, G: Gate>(
     sink: &mut K,
     options: Options,
     gate: &G,
-) -> Result<bool, Stop>
+) -> Result<(bool, Vec<Block>), Stop>
     requires workers { (1 ≤ options.workers) × (options.workers ≤ most_workers) }
-    ensures ok { IfOk result (λ faulty. IsWritten options.marks faulty (S.left source.old) (S.left source.new) (K.holds sink.old) (K.holds sink.new)) }
+    ensures ok { IfOk result (λ ended. IsWritten options.trace options.marks ended.0 ended.1.items (S.left source.old) (S.left source.new) (K.holds sink.old) (K.holds sink.new)) }
     ensures err { IfErr result (λ stop. StopsAs options.marks stop (S.left source.old) (S.left source.new) (S.faults source.old) (S.faults source.new)
         (K.holds sink.old) (K.holds sink.new) (K.faults sink.old) (K.faults sink.new)) }
     ensures later { K.faults sink.old ≤ K.faults sink.new }
 {
     let mut feed = Feed::new(alloc);
-    let mut world = World::new(alloc)?;
+    let mut session = Traced::new(alloc)?;
     let mut taken = Taken {
         count: 0,
         ended: false,
@@ -79,18 +80,18 @@ pub fn write_report<R: Threads + Wait + Sync, S: Source, K: Sink, G: Gate>(
     'steps: loop {
         match feed.next_step(alloc) {
             FeedStep::Item(item) => {
-                world.take(rt, alloc, sink, item, options, gate)?;
+                session.take(rt, alloc, sink, item, options, gate)?;
                 written = true;
                 if taken.is_inside(feed.kept()) {
                     taken = go_on(source, sink, &mut feed, taken.count, &mut written)?;
                 }
             }
             FeedStep::More => { taken = go_on(source, sink, &mut feed, taken.count, &mut written)? }
-            FeedStep::End => return Ok(false),
+            FeedStep::End => return Ok((false, session.blocks)),
             FeedStep::Fault { line, code } => {
                 if taken.ended {
                     put_fault(sink, line, code)?;
-                    return Ok(true);
+                    return Ok((true, session.blocks));
                 }
                 taken = go_on(source, sink, &mut feed, taken.count, &mut written)?;
             }

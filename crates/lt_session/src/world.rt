@@ -10,11 +10,10 @@ ghost use Rattle.lt_report.specs.Puts.{Puts};
 ghost use Rattle.lt_session.specs.Versions.{database_of};
 ghost use Rattle.lt_session.specs.Writing.{Writes};
 
-use crate::batch::{Ran, all_judged, good_ones, put_ran};
+use crate::batch::{Ran, put_ran};
 use crate::halt::Halt;
 use crate::options::Options;
 use lt_base::Database;
-use lt_batch::{Outcome, run_batch};
 use lt_check::schema::{DeclareFault, Schema};
 use lt_edges::{Failed, Gate, Sink};
 use lt_face::NoMemory;
@@ -89,8 +88,8 @@ impl World {
         }
     }
 
-    // Takes a declaration. The code that it has is written.
-    fn relation<K: Sink>(
+    /// Takes a declaration. The code that it has is written.
+    pub fn relation<K: Sink>(
         &mut self,
         sink: &mut K,
         name: Name,
@@ -134,7 +133,7 @@ impl World {
     }
 
     /// The number that the next version has.
-    fn next_number(&self) -> u64
+    pub fn next_number(&self) -> u64
         ensures { result ≡ length self.now.versions }
     {
         let (last, _) = self.versions.latest();
@@ -142,7 +141,7 @@ impl World {
     }
 
     /// Makes this the database and its next version.
-    fn keep(&mut self, database: Database) -> Result<(), NoMemory>
+    pub fn keep(&mut self, database: Database) -> Result<(), NoMemory>
         ensures database { OnOk result (self.new.database ≡ database) }
         ensures versions { OnOk result (self.new.versions ≡ self.old.versions ++ database ∷ []) }
         ensures schema { OnOk result (self.new.schema ≡ self.old.schema) }
@@ -183,23 +182,8 @@ impl World {
         ensures kept_database { OnErr result (self.new.database ≡ self.old.database) }
         ensures kept_versions { OnErr result (self.new.versions ≡ self.old.versions) }
     {
-        let number = self.next_number();
-        let judgements = all_judged(alloc, programs, &self.schema)?;
-        let good = good_ones(alloc, &judgements)?;
-        let outcome = run_batch(rt, alloc, &self.database, &good, workers, gate)?;
-        let Outcome {
-            replies,
-            effects,
-            db,
-            ..
-        } = outcome;
-        self.keep(db)?;
-        Ok(Ran {
-            number,
-            judgements,
-            replies,
-            effects,
-        })
+        let whole = self.run_whole(rt, alloc, programs, workers, gate)?;
+        Ok(whole.ran)
     }
 
     /// Runs a batch and writes its lines.

@@ -6,7 +6,7 @@ use Rattle.lt_session.proofs.script.write_report.Given as goal
 
 abbrev pub invariant-steps : goal.invariant-steps
 invariant-steps g l =
-    Stands l.options.marks l.feed l.world l.taken (g.S.Source.left l.fn.source) (g.S.Source.left l.source) (g.S.Source.faults l.fn.source) (g.S.Source.faults l.source) (g.K.Sink.holds l.fn.sink) (g.K.Sink.holds l.sink)
+    Stands l.options.trace l.session.blocks.items l.options.marks l.feed l.session.world l.taken (g.S.Source.left l.fn.source) (g.S.Source.left l.source) (g.S.Source.faults l.fn.source) (g.S.Source.faults l.source) (g.K.Sink.holds l.fn.sink) (g.K.Sink.holds l.sink)
     (g.K.Sink.faults l.fn.sink) (g.K.Sink.faults l.sink)
 
 abbrev pub decreases-steps : goal.decreases-steps

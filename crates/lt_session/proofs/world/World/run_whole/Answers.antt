@@ -1,4 +1,4 @@
-use Rattle.std.proofs.Common.{◌≡◌, ◌≤◌, List, map, refl, sym, ap, subst, ◌∙◌}
+use Rattle.std.proofs.Common.{◌≡◌, ◌≤◌, List, length, map, sym, ap, subst, ◌∙◌}
 use Rattle.std.specs.Prelude.{filter_map}
 use Rattle.std.specs.Arc.{arc_value}
 use Rattle.std.specs.List.{AllByRecursion}
@@ -8,14 +8,13 @@ use Rattle.lt_model.specs.declared.normal.Stmt.{Stmt}
 use Rattle.lt_model.specs.declared.syntax.Program.{Program}
 use Rattle.lt_model.specs.Check.{checked}
 use Rattle.lt_model.specs.Fits.{Fits}
-use Rattle.lt_model.specs.Schema.{Schema}
 use Rattle.lt_model.specs.Report.{good_of}
 use Rattle.lt_check.specs.States.{IsStateOf}
 use Rattle.lt_base.specs.Tables.{state_of}
-use Rattle.lt_batch.specs.Batch.{serial_state}
 use Rattle.lt_session.specs.Batches.{checked_of, good_ones}
-use Rattle.lt_session.proofs.Batches.{batch_shown, few_run, good_fit, run_is}
-use Rattle.lt_session.proofs.world.World.run.Goals as goal
+use Rattle.lt_session.specs.Outcomes.{IsOutcome}
+use Rattle.lt_session.proofs.Batches.{few_run, good_fit, widths_of}
+use Rattle.lt_session.proofs.world.World.run_whole.Goals as goal
 
 pub run_batch-requires-clause-few : goal.run_batch-requires-clause-few
 run_batch-requires-clause-few g c = λ lifetimes outlive.
@@ -26,23 +25,29 @@ run_batch-requires-clause-few g c = λ lifetimes outlive.
 
 pub run_batch-requires-clause-fit : goal.run_batch-requires-clause-fit
 run_batch-requires-clause-fit g c = λ lifetimes outlive.
-    let s = c.requires.world.shows in
     let state : State = state_of c.args.self.now.database in
-    let widths : IsStateOf c.args.self.now.schema state = subst (λ (st : State). IsStateOf c.args.self.now.schema st) s.state (subst (λ (h : Schema). IsStateOf h c.requires.world.model.state) s.schema s.widths) in
+    let widths : IsStateOf c.args.self.now.schema state = widths_of c.args.self.now c.requires.world.model c.requires.world.shows in
     let good : map arc_value c.deref-2.result.now ≡ filter_map good_of (map checked_of c.in_ok-judgements.judgements.items) =
     ap (λ ps. map arc_value ps) c.deref-2.ensures.value ∙ c.in_ok-good.ensures ∙ ap (λ js. filter_map good_of (map checked_of js)) c.deref.ensures.value in
     subst (AllByRecursion (Fits state)) (sym good) (good_fit state (map checked_of c.in_ok-judgements.judgements.items) (c.in_ok-judgements.ensures.fit state widths))
 
-pub returns-clause-ran : goal.returns-clause-ran
-returns-clause-ran g c =
+pub keep_outcome-requires-clause-outcome : goal.keep_outcome-requires-clause-outcome
+keep_outcome-requires-clause-outcome g c =
+    let state : State = state_of c.args.self.now.database in
     let good : map arc_value c.deref-2.result.now ≡ good_ones c.in_ok-judgements.judgements.items =
     ap (λ ps. map arc_value ps) c.deref-2.ensures.value ∙ c.in_ok-good.ensures ∙ ap (λ js. filter_map good_of (map checked_of js)) c.deref.ensures.value in
-    run_is c.args.self.now c.requires.world.model c.requires.world.shows c.args.programs.now _ (map arc_value c.deref-2.result.now) c.in_ok-outcome.outcome.replies c.in_ok-outcome.outcome.effects
-    c.next_number-number.ensures c.in_ok-judgements.ensures.checked good refl refl c.in_ok-outcome.ensures.replies c.in_ok-outcome.ensures.effects c.in_ok-outcome.ensures.printed c.in_ok-outcome.ensures.fit
+    let ran = c.in_ok-outcome.ensures in
+    subst (λ (ps : List (List Stmt)). IsOutcome ps state c.in_ok-outcome.outcome) good (record {
+      replies = ran.replies;
+      effects = ran.effects;
+      state_is = ran.state;
+      printed = ran.printed;
+      fit = ran.fit;
+      circuit = record { leaves = ran.leaves ∙ sym (length-map c.deref-2.result.now arc_value); settled = ran.settled; journal = ran.journal };
+    })
+
+pub returns-clause-ran : goal.returns-clause-ran
+returns-clause-ran g c = c.in_ok-whole.ensures.ran c.args.programs.now c.in_ok-judgements.ensures.checked
 
 pub returns-clause-world : goal.returns-clause-world
-returns-clause-world g c = λ marks m s.
-    let good : map arc_value c.deref-2.result.now ≡ good_ones c.in_ok-judgements.judgements.items =
-    ap (λ ps. map arc_value ps) c.deref-2.ensures.value ∙ c.in_ok-good.ensures ∙ ap (λ js. filter_map good_of (map checked_of js)) c.deref.ensures.value in
-    batch_shown c.args.self.now m c.args.programs.now (map checked_of c.in_ok-judgements.judgements.items) s c.in_ok-judgements.ensures.checked marks c.keep.new.self c.in_ok-outcome.outcome.db
-    c.in_ok-keep.ensures.schema (c.in_ok-outcome.ensures.state ∙ ap (λ (ps : List (List Stmt)). serial_state ps (state_of c.args.self.now.database)) good) c.in_ok-keep.ensures.database c.in_ok-keep.ensures.versions
+returns-clause-world g c = c.in_ok-whole.ensures.world c.args.programs.now c.in_ok-judgements.ensures.checked
