@@ -29,4 +29,6 @@ mod running;
 #[cfg(test)]
 mod scripts;
 #[cfg(test)]
+mod traces;
+#[cfg(test)]
 mod words;

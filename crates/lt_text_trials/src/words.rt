@@ -129,7 +129,11 @@ fn asks_for_a_run(rt: HostRuntime) -> Result<(), Fail> {
         let words = line_words(rt.alloc(), line)?;
         let asked = command_of(rt.alloc(), &words)?;
         let expected = match options {
-            Some((workers, marks)) => Some(Command::Run { workers, marks }),
+            Some((workers, marks)) => Some(Command::Run {
+                workers,
+                marks,
+                trace: false,
+            }),
             None => None,
         };
         same_at(&rt, asked, expected, line);
