@@ -12,7 +12,7 @@ pub returns-in-Err : goal.returns-in-Err
 returns-in-Err g c =
     let o = c.args.options in
     subst (λ (status : Status). RunEndsAs o.trace o.marks status (g.S.Source.left c.args.source.now) (g.S.Source.left c.write_report.new.source) (g.S.Source.faults c.args.source.now) (g.S.Source.faults c.write_report.new.source)
-      (g.K.Sink.holds c.args.sink.now) (g.K.Sink.holds c.write_report.new.sink) (g.K.Sink.faults c.args.sink.now) (g.K.Sink.faults c.write_report.new.sink)) (sym c.status_of.ensures)
+    (g.K.Sink.holds c.args.sink.now) (g.K.Sink.holds c.write_report.new.sink) (g.K.Sink.faults c.args.sink.now) (g.K.Sink.faults c.write_report.new.sink)) (sym c.status_of.ensures)
     (by_stop o.marks _ _ _ _ _ _ _ _ o.trace c.in-Err.stop c.in-Err.ensures.err)
 
 pub returns-in_default : goal.returns-in_default

@@ -37,7 +37,7 @@ returns-in_err-taken-in-Item-clause-err g c =
     let gives = c.in-Item.ensures.step at.bytes at.items at.fed in
     let wrote = c.in_ok-take-in-Item.ensures.text (fold (step c.args.options.marks) opening at.items) at.shows in
     let next = stands_item _ _ _ _ _ _ _ _ _ _ _ _ _ _ at c.next_step.new.self c.take.new.self.world c.take.new.self.blocks.items c.in-Item.item _ _ gives c.in-Item.ensures.ended c.in_ok-take-in-Item.ensures.world wrote.ok wrote.later
-        (c.in_ok-take-in-Item.ensures.block (fold (step c.args.options.marks) opening at.items) at.shows) in
+    (c.in_ok-take-in-Item.ensures.block (fold (step c.args.options.marks) opening at.items) at.shows) in
     let before = next.ended ∙ c.is_inside.ensures c.if-is_inside.true in
     let went = c.in_err-taken-in-Item.ensures in
     let p = err_from_is_err_and c.from_residual-in_err-taken-in-Item.result c.from_residual-in_err-taken-in-Item.ensures.1 in
@@ -50,7 +50,7 @@ steps-smaller-then-is_inside g c =
     let gives = c.in-Item.ensures.step at.bytes at.items at.fed in
     let wrote = c.in_ok-take-in-Item.ensures.text (fold (step c.args.options.marks) opening at.items) at.shows in
     let next = stands_item _ _ _ _ _ _ _ _ _ _ _ _ _ _ at c.next_step.new.self c.take.new.self.world c.take.new.self.blocks.items c.in-Item.item _ _ gives c.in-Item.ensures.ended c.in_ok-take-in-Item.ensures.world wrote.ok wrote.later
-        (c.in_ok-take-in-Item.ensures.block (fold (step c.args.options.marks) opening at.items) at.shows) in
+    (c.in_ok-take-in-Item.ensures.block (fold (step c.args.options.marks) opening at.items) at.shows) in
     let before = next.ended ∙ c.is_inside.ensures c.if-is_inside.true in
     let less = less_kept c.steps.taken.ended c.steps.taken.count (length (kept_of c.steps.feed)) (length (kept_of c.next_step.new.self)) gives.shorter in
     let more = less_more _ _ _ _ _ _ _ _ _ _ _ _ _ _ next c.next_step.new.self c.go_on.new.feed c.in_ok-taken-in-Item.taken _ next.fed before c.in_ok-taken-in-Item.ensures.ok in
@@ -62,7 +62,7 @@ steps-preserved-then-is_inside g c =
     let gives = c.in-Item.ensures.step at.bytes at.items at.fed in
     let wrote = c.in_ok-take-in-Item.ensures.text (fold (step c.args.options.marks) opening at.items) at.shows in
     let next = stands_item _ _ _ _ _ _ _ _ _ _ _ _ _ _ at c.next_step.new.self c.take.new.self.world c.take.new.self.blocks.items c.in-Item.item _ _ gives c.in-Item.ensures.ended c.in_ok-take-in-Item.ensures.world wrote.ok wrote.later
-        (c.in_ok-take-in-Item.ensures.block (fold (step c.args.options.marks) opening at.items) at.shows) in
+    (c.in_ok-take-in-Item.ensures.block (fold (step c.args.options.marks) opening at.items) at.shows) in
     let went = c.in_ok-taken-in-Item.ensures in
     stands_more _ _ _ _ _ _ _ _ _ _ _ _ _ _ next c.next_step.new.self c.go_on.new.feed c.in_ok-taken-in-Item.taken _ _ _ _ next.fed went.ok went.later went.bytes went.sink_later
 
