@@ -1,5 +1,5 @@
 -- Lines and what is missing of them.
-use Rattle.std.proofs.Common.{◌≡◌, ◌<◌, ◌^◌, ℕ, List, [], ◌∷◌, ◌++◌, refl, sym, subst, ap, ◌∙◌, append_assoc, decimal, codes, arith}
+use Rattle.std.proofs.Common.{◌≡◌, ◌<◌, ◌^◌, ℕ, List, [], ◌∷◌, ◌++◌, refl, sym, subst, ◌∙◌, append_assoc, decimal, codes, arith}
 use Rattle.std.proofs.lemmas.List.{append_cancel_left}
 use Rattle.lt_blocks.specs.declared.words.Header.{Header}
 use Rattle.lt_batch.specs.declared.replaying.Written.{Written}

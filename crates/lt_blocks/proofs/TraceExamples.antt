@@ -1,10 +1,7 @@
 -- Traces worked out by the definitions.
-use Rattle.std.proofs.Common.{◌≡◌, List, [], ◌∷◌, codes, inl, refl, arith}
+use Rattle.std.proofs.Common.{[], ◌∷◌, codes, inl, refl, arith}
 use Rattle.std.specs.Fmt.{digits}
-use Rattle.lt_blocks.specs.declared.block.Block.{Block}
-use Rattle.lt_batch.specs.declared.replaying.Written.{Written}
-use Rattle.lt_blocks.specs.Lines.{IsEntry, IsHeader}
-use Rattle.lt_blocks.specs.Blocks.{blocks_text, script_text, IsBadLine, IsBlock, IsTrace}
+use Rattle.lt_blocks.specs.Blocks.{IsBadLine, IsTrace}
 
 -- one block, and a script behind it
 one_block : IsTrace (codes "trace 1 1 2\n0 0\n0 1\nscript\nshow r;") (record { number = 1; programs = 1; entries = record { worker = 0; code = 0 } ∷ record { worker = 0; code = 1 } ∷ [] } ∷ []) (codes "show r;")

@@ -1,5 +1,5 @@
 -- Blocks of a trace, and bytes that begin with such.
-use Rattle.std.specs.Prelude.{◌≡◌, ◌⊎◌, ◌<◌, ◌^◌, ◌+◌, ℕ, List, [], ◌∷◌, ◌++◌, length, flat_map, ◌==◌, suc, if◌then◌else◌}
+use Rattle.std.specs.Prelude.{◌≡◌, ◌⊎◌, ◌<◌, ◌+◌, ℕ, List, [], ◌∷◌, ◌++◌, length, flat_map, ◌==◌, suc, if◌then◌else◌}
 use Rattle.std.specs.List.{AllByRecursion}
 use Rattle.lt_blocks.specs.declared.block.Block.{Block}
 use Rattle.lt_batch.specs.declared.replaying.Written.{Written}

@@ -7,7 +7,6 @@ use Rattle.std.specs.Io.KnownBytes.{Consumes}
 use Rattle.lt_command.specs.declared.words.Command.{Command}
 use Rattle.lt_command.specs.declared.words.Command.TheVariants.{Bench, Run}
 use Rattle.lt_edges.specs.Causes.{Rose}
-use Rattle.lt_model.specs.declared.syntax.Item.{Item}
 use Rattle.lt_model.specs.Report.{report}
 use Rattle.lt_script.proofs.Totality.{some_reading}
 use Rattle.lt_session.specs.Reports.{IsFrontOf}

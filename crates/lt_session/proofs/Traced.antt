@@ -1,39 +1,35 @@
 -- The journals of batches, kept as a script is run.
-use Rattle.std.proofs.Common.{◌≡◌, ◌≤◌, ◌+◌, ◌++◌, ◌∷◌, ◌∙◌, Bool, true, false, List, [], ℕ, length, map, refl, sym, ap, subst, append-nil, append_assoc, arith}
-use Rattle.std.specs.Prelude.{Some, filter_map, fold}
+use Rattle.std.proofs.Common.{◌≡◌, ◌+◌, ◌++◌, ◌∷◌, ◌∙◌, Bool, true, false, List, [], length, map, refl, sym, ap, subst, append-nil, append_assoc}
+use Rattle.std.specs.Prelude.{filter_map, fold}
 use Rattle.std.specs.List.{AllZip}
 use Rattle.std.proofs.lemmas.List.{length-map}
-use Rattle.std.proofs.lemmas.List.Sums.{fold-append}
 use Rattle.lt_face.specs.State.{State}
 use Rattle.lt_model.specs.declared.normal.Stmt.{Stmt}
 use Rattle.lt_model.specs.declared.reply.Reply.{Reply}
-use Rattle.lt_model.specs.declared.mark.Mark.{Mark}
 use Rattle.lt_model.specs.declared.syntax.Item.{Item}
 use Rattle.lt_model.specs.declared.syntax.Program.{Program}
-use Rattle.lt_model.specs.Check.{Checked, checked}
+use Rattle.lt_model.specs.Check.{Checked}
 use Rattle.lt_model.specs.Marks.{Marks}
 use Rattle.lt_model.specs.Report as model
 use Rattle.lt_model.specs.Report.{good_of, opening, step}
 use Rattle.lt_model.specs.Schema.{Schema}
 use Rattle.lt_model.specs.Serial.{serial}
 use Rattle.lt_base.specs.Tables.{state_of}
-use Rattle.lt_net.specs.Net.{Event, Net, IsReached, replay}
-use Rattle.lt_net.specs.Net as net
+use Rattle.lt_net.specs.Net.{Event, IsReached}
 use Rattle.lt_net.specs.Tree.{circuit_net, tree_of}
 use Rattle.lt_circuit.specs.declared.entry.Entry.{Entry}
-use Rattle.lt_circuit.specs.Circuit.{state, CircuitView, IsReplay}
+use Rattle.lt_circuit.specs.Circuit.{state, CircuitView}
 use Rattle.lt_circuit.specs.Entry.{event_of}
 use Rattle.lt_circuit.proofs.Entries.{event_told}
-use Rattle.lt_batch.specs.declared.replaying.Written.{Written}
-use Rattle.lt_batch.specs.Batch.{does_at, serial_replies}
+use Rattle.lt_batch.specs.Batch.{does_at}
 use Rattle.lt_batch.specs.Replaying as written
 use Rattle.lt_batch.specs.Replaying.{batch_net, written_of}
 use Rattle.lt_blocks.specs.declared.block.Block.{Block}
 use Rattle.lt_session.specs.declared.batch.Ran.{Ran}
 use Rattle.lt_session.specs.declared.world.World.{World}
-use Rattle.lt_session.specs.Batches.{checked_of, good_ones, IsRun}
+use Rattle.lt_session.specs.Batches.{good_ones, IsRun}
 use Rattle.lt_session.specs.Outcomes.{HasSettled}
-use Rattle.lt_session.specs.Traces.{batch_in, batches_from, good_programs, AreBlocks, AreKept, Begun, IsBlockOf, KeepsBlock, Settles}
+use Rattle.lt_session.specs.Traces.{batch_in, batches_from, good_programs, AreKept, Begun, IsBlockOf, KeepsBlock, Settles}
 use Rattle.lt_session.specs.World.{Shows}
 use Rattle.lt_session.proofs.Batches.{serial-length}
 use Rattle.lt_session.proofs.Versions.{count}

@@ -1,5 +1,5 @@
 -- What was read and what was written, as a run ends behind whose report blocks are written.
-use Rattle.std.proofs.Common.{◌≡◌, ◌++◌, ◌∙◌, Bool, true, false, List, [], ℕ, length, inl, inr, refl, sym, ap, subst, append-nil, append_assoc, arith}
+use Rattle.std.proofs.Common.{◌≡◌, ◌++◌, ◌∙◌, Bool, true, false, List, [], ℕ, inl, inr, sym, ap, subst, append-nil, append_assoc}
 use Rattle.std.specs.Prelude.{Option, Some, None}
 use Rattle.std.proofs.KnownBytes.{Appends-trans}
 use Rattle.std.specs.Io.KnownBytes.{Appends}
@@ -17,10 +17,10 @@ use Rattle.lt_session.specs.declared.stop.Stop.{Stop}
 use Rattle.lt_session.specs.declared.stop.Stop.TheVariants as stops
 use Rattle.lt_session.specs.Statuses.{stopped_as}
 use Rattle.lt_session.specs.Reports.{is_fault, IsReportOf}
-use Rattle.lt_session.specs.Ends.{EndsAs, IsInput, IsLongPart, IsPart, StopsAs}
-use Rattle.lt_session.specs.Traces.{AreBlocks, AreKept}
+use Rattle.lt_session.specs.Ends.{IsInput, IsPart, StopsAs}
+use Rattle.lt_session.specs.Traces.{AreKept}
 use Rattle.lt_session.proofs.Ends.{none_taken}
-use Rattle.lt_session.specs.TracedEnds.{traced_report, IfTraced, IsFaultTraced, IsFrontOfBlocks, IsTraced, IsTracedPart, RunEndsAs}
+use Rattle.lt_session.specs.TracedEnds.{IfTraced, IsTracedPart, RunEndsAs}
 
 abbrev Bytes : Type 0
 Bytes = Option (List ℕ)

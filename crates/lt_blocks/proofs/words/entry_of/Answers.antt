@@ -1,4 +1,4 @@
-use Rattle.std.proofs.Common.{◌++◌, ◌∷◌, decimal}
+use Rattle.std.proofs.Common.{decimal}
 use Rattle.lt_blocks.proofs.Lined.{code_last}
 use Rattle.lt_blocks.proofs.words.entry_of.Goals as goal
 

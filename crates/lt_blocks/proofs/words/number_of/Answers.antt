@@ -1,4 +1,4 @@
-use Rattle.std.proofs.Common.{◌≡◌, ◌∙◌, ℕ, Ok, Err, IsUtf8, Result, true, false, bytes_eq, ap, sym, subst, decimal, arith}
+use Rattle.std.proofs.Common.{◌≡◌, ◌∙◌, Ok, Err, IsUtf8, true, false, bytes_eq, ap, sym, subst, decimal, arith}
 use Rattle.std.proofs.lemmas.Slice.Eq.{bytes_eq-Decides}
 use Rattle.std.proofs.lemmas.Str.{IsUtf8-from_ascii}
 use Rattle.std.proofs.lemmas.Fmt.{IsAscii-decimal}

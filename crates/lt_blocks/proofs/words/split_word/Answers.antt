@@ -1,4 +1,4 @@
-use Rattle.std.proofs.Common.{◌≡◌, ◌+◌, ◌++◌, ◌∷◌, ◌∙◌, ℕ, List, drop, length, ap, sym, subst, arith}
+use Rattle.std.proofs.Common.{◌+◌, ◌++◌, ◌∷◌, ◌∙◌, ℕ, List, drop, ap, sym, subst, arith}
 use Rattle.lt_blocks.specs.Lines.{Lacks}
 use Rattle.lt_blocks.proofs.Cuts.{cut_nowhere, cut_place}
 use Rattle.lt_blocks.proofs.words.split_word.Goals as goal

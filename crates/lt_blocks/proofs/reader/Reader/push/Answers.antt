@@ -1,4 +1,4 @@
-use Rattle.std.proofs.Common.{◌≡◌, ◌≤◌, ◌+◌, ◌++◌, ◌∷◌, [], ℕ, List, take, get_or, sym, subst, arith}
+use Rattle.std.proofs.Common.{◌+◌, ◌++◌, ℕ, List, take, subst, arith}
 use Rattle.lt_blocks.specs.Reading.{HasRead}
 use Rattle.lt_blocks.proofs.Inside.{again, one_more}
 use Rattle.lt_blocks.proofs.reader.Reader.push.Goals as goal

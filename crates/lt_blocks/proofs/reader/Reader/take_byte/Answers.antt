@@ -1,4 +1,4 @@
-use Rattle.std.proofs.Common.{◌≡◌, ◌++◌, ◌∷◌, [], ℕ, List, sym, subst, arith}
+use Rattle.std.proofs.Common.{◌++◌, ◌∷◌, [], ℕ, List, sym, subst, arith}
 use Rattle.lt_blocks.specs.Reading.{HasRead, IsInside}
 use Rattle.lt_blocks.proofs.Inside.{as_reading, inside, next_byte}
 use Rattle.lt_blocks.proofs.reader.Reader.take_byte.Goals as goal
