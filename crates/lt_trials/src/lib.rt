@@ -14,6 +14,8 @@ mod folds;
 #[cfg(test)]
 mod leap;
 #[cfg(test)]
+mod lines;
+#[cfg(test)]
 mod marks;
 #[cfg(test)]
 mod names;
