@@ -74,6 +74,15 @@ impl LeafWork for Parity {
         Ok(marks)
     }
 
+    fn work_last<L>(
+        &self,
+        leaf: u32,
+        correction: &Marks,
+        moves: &mut Moves<L>,
+    ) -> Result<Marks, NoMemory> {
+        self.work(leaf, None, correction, moves)
+    }
+
     fn effect<'a>(&self, tally: &'a Marks) -> &'a Marks {
         tally
     }
@@ -114,7 +123,7 @@ fn end(
                 return true;
             }
             let mut moves: Moves<()> = Moves::new();
-            match job.work(&mut moves) {
+            match job.work(false, &mut moves) {
                 Ok(output) => {
                     line.finish(worker, output);
                     true
