@@ -34,7 +34,7 @@ const ADDING: &str = "insert r(1); print (x) where r(x);";
 const REMOVING: &str = "delete r(1); print (x) where r(x);";
 
 /// The programs of a mixed batch, which come round again.
-const MIXED: [&str; 12] = [
+pub(crate) const MIXED: [&str; 12] = [
     "insert r(0); print (x) where r(x);",
     TAKING,
     "delete r(2); print (x) where r(x);",
@@ -119,7 +119,7 @@ fn has_relations(db: &Database, relations: &[RowList]) -> bool {
 }
 
 /// Whether the batch answered, wrote and left what its programs do one after another.
-fn is_serial(out: &Outcome, serial: &Serial) -> bool {
+pub(crate) fn is_serial(out: &Outcome, serial: &Serial) -> bool {
     are_same_runs(out.replies.as_slice(), out.effects.as_slice(), &serial.runs)
         && has_relations(&out.db, &serial.relations)
         && out.circuit.settled()
@@ -193,7 +193,7 @@ fn dear_agree<R: Threads + Wait + Sync>(
 }
 
 /// Programs that insert into e as a relation with a key column and a value column, on two rows of one key, too.
-const KEYED: [&str; 6] = [
+pub(crate) const KEYED: [&str; 6] = [
     "insert e(1, 5);",
     "insert e(1, 6); print (y) where e(1, y);",
     "insert e(x, 7) where r(x); print (x, y) where e(x, y);",

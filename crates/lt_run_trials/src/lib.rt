@@ -30,6 +30,8 @@ mod random;
 #[cfg(test)]
 mod refusing;
 #[cfg(test)]
+mod replays;
+#[cfg(test)]
 mod restatement;
 #[cfg(test)]
 mod restating;
