@@ -1,5 +1,6 @@
 //! Reports with marks, and reports that find no room.
 use crate::agree::same_at;
+use crate::running::{Case, marks_by_workers};
 use crate::words::words_of;
 use lt_edges::{MemSink, MemSource, OpenGate};
 use lt_session::repair_main;
@@ -52,6 +53,20 @@ fn reports_marks(rt: HostRuntime) -> Result<(), Fail> {
         same_at(&rt, status, 0, name);
         same_at(&rt, sink.bytes(), report.as_bytes(), name);
     }
+    Ok(())
+}
+
+// A program with more marks than are put in one by one, among others of the relation, and one that takes these rows out.
+#[test]
+fn reports_marks_of_a_join(rt: HostRuntime) -> Result<(), Fail> {
+    let alloc = rt.alloc();
+    let case = Case {
+        name: "nine rows in behind one out, and then out again",
+        script: "relation r(int,int); relation a(int); relation b(int); batch program l insert a(1); insert a(2); insert a(3); insert b(1); insert b(2); insert b(3); insert r(0,0); end; commit; batch program p delete r(0,0); insert r(x,y) where a(x), b(y); end; program q delete r(x,y) where r(x,y); end; commit; show r; show r at 1;",
+        report: "batch 1\nl done\n+ r 0 0\n+ a 1\n+ a 2\n+ a 3\n+ b 1\n+ b 2\n+ b 3\nversion 1\nbatch 2\np done\n- r 0 0\n+ r 1 1\n+ r 1 2\n+ r 1 3\n+ r 2 1\n+ r 2 2\n+ r 2 3\n+ r 3 1\n+ r 3 2\n+ r 3 3\nq done\n- r 1 1\n- r 1 2\n- r 1 3\n- r 2 1\n- r 2 2\n- r 2 3\n- r 3 1\n- r 3 2\n- r 3 3\nversion 2\nshow r 0\nshow r at 1 1\n0 0\n",
+        status: 0,
+    };
+    marks_by_workers(&rt, alloc, &case)?;
     Ok(())
 }
 
