@@ -137,14 +137,14 @@ fn changed(
     Ok(all)
 }
 
-/// How many entries behind the changed one the fault has to be, where that is known.
+/// How far the fault's entry, from 1, has to be above the changed one's place, from 0, where that is known.
 fn known_fault(entry: Written, change: Change) -> Option<u64> {
     let ends = entry.code % 3 != 0;
     match change {
-        Change::NoWorker => Some(0),
-        Change::Twice => Some(1),
-        Change::NextWorker | Change::NextJob if ends => Some(0),
-        Change::NextKind if !ends => Some(0),
+        Change::NoWorker => Some(1),
+        Change::Twice => Some(2),
+        Change::NextWorker | Change::NextJob if ends => Some(1),
+        Change::NextKind if !ends => Some(1),
         _ => None,
     }
 }
@@ -188,7 +188,7 @@ fn is_told<R: Threads + Sync>(
         Came::Other => Ok(false),
         Came::Fault(e) => {
             let is_known = match known {
-                Some(behind) => e == place as u64 + 1 + behind,
+                Some(above) => e.wrapping_sub(place as u64) == above,
                 None => e > place as u64,
             };
             let is_first = is_first(rt, alloc, progs, serial, all.as_slice(), e)?;
