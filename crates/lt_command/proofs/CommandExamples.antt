@@ -4,7 +4,7 @@ use Rattle.clap.specs.Words.{Text}
 use Rattle.clap.proofs.OnLiterals.{clap_on_literals}
 use Rattle.lt_command.specs.Command.{command}
 use Rattle.lt_command.specs.declared.words.Command as declared
-use Rattle.lt_command.specs.declared.words.Command.TheVariants.{Bench, Run}
+use Rattle.lt_command.specs.declared.words.Command.TheVariants.{Bench, Replay, Run}
 
 abbrev asked : List Text → Option declared.Command
 asked words = command (codes "lt_shell" ∷ words)
@@ -112,3 +112,19 @@ with_traces = refl
 traces_of_a_bench : asked (codes "bench" ∷ codes "--seed" ∷ codes "1" ∷ codes "--items=64" ∷ codes "--programs" ∷ codes "32" ∷ codes "--trace" ∷ []) ≡ None
 unfolding command clap_on_literals
 traces_of_a_bench = refl
+
+replay : asked (codes "replay" ∷ []) ≡ Some (Replay false)
+unfolding command clap_on_literals
+replay = refl
+
+replay_with_marks : asked (codes "replay" ∷ codes "--marks" ∷ []) ≡ Some (Replay true)
+unfolding command clap_on_literals
+replay_with_marks = refl
+
+workers_of_a_replay : asked (codes "replay" ∷ codes "--workers" ∷ codes "1" ∷ []) ≡ None
+unfolding command clap_on_literals
+workers_of_a_replay = refl
+
+traces_of_a_replay : asked (codes "replay" ∷ codes "--trace" ∷ []) ≡ None
+unfolding command clap_on_literals
+traces_of_a_replay = refl

@@ -8,7 +8,7 @@ use Rattle.clap.specs.ValueTests.{is_numeral}
 use Rattle.clap.specs.Walk.{is_empty}
 use Rattle.clap.specs.Words.{Row, Text, fault_of, first_of, one_of, subcommand_of}
 use Rattle.lt_command.specs.declared.words.Command as declared
-use Rattle.lt_command.specs.declared.words.Command.TheVariants.{Bench, Run}
+use Rattle.lt_command.specs.declared.words.Command.TheVariants.{Bench, Replay, Run}
 use Rattle.lt_command.specs.Definition as definition
 
 -- the number that a text spells, where it is below 2^k
@@ -57,6 +57,7 @@ abbrev pub IsWithin : declared.Command → Type 0
 IsWithin (Run workers marks trace) = (1 ≤ workers) × (workers ≤ most_workers)
 IsWithin (Bench seed items programs workers readers) =
     (1 ≤ items) × (items ≤ 16384) × (1 ≤ programs) × (programs ≤ 65536) × (1 ≤ workers) × (workers ≤ most_workers) × (readers ≤ definition.most_readers)
+IsWithin (Replay marks) = Unit {0}
 
 -- the command whose matches these are
 abbrev pub command_in : Option (Text × List Row) → Option declared.Command
@@ -64,6 +65,7 @@ command_in None = None
 command_in (Some p) =
     if bytes_eq p.0 (codes "run") then Some (Run (workers_in p.1) (marks_in p.1) (trace_in p.1))
     else if bytes_eq p.0 (codes "bench") then Some (Bench (seed_in p.1) (items_in p.1) (programs_in p.1) (workers_in p.1) (readers_in p.1))
+    else if bytes_eq p.0 (codes "replay") then Some (Replay (marks_in p.1))
     else None
 
 -- the command that the words ask for; none where the definition doesn't take them

@@ -73,6 +73,10 @@ bench_of_script = with_rule (with_rule (with_rule (new_app (codes "bench")) seed
 abbrev pub bench : App
 bench = with_rule (with_rule bench_of_script workers) readers
 
+-- `replay`
+abbrev pub replay : App
+replay = with_rule (new_app (codes "replay")) marks
+
 -- one of the commands is required
 abbrev pub program : App
 program =
@@ -80,4 +84,4 @@ program =
     record a { top = record a.top { subcommand_required = true } }
 
 abbrev pub commands : App
-commands = with_subcommand (with_subcommand program run.top) bench.top
+commands = with_subcommand (with_subcommand (with_subcommand program run.top) bench.top) replay.top

@@ -114,13 +114,23 @@ fn bench<'a>(alloc: Global) -> Result<Command<'a>, AllocError>
     bench.arg(readers(alloc))
 }
 
+// `replay`: a script is run by journals that were written down.
+fn replay<'a>(alloc: Global) -> Result<Command<'a>, AllocError>
+    ensures app { IfOk result (λ command. app_of command ≡ definition.replay) }
+    ensures local { IfOk result (λ command. (fields_of command).has_globals ≡ false) }
+{
+    Command::new(alloc, "replay").arg(marks(alloc))
+}
+
 /// The commands. The words name one of them.
 pub fn commands<'a>(alloc: Global) -> Result<Command<'a>, AllocError>
     ensures { IfOk result (λ command. app_of command ≡ definition.commands) }
 {
     let run = run(alloc)?;
     let bench = bench(alloc)?;
+    let replay = replay(alloc)?;
     let program = Command::new(alloc, "lt_shell").subcommand_required(true);
     let program = program.subcommand(run)?;
-    program.subcommand(bench)
+    let program = program.subcommand(bench)?;
+    program.subcommand(replay)
 }

@@ -27,6 +27,10 @@ pub enum Command {
         workers: u32,
         readers: u32,
     },
+    /// Reads traces and a script, and writes its report where the traces are its.
+    Replay {
+        marks: bool,
+    },
 }
 
 // The number of an option, where another stands for one that isn't given. The parser takes none outside these bounds.
@@ -80,6 +84,11 @@ fn command_met(matches: &ArgMatches<'_>) -> Option<Command>
             programs: number_of(inner, "programs", 1, 1, 65536),
             workers: number_of(inner, "workers", 4, 1, MOST_WORKERS as u32),
             readers: number_of(inner, "readers", 0, 0, MOST_READERS),
+        });
+    }
+    if name == "replay" {
+        return Some(Command::Replay {
+            marks: is_given(inner, "marks"),
         });
     }
     None

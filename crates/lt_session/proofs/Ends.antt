@@ -5,7 +5,7 @@ use Rattle.std.proofs.lemmas.List.{length-append}
 use Rattle.std.proofs.KnownBytes.{Appends-nil, Consumes-nil, Consumes-trans}
 use Rattle.std.specs.Io.KnownBytes.{Consumes}
 use Rattle.lt_command.specs.declared.words.Command.{Command}
-use Rattle.lt_command.specs.declared.words.Command.TheVariants.{Bench, Run}
+use Rattle.lt_command.specs.declared.words.Command.TheVariants.{Bench, Replay, Run}
 use Rattle.lt_edges.specs.Causes.{Rose}
 use Rattle.lt_model.specs.Report.{report}
 use Rattle.lt_script.proofs.Totality.{some_reading}
@@ -38,6 +38,7 @@ none_taken marks l h =
 pub none_run : (o : Option Command) (l h : Bytes) → IfRun o (λ marks. IsPart marks l l h h)
 none_run (Some (Run workers marks false)) l h = none_taken marks l h
 none_run (Some (Run workers marks true)) l h = tt
+none_run (Some (Replay marks)) l h = tt
 none_run (Some (Bench seed items programs workers readers)) l h = tt
 none_run None l h = tt
 

@@ -6,11 +6,10 @@ use Rattle.lt_script.specs.declared.feed.Feed.{Feed}
 use Rattle.lt_script.specs.Feed.{HasFed}
 use Rattle.lt_session.specs.declared.input.InputError.{InputError}
 use Rattle.lt_session.specs.declared.input.InputError.TheVariants.{NoMemory}
-use Rattle.lt_session.specs.declared.input.Taken.{Taken}
 use Rattle.lt_session.specs.Reads.{StopsReading, TakesWithin}
 
 -- memory for a piece was refused
-pub refused : (r : Result Taken InputError) (e : InputError) (count : ℕ) (l m : Option (List ℕ)) (s t : ℕ) → r ≡ Err e → e ≡ NoMemory → TakesWithin count l m → IfErr r (λ error. StopsReading error count l m s t)
+pub refused : {T : Type 0} (r : Result T InputError) (e : InputError) (count : ℕ) (l m : Option (List ℕ)) (s t : ℕ) → r ≡ Err e → e ≡ NoMemory → TakesWithin count l m → IfErr r (λ error. StopsReading error count l m s t)
 refused (Ok v) e count l m s t is none p = tt
 refused (Err x) e count l m s t is none p = let same : x ≡ NoMemory = cc in subst (λ (y : InputError). StopsReading y count l m s t) (sym same) p
 

@@ -22,3 +22,8 @@ pub mod Compared
 pub mod Beginning
 pub mod Traced
 pub mod TracedEnds
+pub mod BlocksUsed
+pub mod ReplayStanding
+pub mod ReplayEnded
+pub mod FrontRead
+pub mod Replayed

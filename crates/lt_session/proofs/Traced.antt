@@ -81,7 +81,7 @@ zip_more [] cs (x ∷ xs) ys a b = absurd a
 zip_more (t ∷ bs) cs [] ys a b = absurd a
 zip_more (t ∷ bs) cs (x ∷ xs) ys a b = (a.0, zip_more bs cs xs ys a.1 b)
 
-from_more : (marks : Bool) (m : model.World) (items : List Item) (item : Item) → batches_from marks m (items ++ item ∷ []) ≡ batches_from marks m items ++ batch_in (fold (step marks) m items) item
+pub from_more : (marks : Bool) (m : model.World) (items : List Item) (item : Item) → batches_from marks m (items ++ item ∷ []) ≡ batches_from marks m items ++ batch_in (fold (step marks) m items) item
 from_more marks m [] item = append-nil (batch_in m item)
 from_more marks m (i ∷ items) item =
     ap (λ (bs : List Begun). batch_in m i ++ bs) (from_more marks (step marks m i) items item) ∙ sym (append_assoc (batch_in m i) (batches_from marks (step marks m i) items) (batch_in (fold (step marks) (step marks m i) items) item))

@@ -6,7 +6,7 @@ use Rattle.std.specs.Io.KnownBytes.{Appends}
 use Rattle.lt_blocks.specs.declared.block.Block.{Block}
 use Rattle.lt_blocks.specs.Blocks.{blocks_text}
 use Rattle.lt_command.specs.declared.words.Command.{Command}
-use Rattle.lt_command.specs.declared.words.Command.TheVariants.{Bench, Run}
+use Rattle.lt_command.specs.declared.words.Command.TheVariants.{Bench, Replay, Run}
 use Rattle.lt_edges.specs.Causes.{Rose}
 use Rattle.lt_model.specs.declared.syntax.Item.{Item}
 use Rattle.lt_model.specs.Script.{Close, End, Fault, Script}
@@ -45,6 +45,7 @@ module _ (marks : Bool) (l m : Bytes) (r s : ℕ) (h i : Bytes) (w x : ℕ) wher
 pub none_traced : (o : Option Command) (l h : Bytes) → IfTraced o (λ marks. IsTracedPart marks l l h h)
 none_traced (Some (Run workers marks true)) l h = traced_part marks l l h h (none_taken marks l h)
 none_traced (Some (Run workers marks false)) l h = tt
+none_traced (Some (Replay marks)) l h = tt
 none_traced (Some (Bench seed items programs workers readers)) l h = tt
 none_traced None l h = tt
 

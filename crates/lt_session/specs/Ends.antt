@@ -4,7 +4,7 @@ use Rattle.std.specs.declared.option.Option.{Option}
 use Rattle.std.specs.Io.KnownBytes.{Appends, Consumes, IsAtEnd, Keeps}
 use Rattle.lt_blocks.specs.declared.block.Block.{Block}
 use Rattle.lt_command.specs.declared.words.Command.{Command}
-use Rattle.lt_command.specs.declared.words.Command.TheVariants.{Bench, Run}
+use Rattle.lt_command.specs.declared.words.Command.TheVariants.{Bench, Replay, Run}
 use Rattle.lt_edges.specs.Causes.{Rose}
 use Rattle.lt_gen.specs.Summaries.{summary_of, summary_text}
 use Rattle.lt_model.specs.declared.syntax.Item.{Item}
@@ -12,7 +12,7 @@ use Rattle.lt_model.specs.Script.{End, Fault, Script}
 use Rattle.lt_model.specs.Report.{report}
 use Rattle.lt_report.specs.Puts.{AppendsFront}
 use Rattle.lt_session.specs.declared.status.Status.{Status}
-use Rattle.lt_session.specs.declared.status.Status.TheVariants.{Done, NotTaken, Faulty, ReadFault, WriteFault, NoMemory, TooLong}
+use Rattle.lt_session.specs.declared.status.Status.TheVariants.{Done, NotTaken, Faulty, ReadFault, WriteFault, NoMemory, TooLong, BadTrace}
 use Rattle.lt_session.specs.declared.stop.Stop.{Stop}
 use Rattle.lt_session.specs.declared.stop.Stop.TheVariants as stops
 use Rattle.lt_session.specs.Input.{limit}
@@ -22,12 +22,14 @@ use Rattle.lt_session.specs.Reports.{IsFrontOf, IsReportOf}
 abbrev pub IfRun : Option Command → (Bool → Type 0) → Type 0
 IfRun (Some (Run workers marks false)) P = P marks
 IfRun (Some (Run workers marks true)) P = ⊤
+IfRun (Some (Replay marks)) P = ⊤
 IfRun (Some (Bench seed items programs workers readers)) P = ⊤
 IfRun None P = ⊤
 
 -- the words ask for a bench, with this seed and so many items, programs and readers, of which this holds
 abbrev pub IfBench : Option Command → (ℕ → ℕ → ℕ → ℕ → Type 0) → Type 0
 IfBench (Some (Run workers marks trace)) P = ⊤
+IfBench (Some (Replay marks)) P = ⊤
 IfBench (Some (Bench seed items programs workers readers)) P = P seed items programs readers
 IfBench None P = ⊤
 
@@ -93,10 +95,18 @@ EndsAs marks ReadFault l m r s h i w x = Rose r s × IsPart marks l m h i
 EndsAs marks WriteFault l m r s h i w x = Rose w x × IsPart marks l m h i
 EndsAs marks NoMemory l m r s h i w x = IsPart marks l m h i
 EndsAs marks TooLong l m r s h i w x = IsTooLong l m × IsLongPart marks l m h i
+EndsAs marks BadTrace l m r s h i w x = ⊥
 
 -- the lines that tell what comes of the generated script
 abbrev pub bench_text : ℕ → ℕ → ℕ → ℕ → List ℕ
 bench_text seed items programs readers = summary_text (summary_of seed items programs readers)
+
+-- the words ask for a replay
+abbrev pub IsReplayAsked : Option Command → Type 0
+IsReplayAsked (Some (Run workers marks trace)) = ⊥
+IsReplayAsked (Some (Bench seed items programs workers readers)) = ⊥
+IsReplayAsked (Some (Replay marks)) = ⊤
+IsReplayAsked None = ⊥
 
 -- how a bench ends that has this text to write
 abbrev pub BenchEndsAs : List ℕ → Status → Option (List ℕ) → Option (List ℕ) → ℕ → ℕ → Type 0
@@ -107,3 +117,4 @@ BenchEndsAs text ReadFault h i w x = ⊥
 BenchEndsAs text WriteFault h i w x = Rose w x × AppendsFront h i text
 BenchEndsAs text NoMemory h i w x = Keeps h i
 BenchEndsAs text TooLong h i w x = ⊥
+BenchEndsAs text BadTrace h i w x = ⊥

@@ -17,3 +17,7 @@ pub mod Posting
 pub mod Outcomes
 pub mod Traces
 pub mod TracedEnds
+pub mod FrontReads
+pub mod Replays
+pub mod ReplayEnds
+pub mod ReplaySteps

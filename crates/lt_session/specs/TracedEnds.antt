@@ -5,14 +5,14 @@ use Rattle.std.specs.Io.KnownBytes.{Appends, Consumes}
 use Rattle.lt_blocks.specs.declared.block.Block.{Block}
 use Rattle.lt_blocks.specs.Blocks.{blocks_text}
 use Rattle.lt_command.specs.declared.words.Command.{Command}
-use Rattle.lt_command.specs.declared.words.Command.TheVariants.{Bench, Run}
+use Rattle.lt_command.specs.declared.words.Command.TheVariants.{Bench, Replay, Run}
 use Rattle.lt_edges.specs.Causes.{Rose}
 use Rattle.lt_model.specs.declared.syntax.Item.{Item}
 use Rattle.lt_model.specs.Script.{Close, End, Fault, Script}
 use Rattle.lt_model.specs.Report.{report}
 use Rattle.lt_report.specs.Puts.{AppendsFront}
 use Rattle.lt_session.specs.declared.status.Status.{Status}
-use Rattle.lt_session.specs.declared.status.Status.TheVariants.{Done, NotTaken, Faulty, ReadFault, WriteFault, NoMemory, TooLong}
+use Rattle.lt_session.specs.declared.status.Status.TheVariants.{Done, NotTaken, Faulty, ReadFault, WriteFault, NoMemory, TooLong, BadTrace}
 use Rattle.lt_session.specs.Input.{limit}
 use Rattle.lt_session.specs.Reports.{IsFrontOf}
 use Rattle.lt_session.specs.Ends.{EndsAs, IsInput, IsLongPart, IsTooLong}
@@ -23,6 +23,7 @@ abbrev pub IfTraced : Option Command → (Bool → Type 0) → Type 0
 IfTraced (Some (Run workers marks true)) P = P marks
 IfTraced (Some (Run workers marks false)) P = ⊤
 IfTraced (Some (Bench seed items programs workers readers)) P = ⊤
+IfTraced (Some (Replay marks)) P = ⊤
 IfTraced None P = ⊤
 
 -- the report of a script, and behind it these blocks
@@ -77,6 +78,7 @@ TracedEndsAs marks ReadFault l m r s h i w x = Rose r s × IsTracedPart marks l 
 TracedEndsAs marks WriteFault l m r s h i w x = Rose w x × IsTracedPart marks l m h i
 TracedEndsAs marks NoMemory l m r s h i w x = IsTracedPart marks l m h i
 TracedEndsAs marks TooLong l m r s h i w x = IsTooLong l m × IsLongPart marks l m h i
+TracedEndsAs marks BadTrace l m r s h i w x = ⊥
 
 -- how a run ends, with traces or without
 abbrev pub RunEndsAs : Bool → Bool → Status → Option (List ℕ) → Option (List ℕ) → ℕ → ℕ → Option (List ℕ) → Option (List ℕ) → ℕ → ℕ → Type 0

@@ -10,11 +10,13 @@ ghost use Rattle.lt_report.specs.Puts.{AppendsFront, Puts};
 ghost use Rattle.lt_session.specs.Input.{limit};
 ghost use Rattle.lt_session.specs.Statuses.{status_code};
 ghost use Rattle.lt_blocks.specs.Blocks.{blocks_text};
+ghost use Rattle.lt_session.specs.ReplayEnds.{IfReplay, IsFaultReplayed, IsLongReplayPart, IsRefused, IsReplayed, IsReplayPart, ReplayEndsAs};
 ghost use Rattle.lt_session.specs.TracedEnds.{IfTraced, IsFaultTraced, IsTraced, IsTracedPart, RunEndsAs};
-ghost use Rattle.lt_session.specs.Ends.{bench_text, BenchEndsAs, IfBench, IfRun, IsFaultReported, IsLongPart, IsPart, IsReported, IsTooLong};
+ghost use Rattle.lt_session.specs.Ends.{bench_text, BenchEndsAs, IfBench, IfRun, IsReplayAsked, IsFaultReported, IsLongPart, IsPart, IsReported, IsTooLong};
 
 use crate::bench::summarize;
 use crate::options::{Generated, Options};
+use crate::replay::{Verdict, write_replayed};
 use crate::script::write_report;
 use crate::status::{Status, code, status_of};
 use lt_blocks::{Block, put_blocks};
@@ -82,6 +84,31 @@ fn run_script<R: Threads + Wait + Sync, S: Source, K: Sink, G: Gate>(
     Status::Done
 }
 
+// Runs a script by the journals in front of it, and passes its report on.
+fn run_replay<R: Threads + Sync, S: Source, K: Sink>(
+    rt: &R,
+    alloc: Global,
+    source: &mut S,
+    sink: &mut K,
+    marks: bool,
+) -> Status
+    ensures { ReplayEndsAs marks result (S.left source.old) (S.left source.new) (S.faults source.old) (S.faults source.new)
+        (K.holds sink.old) (K.holds sink.new) (K.faults sink.old) (K.faults sink.new) }
+{
+    let verdict = match write_replayed(rt, alloc, source, sink, marks) {
+        Ok(verdict) => verdict,
+        Err(stop) => return status_of(stop),
+    };
+    let Ok(()) = sink.flush() else {
+        return Status::WriteFault;
+    };
+    match verdict {
+        Verdict::Good => Status::Done,
+        Verdict::Faulty => Status::Faulty,
+        Verdict::BadTrace => Status::BadTrace,
+    }
+}
+
 // Writes the lines of a summary and passes them on.
 fn write_summary<K: Sink>(sink: &mut K, summary: &Summary) -> Result<(), Failed>
     ensures { Puts result (K.holds sink.old) (K.holds sink.new) (K.faults sink.old) (K.faults sink.new) (summary_text summary.now) }
@@ -131,6 +158,12 @@ pub fn repair_main<R: Threads + Wait + Sync, S: Source, K: Sink, G: Gate>(
     // A run with traces: behind the report stands a block for each batch, whose entries settle the batch's circuit.
     ensures traced { result ≡ 0 → IfTraced (command (map string_bytes words.now)) (λ marks. IsTraced marks (S.left source.old) (S.left source.new) (K.holds sink.old) (K.holds sink.new)) }
     ensures traced_faulty { result ≡ 2 → IfTraced (command (map string_bytes words.now)) (λ marks. IsFaultTraced marks (S.left source.old) (S.left source.new) (K.holds sink.old) (K.holds sink.new)) }
+    // A replay: the input is a trace and a script whose batches' blocks are right, and the report of the script was written.
+    ensures replayed { result ≡ 0 → IfReplay (command (map string_bytes words.now)) (λ marks. IsReplayed marks (S.left source.old) (S.left source.new) (K.holds sink.old) (K.holds sink.new)) }
+    ensures fault_replayed { result ≡ 2 → IfReplay (command (map string_bytes words.now)) (λ marks. IsFaultReplayed marks (S.left source.old) (S.left source.new) (K.holds sink.old) (K.holds sink.new)) }
+    // Or the trace isn't right: the last line says where.
+    ensures refused { result ≡ 7 → IfReplay (command (map string_bytes words.now)) (λ marks. IsRefused marks (S.left source.old) (S.left source.new) (K.holds sink.old) (K.holds sink.new)) }
+    ensures replays_alone { result ≡ 7 → IsReplayAsked (command (map string_bytes words.now)) }
     // A bench: the bytes written tell what comes of the generated script, its programs run one after another; and of readers beside
     // them, that each reply was that of the version that it named.
     ensures summed { result ≡ 0 → IfBench (command (map string_bytes words.now)) (λ seed items programs readers. Appends (K.holds sink.old) (K.holds sink.new) (bench_text seed items programs readers)) }
@@ -143,12 +176,14 @@ pub fn repair_main<R: Threads + Wait + Sync, S: Source, K: Sink, G: Gate>(
     ensures write_fault { result ≡ 4 → Rose (K.faults sink.old) (K.faults sink.new) }
     ensures too_long { result ≡ 6 → IsTooLong (S.left source.old) (S.left source.new) }
     ensures bench_ends { IfBench (command (map string_bytes words.now)) (λ seed items programs readers. (result ≡ 0) ⊎ (result ≡ 4) ⊎ (result ≡ 5)) }
-    ensures known { result ≤ 6 }
+    ensures known { result ≤ 7 }
     // What was written until then.
     ensures part { ((result ≡ 3) ⊎ (result ≡ 4) ⊎ (result ≡ 5)) → IfRun (command (map string_bytes words.now)) (λ marks. IsPart marks (S.left source.old) (S.left source.new) (K.holds sink.old) (K.holds sink.new)) }
     ensures long_part { result ≡ 6 → IfRun (command (map string_bytes words.now)) (λ marks. IsLongPart marks (S.left source.old) (S.left source.new) (K.holds sink.old) (K.holds sink.new)) }
     ensures traced_part { ((result ≡ 3) ⊎ (result ≡ 4) ⊎ (result ≡ 5)) → IfTraced (command (map string_bytes words.now)) (λ marks. IsTracedPart marks (S.left source.old) (S.left source.new) (K.holds sink.old) (K.holds sink.new)) }
     ensures traced_long_part { result ≡ 6 → IfTraced (command (map string_bytes words.now)) (λ marks. IsLongPart marks (S.left source.old) (S.left source.new) (K.holds sink.old) (K.holds sink.new)) }
+    ensures replay_part { ((result ≡ 3) ⊎ (result ≡ 4) ⊎ (result ≡ 5)) → IfReplay (command (map string_bytes words.now)) (λ marks. IsReplayPart marks (S.left source.old) (S.left source.new) (K.holds sink.old) (K.holds sink.new)) }
+    ensures replay_long_part { result ≡ 6 → IfReplay (command (map string_bytes words.now)) (λ marks. IsLongReplayPart marks (S.left source.old) (S.left source.new) (K.holds sink.old) (K.holds sink.new)) }
     ensures bench_part { result ≡ 4 → IfBench (command (map string_bytes words.now)) (λ seed items programs readers. AppendsFront (K.holds sink.old) (K.holds sink.new) (bench_text seed items programs readers)) }
     ensures bench_unwritten { result ≡ 5 → IfBench (command (map string_bytes words.now)) (λ seed items programs readers. Keeps (K.holds sink.old) (K.holds sink.new)) }
     ensures usage_part { result ≡ 4 → is_taken (map string_bytes words.now) ≡ false → AppendsFront (K.holds sink.old) (K.holds sink.new) usage_text }
@@ -158,6 +193,8 @@ pub fn repair_main<R: Threads + Wait + Sync, S: Source, K: Sink, G: Gate>(
         → IfSome (S.left source.old) (λ bytes. length bytes ≤ limit) → IsSome (S.left source.old) → (result ≡ 0) ⊎ (result ≡ 2) ⊎ (result ≡ 5)) }
     ensures traced_complete { IfTraced (command (map string_bytes words.now)) (λ marks. (Rose (S.faults source.old) (S.faults source.new) → ⊥) → (Rose (K.faults sink.old) (K.faults sink.new) → ⊥)
         → IfSome (S.left source.old) (λ bytes. length bytes ≤ limit) → IsSome (S.left source.old) → (result ≡ 0) ⊎ (result ≡ 2) ⊎ (result ≡ 5)) }
+    ensures replay_complete { IfReplay (command (map string_bytes words.now)) (λ marks. (Rose (S.faults source.old) (S.faults source.new) → ⊥) → (Rose (K.faults sink.old) (K.faults sink.new) → ⊥)
+        → IfSome (S.left source.old) (λ bytes. length bytes ≤ limit) → IsSome (S.left source.old) → (result ≡ 0) ⊎ (result ≡ 2) ⊎ (result ≡ 7) ⊎ (result ≡ 5)) }
     ensures bench_complete { IfBench (command (map string_bytes words.now)) (λ seed items programs readers. (Rose (K.faults sink.old) (K.faults sink.new) → ⊥) → (result ≡ 0) ⊎ (result ≡ 5)) }
 {
     match command_of(alloc, words) {
@@ -196,6 +233,7 @@ pub fn repair_main<R: Threads + Wait + Sync, S: Source, K: Sink, G: Gate>(
             };
             code(run_bench(rt, alloc, sink, generated, workers, gate))
         }
+        Ok(Some(Command::Replay { marks })) => code(run_replay(rt, alloc, source, sink, marks)),
         Ok(None) => code(refuse_words(sink)),
         Err(_) => code(Status::NoMemory),
     }

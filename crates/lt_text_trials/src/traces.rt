@@ -1,4 +1,4 @@
-//! Traces of runs.
+//! Traces of runs, and their replay.
 use crate::agree::{same, same_at};
 use crate::words::line_words;
 use lt_edges::{Gate, MeetGate, MemSink, MemSource, OpenGate};
@@ -12,6 +12,17 @@ use std::thread::Threads;
 const TURNS: u64 = 1_000_000;
 
 const ONE: &str = "relation r(int); batch program p insert r(2); insert r(1); end; commit; show r;";
+
+const ONE_REPORT: &str = "batch 1\np done\nversion 1\nshow r 2\n1\n2\n";
+
+/// Two programs that touch each other, in the second batch.
+const TWO: &str = "relation stock(int, int); batch program fill insert stock(1, 1); end; commit;
+batch program a require some stock(i, n), n > 0; replace stock(i, n) by stock(i, m) where stock(i, n), m = n - 1; end;
+program b require some stock(i, n), n > 0; replace stock(i, n) by stock(i, m) where stock(i, n), m = n - 1; end;
+program c insert stock(1, 'x'); end; commit; batch commit; show stock; show stock at";
+
+const TWO_REPORT: &str =
+    "batch 1\nfill done\nversion 1\nbatch 2\na done\nb refused 1\nc bad 22 1\nversion 2\nbatch 3\nversion 3\nshow stock 1\n1 0\nfault 4 7\n";
 
 // The status of the words of a line on this input, and what was written. Workers pass this gate.
 fn outcome<R: Threads + Wait + Sync, G: Gate>(
@@ -29,7 +40,7 @@ fn outcome<R: Threads + Wait + Sync, G: Gate>(
 }
 
 // What is written by words on an input, and the status.
-const CASES: [(&str, &str, &str, u8); 5] = [
+const CASES: [(&str, &str, &str, u8); 13] = [
     (
         "run --trace",
         "relation r(int); batch commit; show r;",
@@ -49,22 +60,90 @@ const CASES: [(&str, &str, &str, u8); 5] = [
         "batch 1\nversion 1\nfault 1 1\ntrace 1 0 0\n",
         2,
     ),
-    // a program with a code is no leaf
+    ("run --trace", "", "", 0),
     (
-        "run --trace --workers 1",
-        "batch program p insert r(1); end; commit;",
-        "batch 1\np bad 20 1\nversion 1\ntrace 1 0 0\n",
+        "replay",
+        "trace 1 1 2\n0 0\n0 1\nscript\nrelation r(int); batch program p insert r(2); insert r(1); end; commit; show r;",
+        ONE_REPORT,
         0,
     ),
-    ("run --trace", "", "", 0),
+    // the circuit isn't settled
+    (
+        "replay",
+        "trace 1 1 1\n0 0\nscript\nrelation r(int); batch program p insert r(2); end; commit;",
+        "bad trace 1 2\n",
+        7,
+    ),
+    // no block
+    (
+        "replay",
+        "script\nrelation r(int); batch program p insert r(2); end; commit;",
+        "bad trace 1 0\n",
+        7,
+    ),
+    // no line
+    ("replay", "", "bad trace 0 1\n", 7),
+    ("replay", "trace 1 0 1\n0 0\nscript", "bad trace 0 3\n", 7),
+    ("replay", "trace 01 0 0\nscript\n", "bad trace 0 1\n", 7),
+    // a block that is left stands before a fault
+    (
+        "replay",
+        "trace 1 0 0\ntrace 2 0 0\nscript\nbatch commit; @",
+        "batch 1\nversion 1\nbad trace 2 0\n",
+        7,
+    ),
+    // the lines of the script are counted behind the line `script`
+    (
+        "replay",
+        "trace 1 0 0\nscript\nbatch commit;\n@",
+        "batch 1\nversion 1\nfault 2 1\n",
+        2,
+    ),
+    // what stood before the batch is written
+    (
+        "replay --marks",
+        "trace 2 0 0\nscript\nshow r; batch commit;",
+        "bad 20\nbad trace 1 0\n",
+        7,
+    ),
 ];
 
 #[test]
-fn writes_traces(rt: HostRuntime) -> Result<(), Fail> {
+fn traces_and_replays(rt: HostRuntime) -> Result<(), Fail> {
     for (line, input, written, status) in CASES {
         let (ended, sink) = outcome(&rt, rt.alloc(), line, input.as_bytes(), &OpenGate)?;
         same_at(&rt, ended, status, input);
         same_at(&rt, sink.bytes(), written.as_bytes(), input);
+    }
+    Ok(())
+}
+
+// What stands behind the report in what a run with traces wrote.
+fn blocks_of<'a>(written: &'a [u8], report: &str) -> Option<&'a [u8]> {
+    written.strip_prefix(report.as_bytes())
+}
+
+// Whether the trace that so many workers leave is taken with its script.
+fn returns<R: Threads + Wait + Sync>(rt: &R, alloc: Global, line: &str) -> Result<bool, Fail> {
+    let (status, sink) = outcome(rt, alloc, line, TWO.as_bytes(), &OpenGate)?;
+    let Some(blocks) = blocks_of(sink.bytes(), TWO_REPORT) else {
+        return Ok(false);
+    };
+    let mut input = Vec::from_slice(alloc, blocks)?;
+    input.extend_from_slice(b"script\n")?;
+    input.extend_from_slice(TWO.as_bytes())?;
+    let (again, report) = outcome(rt, alloc, "replay", &input, &OpenGate)?;
+    Ok(status == 2 && again == 2 && report.bytes() == TWO_REPORT.as_bytes())
+}
+
+#[test]
+fn traces_of_workers_are_replayed(rt: HostRuntime) -> Result<(), Fail> {
+    for line in [
+        "run --trace --workers 1",
+        "run --trace --workers 2",
+        "run --trace --workers 4",
+    ] {
+        same_at(&rt, returns(&rt, rt.alloc(), line)?, true, line);
     }
     Ok(())
 }
