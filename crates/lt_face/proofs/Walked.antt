@@ -43,7 +43,7 @@ all_pass : (r : Row) (rows : List Row) → AllByRecursion (λ s. row_cmp r s ≡
 all_pass r [] all = refl
 all_pass r (x ∷ rows) all = rw all.0 refl
 
-got_each : (P : Row → Type 0) (rows : List Row) (k : ℕ) (r : Row) → AllByRecursion P rows → slice_get rows k ≡ Some r → P r
+pub got_each : (P : Row → Type 0) (rows : List Row) (k : ℕ) (r : Row) → AllByRecursion P rows → slice_get rows k ≡ Some r → P r
 got_each P [] k r all h = absurd cc
 got_each P (x ∷ rows) zero r all h = let e : x ≡ r = cc in subst P e all.0
 got_each P (x ∷ rows) (suc k) r all h = got_each P rows k r all.1 h

@@ -3,6 +3,8 @@
 
 mod cells;
 pub mod count;
+mod cutting;
+pub mod fraction;
 pub mod indexes;
 pub mod items;
 pub mod key;
@@ -16,6 +18,7 @@ pub mod row;
 pub mod row_set;
 pub mod walk;
 
+pub use fraction::Fraction;
 pub use indexes::Indexes;
 pub use items::{Changes, Items, Perm, RowList};
 pub use key::{CELL_LIMIT, END, Gap, Key};

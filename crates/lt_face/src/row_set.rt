@@ -1,10 +1,13 @@
 //! Sets of rows, however they are kept.
-ghost use Rattle.std.specs.Prelude.{◌≡◌, ◌<◌, ◌≤◌, ℕ, List, [], ◌∷◌, ◌++◌, length, IfOk, OnOk, OnErr, not};
+ghost use Rattle.std.specs.Prelude.{◌≡◌, ◌<◌, ◌≤◌, ◌-◌, ℕ, List, [], ◌∷◌, ◌++◌, true, length, IfOk, IfSome, OnOk, OnErr, not};
+ghost use Rattle.std.specs.List.{AllByRecursion};
 ghost use Rattle.std.specs.Option.{option_copied};
 ghost use Rattle.lt_face.specs.Limits.{most_columns};
-ghost use Rattle.lt_face.specs.Rows.{IsRow, IsRowSet, has_row, first_from, with_row, without_row};
+ghost use Rattle.lt_face.specs.Rows.{IsAscending, IsRow, IsRowSet, has_row, first_from, with_row, without_row};
 
-use crate::items::RowList;
+use crate::cutting::push_above;
+use crate::fraction::Fraction;
+use crate::items::{Items, RowList};
 use crate::key::Key;
 use crate::memory::NoMemory;
 use crate::near::Near;
@@ -42,6 +45,24 @@ pub trait RowReads: Sized {
     fn row_near(&self, near: &mut Near, prefix: &Row, bound: Key) -> Option<&Row>
         requires { length prefix.now < width_of self.now }
         ensures { option_copied result ≡ first_from (rows self.now) (prefix.now ++ bound ∷ []) };
+
+    /// A row about so far along the set, found without a walk over its rows. It is None where no row is near.
+    fn row_about(&self, along: Fraction) -> Option<&Row>
+        ensures { IfSome result (λ row. has_row (rows self.now) row.now ≡ true) };
+
+    /// Rows at which the set may be cut into so many parts of about the same size: at most one fewer than the parts, strictly
+    /// ascending, and rows of the set. Which ones they are is free.
+    fn cuts(&self, alloc: Global, parts: u32) -> Result<RowList, NoMemory>
+        ensures few { IfOk result (λ cuts. length cuts ≤ parts - 1) }
+        ensures rises { IfOk result (λ cuts. IsAscending cuts) }
+        ensures each { IfOk result (λ cuts. AllByRecursion (λ row. has_row (rows self.now) row ≡ true) cuts) }
+    {
+        let mut cuts = Items::new(alloc);
+        for part in 1..parts {
+            push_above(&mut cuts, self.row_about(Fraction::new(part, parts)))?;
+        }
+        Ok(cuts)
+    }
 }
 
 /// A set of rows of one width, in ascending order.

@@ -13,3 +13,5 @@ pub mod Laws
 pub mod Composition
 pub mod Choices
 pub mod Examples
+pub mod Digits
+pub mod Names

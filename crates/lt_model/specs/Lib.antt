@@ -1,4 +1,5 @@
 pub mod Cells
+pub mod Names
 pub mod Tokens
 pub mod Schema
 pub mod Variables

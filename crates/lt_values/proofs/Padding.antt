@@ -15,7 +15,7 @@ use Rattle.lt_face.specs.Rows.{IsCell}
 use Rattle.lt_model.specs.Cells.{sym_cell, sym_text}
 use Rattle.lt_model.specs.Tokens.{in_word, between}
 use Rattle.lt_values.specs.Symbols.{is_symbol}
-use Rattle.lt_values.proofs.Digits.{step, number, AreDigits, high, digits_back, bytes_number, grows, stays_below}
+use Rattle.lt_model.proofs.Digits.{step, number, AreDigits, high, digits_back, bytes_number, grows, stays_below}
 
 -- a byte that isn't 0
 abbrev pub IsByte : ℕ → Type 0

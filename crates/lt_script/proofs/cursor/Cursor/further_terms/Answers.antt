@@ -1,11 +1,16 @@
-use Rattle.std.proofs.Common.{drop, sym, arith}
+use Rattle.std.proofs.Common.{◌∷◌, ◌++◌, [], List, drop, sym, ap, ◌∙◌, arith}
 use Rattle.std.proofs.lemmas.List.{map-id}
 use Rattle.std.proofs.lemmas.Result.{err_from_is_err_and}
 use Rattle.lt_grammar.specs.Productions.{starts_term}
 use Rattle.lt_script.specs.Valued.{valued_term_at}
-use Rattle.lt_script.proofs.Listing.{listing_next, listing_ends, listing_fails}
+use Rattle.lt_script.proofs.Listing.{listing_begins, listing_next, listing_ends, listing_fails}
 use Rattle.lt_script.proofs.Bridges.{terms_shrink}
 use Rattle.lt_script.proofs.cursor.Cursor.further_terms.Goals as goal
+
+pub terms-init : goal.terms-init
+terms-init c =
+    listing_begins (λ x. x) starts_term valued_term_at 7 c.args.self.now c.args.first c.push.new.self.items
+    (c.in_ok-push.ensures.items ∙ ap (λ items. items ++ c.args.first ∷ []) c.in_ok-terms.ensures.items)
 
 pub terms-preserved : goal.terms-preserved
 terms-preserved c =
