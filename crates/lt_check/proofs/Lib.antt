@@ -6,3 +6,8 @@ pub mod Fitting
 pub mod Limits
 pub mod Columned
 mod Places
+pub mod Fronts
+pub mod Looks
+pub mod Bodies
+pub mod Heads
+pub mod Formed

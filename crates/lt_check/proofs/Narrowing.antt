@@ -22,21 +22,21 @@ use Rattle.lt_check.specs.declared.kinds.Told.{Told}
 use Rattle.lt_check.specs.declared.kinds.Told.TheVariants.{Nothing, More, Conflict}
 use Rattle.lt_check.specs.Narrowing.{Known, known_at, known_of, Suits, Admits, completed, unknowns, Narrows, agreement, joined}
 
-same_kind_is : (a b : Kind) → same_kind a b ≡ true → a ≡ b
+pub same_kind_is : (a b : Kind) → same_kind a b ≡ true → a ≡ b
 same_kind_is Int Int h = refl
 same_kind_is Sym Sym h = refl
 same_kind_is Int Sym h = absurd cc
 same_kind_is Sym Int h = absurd cc
 
-same_kind_itself : (a : Kind) → same_kind a a ≡ true
+pub same_kind_itself : (a : Kind) → same_kind a a ≡ true
 same_kind_itself Int = refl
 same_kind_itself Sym = refl
 
-both : (a b : Bool) → (a && b) ≡ true → (a ≡ true) × (b ≡ true)
+pub both : (a b : Bool) → (a && b) ≡ true → (a ≡ true) × (b ≡ true)
 both true b h = (refl, h)
 both false b h = absurd cc
 
-both_are : (a b : Bool) → a ≡ true → b ≡ true → (a && b) ≡ true
+pub both_are : (a b : Bool) → a ≡ true → b ≡ true → (a && b) ≡ true
 both_are a b e f = ap (λ x. x && b) e ∙ f
 
 length_completed : (known : Known) → length (completed known) ≡ length known
@@ -144,7 +144,7 @@ Narrows_as f g was told is h n = record {
   more = n.more;
 }
 
-same_kind_turned : (a b : Kind) → same_kind a b ≡ same_kind b a
+pub same_kind_turned : (a b : Kind) → same_kind a b ≡ same_kind b a
 same_kind_turned Int Int = refl
 same_kind_turned Sym Sym = refl
 same_kind_turned Int Sym = refl
@@ -217,7 +217,7 @@ with_true : (a : Bool) → (a && true) ≡ (true && a)
 with_true true = refl
 with_true false = refl
 
-and_true : (a : Bool) → (a && true) ≡ a
+pub and_true : (a : Bool) → (a && true) ≡ a
 and_true true = refl
 and_true false = refl
 
@@ -225,7 +225,7 @@ grouped : (a b c : Bool) → (a && (b && c)) ≡ ((a && b) && c)
 grouped true b c = refl
 grouped false b c = refl
 
-same_kinds_lengths : (as_ bs : List Kind) → length as_ ≢ length bs → same_kinds as_ bs ≡ false
+pub same_kinds_lengths : (as_ bs : List Kind) → length as_ ≢ length bs → same_kinds as_ bs ≡ false
 same_kinds_lengths [] [] h = absurd (h refl)
 same_kinds_lengths [] (b ∷ bs) h = refl
 same_kinds_lengths (a ∷ as_) [] h = refl

@@ -30,6 +30,7 @@ use Rattle.lt_model.specs.Check.{checked}
 use Rattle.lt_check.specs.declared.check.CheckFault.{CheckFault}
 use Rattle.lt_check.specs.declared.check.CheckFault.TheVariants as faults
 use Rattle.lt_check.specs.Outcome.{IsCode, IsFault}
+use Rattle.lt_check.specs.Taking.{IsFormed}
 
 -- ---- programs
 
@@ -124,11 +125,6 @@ code_chosen schema s a b c d p q r t =
     ∙ ap (λ x. chosen a x (is_none (choice_for schema s)) (not (all_bound schema s))) q
     ∙ ap (λ x. chosen a b x (not (all_bound schema s))) r
     ∙ ap (chosen a b c) t
-
--- a statement with relations that are there and rows of the right length
-pub record IsFormed (schema : Schema) (s : Statement) : Type 0 where
-  pub known : list_any (is_unknown schema) (atoms_of s) ≡ false
-  pub fit : list_any (is_misfit schema) (atoms_of s) ≡ false
 
 pub IsFormed_by : (schema : Schema) (s : Statement) (xs ys : List Head) → xs ≡ atoms_of s → ys ≡ atoms_of s → list_any (is_unknown schema) xs ≡ false → list_any (is_misfit schema) ys ≡ false → IsFormed schema s
 IsFormed_by schema s xs ys e f p q = record {

@@ -3,3 +3,4 @@ pub mod Narrowing
 pub mod Binding
 pub mod Outcome
 pub mod States
+pub mod Taking

@@ -43,11 +43,11 @@ impl Bound {
         Ok(bound)
     }
 
-    fn has(&self, place: u32) -> bool
+    fn has(&self, place: usize) -> bool
         ensures { result ≡ has self.now place }
     {
         for known in self.places.as_slice() {
-            if *known == place {
+            if *known as usize == place {
                 return true;
             }
         }
@@ -58,7 +58,7 @@ impl Bound {
         ensures { result ≡ is_known (has self.now) term.now }
     {
         match term {
-            Term::Var(place) => self.has(*place),
+            Term::Var(place) => self.has(*place as usize),
             Term::Cell(_) => true,
         }
     }
@@ -66,7 +66,7 @@ impl Bound {
     fn add(&mut self, place: u32) -> Result<(), NoMemory>
         ensures { IfOk result (λ _. Alike (has self.new) (λ v. has self.old v || place == v)) }
     {
-        if !self.has(place) {
+        if !self.has(place as usize) {
             self.places.push(place)?;
         }
         Ok(())

@@ -1,5 +1,5 @@
 //! The kinds of a statement's variables, found from what each condition says of them.
-ghost use Rattle.std.specs.Prelude.{◌≡◌, ◌≤◌, ◌&&◌, if◌then◌else◌, [], Some, None, IfOk, map, length, replicate, unwrap_or, slice_index_or};
+ghost use Rattle.std.specs.Prelude.{◌≡◌, ◌≤◌, ◌&&◌, ◌++◌, ◌∷◌, ◌<◌, set, if◌then◌else◌, [], Some, None, IfOk, map, length, replicate, unwrap_or, slice_index_or};
 ghost use Rattle.std.specs.List.{list_all};
 ghost use Rattle.lt_face.specs.Limits.{most_columns};
 ghost use Rattle.lt_model.specs.Check.{kind_of, same_kind, same_kinds, atom_fits, literal_fits};
@@ -72,6 +72,46 @@ impl Known {
         }
     }
 
+    /// There is no variable any more. The room stays.
+    pub fn clear(&mut self)
+        ensures { self.new ≡ [] }
+    {
+        self.kinds.clear();
+    }
+
+    /// One variable more, of which nothing is known.
+    pub fn add(&mut self) -> Result<(), NoMemory>
+        ensures { IfOk result (λ _. self.new ≡ self.old ++ None ∷ []) }
+    {
+        self.kinds.push(None)?;
+        Ok(())
+    }
+
+    /// The kind of the variable at this place, where there is one and its kind is known.
+    pub fn get(&self, place: usize) -> Option<Kind>
+        ensures { result ≡ slice_index_or self.now place None }
+    {
+        match self.kinds.get(place) {
+            Some(kind) => *kind,
+            None => None,
+        }
+    }
+
+    /// How many variables there are.
+    pub fn count(&self) -> usize
+        ensures { result ≡ length self.now }
+    {
+        self.kinds.len()
+    }
+
+    /// The variable at this place has this kind.
+    pub fn set(&mut self, place: usize, kind: Kind)
+        requires { place < length self.now }
+        ensures { self.new ≡ set self.old place (Some kind) }
+    {
+        self.kinds[place] = Some(kind);
+    }
+
     // Nothing is known of so many variables.
     fn forget(&mut self, count: usize) -> Result<(), NoMemory>
         ensures { IfOk result (λ _. self.new ≡ replicate count None) }
@@ -81,10 +121,10 @@ impl Known {
         Ok(())
     }
 
-    fn at(&self, place: u32) -> Option<Kind>
+    fn at(&self, place: usize) -> Option<Kind>
         ensures { result ≡ known_at self.now place }
     {
-        match self.kinds.get(place as usize) {
+        match self.kinds.get(place) {
             Some(kind) => *kind,
             None => Some(Kind::Int),
         }
@@ -100,13 +140,13 @@ impl Known {
     }
 
     // The variable has this kind.
-    fn learn_at(&mut self, place: u32, kind: Kind) -> Told
+    fn learn_at(&mut self, place: usize, kind: Kind) -> Told
         ensures { Narrows (λ choice. same_kind (slice_index_or choice place Kind.Int) kind) self.old result self.new }
     {
         match self.at(place) {
             Some(known) => agreed(known, kind),
             None => {
-                self.kinds[place as usize] = Some(kind);
+                self.kinds[place] = Some(kind);
                 Told::More
             }
         }

@@ -6,9 +6,10 @@ pub mod check;
 mod columns;
 mod kinds;
 mod names;
-mod normal_form;
+mod notes;
 mod occurrences;
 pub mod schema;
 mod statement;
+mod taken;
 
 pub use statement::Desk;

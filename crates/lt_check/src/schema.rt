@@ -1,5 +1,5 @@
 //! The relations that are there.
-ghost use Rattle.std.specs.Prelude.{◌≡◌, ◌≤◌, ◌<◌, ◌↔◌, ◌++◌, ◌∷◌, [], length, None, IfOk, IfSome, OnOk, OnErr, IsErrOf, IsSome, is_none};
+ghost use Rattle.std.specs.Prelude.{◌≡◌, ◌≤◌, ◌<◌, ◌↔◌, ◌++◌, ◌∷◌, [], length, None, IfOk, IfSome, OnOk, OnErr, IsErrOf, IsSome, is_none, unwrap_or};
 ghost use Rattle.std.specs.Str.{bytes_eq};
 ghost use Rattle.lt_face.specs.Limits.{most_relations};
 ghost use Rattle.lt_model.specs.Schema.{number_of, columns_of, keys_of};
@@ -98,6 +98,20 @@ impl Schema {
     {
         let number = self.find(name)?;
         Some(self.headings.as_slice()[number as usize].1.as_slice())
+    }
+
+    /// The number of a relation and the kinds of its columns: 0 and none where it isn't there.
+    pub(crate) fn look_up(&self, name: &Name) -> (u32, &[Kind])
+        ensures number { result.0 ≡ unwrap_or (number_of self.now name.now) 0 }
+        ensures columns { result.1.now ≡ columns_of self.now name.now }
+    {
+        match self.find(name) {
+            Some(number) => (
+                number,
+                self.headings.as_slice()[number as usize].1.as_slice(),
+            ),
+            None => (0, &[]),
+        }
     }
 
     /// The kinds of a relation's columns, none where it isn't there.

@@ -1,28 +1,29 @@
 //! The check of one statement.
-ghost use Rattle.std.specs.Prelude.{◌≡◌, ◌≤◌, if◌then◌else◌, IfOk, IfErr, Some, None, length, map};
+ghost use Rattle.std.specs.Prelude.{◌≡◌, if◌then◌else◌, IfOk, IfErr, Some, None, length};
 ghost use Rattle.std.specs.List.{list_all};
-ghost use Rattle.lt_face.specs.Limits.{most_columns};
 ghost use Rattle.lt_model.specs.Bound.{is_bound};
-ghost use Rattle.lt_model.specs.Check.{choice_fits, code_of, normal, normal_with, kind_of, atom as normal_atom, term as normal_term};
+ghost use Rattle.lt_model.specs.Check.{choice_fits, code_of, normal};
 ghost use Rattle.lt_model.specs.Variables as model;
 ghost use Rattle.lt_model.specs.Variables.{variables, place_of};
-ghost use Rattle.lt_model.specs.Limits.{ArePrintedWithin, IsStatementWithin};
-ghost use Rattle.lt_check.specs.Narrowing.{completed, Settles};
+ghost use Rattle.lt_model.specs.Limits.{IsStatementWithin};
+ghost use Rattle.lt_check.specs.Narrowing.{Settles};
 ghost use Rattle.lt_check.specs.Outcome.{IsCode};
 ghost use Rattle.lt_check.specs.Seen.{seen, HasColumns};
+ghost use Rattle.lt_check.specs.Taking.{IsTaken, IsFormed};
 
 use crate::bound::Bound;
 use crate::check::CheckFault;
 use crate::columns::{has_misfit, list_columns};
-use crate::kinds::{Known, settle};
+use crate::kinds::settle;
 use crate::names::Names;
-use crate::normal_form::{atom, body as normal_body, numbered};
+use crate::notes::Notes;
 use crate::occurrences::{body_of, list_atoms};
 use crate::schema::Schema;
+use crate::taken::{joined, take_body, take_front};
 use lt_face::memory::NoMemory;
-use lt_model::kind::{Kind, KindList};
-use lt_model::normal::{Atom, Body, Stmt, TermList};
-use lt_model::syntax::{Head, Statement, Term};
+use lt_model::kind::Kind;
+use lt_model::normal::{Body, Stmt};
+use lt_model::syntax::{Head, Statement};
 use std::alloc::Global;
 
 fn bad(code: u32, statement: u32) -> Result<Stmt, CheckFault>
@@ -31,90 +32,33 @@ fn bad(code: u32, statement: u32) -> Result<Stmt, CheckFault>
     Err(CheckFault::Bad { code, statement })
 }
 
-// The atom whose rows go, and the one whose rows come.
-fn both(
-    alloc: Global,
-    schema: &Schema,
-    names: &Names,
-    gone: &Head,
-    come: &Head,
-) -> Result<(Atom, Atom), NoMemory>
-    ensures { IfOk result (λ both. both ≡ (normal_atom schema.now names.now gone.now, normal_atom schema.now names.now come.now)) }
-{
-    let gone = atom(alloc, schema, names, gone)?;
-    let come = atom(alloc, schema, names, come)?;
-    Ok((gone, come))
-}
-
-// The printed terms, and the kind of each.
-fn printed(
-    alloc: Global,
-    names: &Names,
-    known: &Known,
-    terms: &[Term],
-) -> Result<(TermList, KindList), NoMemory>
-    requires { length terms.now ≤ most_columns }
-    ensures { IfOk result (λ printed. printed ≡ (map (normal_term names.now) terms.now, map (kind_of names.now (completed known.now)) terms.now)) }
-{
-    let numbers = numbered(alloc, names, terms)?;
-    let kinds = known.kinds(alloc, names, terms)?;
-    Ok((numbers, kinds))
-}
-
-fn with_body(
-    alloc: Global,
-    schema: &Schema,
-    names: &Names,
-    known: &Known,
-    statement: &Statement,
-    body: Body,
-) -> Result<Stmt, NoMemory>
-    requires { ArePrintedWithin statement.now }
-    ensures { IfOk result (λ stmt. stmt ≡ normal_with schema.now names.now body (kind_of names.now (completed known.now)) statement.now) }
-{
-    match statement {
-        Statement::Insert { head, .. } => {
-            let keys = schema.keys(&head.relation);
-            let head = atom(alloc, schema, names, head)?;
-            Ok(Stmt::Insert { head, keys, body })
-        }
-        Statement::Delete { head, .. } => Ok(Stmt::Delete {
-            head: atom(alloc, schema, names, head)?,
-            body,
-        }),
-        Statement::Replace { gone, come, .. } => {
-            let keys = schema.keys(&come.relation);
-            let (gone, come) = both(alloc, schema, names, gone, come)?;
-            Ok(Stmt::Replace {
-                gone,
-                come,
-                keys,
-                body,
-            })
-        }
-        Statement::Require { some, .. } => Ok(Stmt::Require { some: *some, body }),
-        Statement::Print { terms, .. } => {
-            let (terms, kinds) = printed(alloc, names, known, terms.as_slice())?;
-            Ok(Stmt::Print { terms, kinds, body })
-        }
-    }
-}
-
-// Finds kinds by which the statement's conditions fit.
+// Finds kinds by which the statement's conditions fit. Only where something was left open is each condition looked at again.
 fn settle_kinds(
-    known: &mut Known,
+    notes: &mut Notes,
     schema: &Schema,
-    names: &Names,
     atoms: &[&Head],
     columns: &[&[Kind]],
     statement: &Statement,
 ) -> Result<bool, NoMemory>
     requires columns { HasColumns schema.now (seen atoms.now) (seen columns.now) }
-    requires names { names.now ≡ variables statement.now }
+    requires names { notes.now.names ≡ variables statement.now }
     requires atoms { seen atoms.now ≡ model.atoms_of statement.now }
-    ensures { IfOk result (λ found. Settles (choice_fits schema.now statement.now) (length names.now) (if found then Some known.new else None)) }
+    requires taken { IsTaken (choice_fits schema.now statement.now) notes.now }
+    ensures found { IfOk result (λ found. Settles (choice_fits schema.now statement.now) (length notes.old.names) (if found then Some notes.new.known else None)) }
+    ensures names { notes.new.names ≡ notes.old.names }
 {
-    settle(known, schema, names, atoms, columns, body_of(statement))
+    if notes.conflict {
+        return Ok(false);
+    }
+    let found = settle(
+        &mut notes.known,
+        schema,
+        &notes.names,
+        atoms,
+        columns,
+        body_of(statement),
+    )?;
+    Ok(found)
 }
 
 // Whether the body binds each of these variables.
@@ -131,8 +75,7 @@ fn binds(alloc: Global, body: &Body, names: &Names) -> Result<bool, NoMemory>
 pub struct Desk<'a> {
     atoms: Vec<&'a Head>,
     columns: Vec<&'a [Kind]>,
-    names: Names<'a>,
-    known: Known,
+    notes: Notes<'a>,
 }
 
 impl<'a> Desk<'a> {
@@ -141,9 +84,72 @@ impl<'a> Desk<'a> {
         Desk {
             atoms: Vec::new(alloc),
             columns: Vec::new(alloc),
-            names: Names::new(alloc),
-            known: Known::new(alloc),
+            notes: Notes::new(alloc),
         }
+    }
+}
+
+fn refused(code: u32, statement: u32) -> Result<(), CheckFault>
+    ensures { result ≡ Err (CheckFault.Bad code statement) }
+{
+    Err(CheckFault::Bad { code, statement })
+}
+
+impl<'a> Desk<'a> {
+    // Looks again at a statement in which there is a conflict, or something was left open.
+    fn look_again(
+        &mut self,
+        schema: &'a Schema,
+        statement: &'a Statement,
+        number: u32,
+    ) -> Result<(), CheckFault>
+        requires names { self.now.notes.names ≡ variables statement.now }
+        requires taken { IsTaken (choice_fits schema.now statement.now) self.now.notes }
+        ensures formed { IfOk result (λ _. IsFormed schema.now statement.now) }
+        ensures kinds { IfOk result (λ _. Settles (choice_fits schema.now statement.now) (length (variables statement.now)) (Some self.new.notes.known)) }
+        ensures names { IfOk result (λ _. self.new.notes.names ≡ self.old.notes.names) }
+        ensures bad { IfErr result (λ fault. IsCode (code_of schema.now statement.now) number fault) }
+    {
+        list_atoms(&mut self.atoms, statement)?;
+        let known = list_columns(&mut self.columns, schema, &self.atoms)?;
+        if !known {
+            return refused(20, number);
+        }
+        if has_misfit(schema, &self.atoms, &self.columns) {
+            return refused(21, number);
+        }
+        let has_kinds = settle_kinds(
+            &mut self.notes,
+            schema,
+            &self.atoms,
+            &self.columns,
+            statement,
+        )?;
+        if !has_kinds {
+            return refused(22, number);
+        }
+        Ok(())
+    }
+
+    // Whether the relations and the kinds of a statement whose terms were taken fit.
+    fn look(
+        &mut self,
+        schema: &'a Schema,
+        statement: &'a Statement,
+        number: u32,
+    ) -> Result<(), CheckFault>
+        requires within { IsStatementWithin statement.now }
+        requires names { self.now.notes.names ≡ variables statement.now }
+        requires taken { IsTaken (choice_fits schema.now statement.now) self.now.notes }
+        ensures formed { IfOk result (λ _. IsFormed schema.now statement.now) }
+        ensures kinds { IfOk result (λ _. Settles (choice_fits schema.now statement.now) (length (variables statement.now)) (Some self.new.notes.known)) }
+        ensures names { IfOk result (λ _. self.new.notes.names ≡ self.old.notes.names) }
+        ensures bad { IfErr result (λ fault. IsCode (code_of schema.now statement.now) number fault) }
+    {
+        if self.notes.is_clear() {
+            return Ok(());
+        }
+        self.look_again(schema, statement, number)
     }
 }
 
@@ -159,31 +165,14 @@ pub fn check_statement<'a>(
     ensures good { IfOk result (λ stmt. (code_of schema.now statement.now ≡ None) × (stmt ≡ normal schema.now statement.now)) }
     ensures bad { IfErr result (λ fault. IsCode (code_of schema.now statement.now) number fault) }
 {
-    list_atoms(&mut desk.atoms, statement)?;
-    let known = list_columns(&mut desk.columns, schema, &desk.atoms)?;
-    if !known {
-        return bad(20, number);
-    }
-    if has_misfit(schema, &desk.atoms, &desk.columns) {
-        return bad(21, number);
-    }
-    desk.names.list(statement)?;
-    let settled = settle_kinds(
-        &mut desk.known,
-        schema,
-        &desk.names,
-        &desk.atoms,
-        &desk.columns,
-        statement,
-    )?;
-    if !settled {
-        return bad(22, number);
-    }
-    let body = normal_body(alloc, schema, &desk.names, body_of(statement))?;
-    let bound = binds(alloc, &body, &desk.names)?;
+    desk.notes.clear();
+    let front = take_front(alloc, schema, &mut desk.notes, statement)?;
+    let body = take_body(alloc, schema, &mut desk.notes, body_of(statement))?;
+    desk.look(schema, statement, number)?;
+    let bound = binds(alloc, &body, &desk.notes.names)?;
     if !bound {
         return bad(23, number);
     }
-    let stmt = with_body(alloc, schema, &desk.names, &desk.known, statement, body)?;
+    let stmt = joined(alloc, &desk.notes, front, statement, body)?;
     Ok(stmt)
 }

@@ -6,41 +6,41 @@ use Rattle.std.proofs.lemmas.Bool.{and_parts, eqb-true, true≢false}
 use Rattle.lt_model.specs.declared.normal.Term.TheVariants.{Var}
 use Rattle.lt_model.specs.declared.normal.Test.{Test}
 use Rattle.lt_query.specs.declared.places.Place.{Place}
-use Rattle.lt_face.specs.Lists.{IsIn}
+use Rattle.lt_face.specs.Lists.{IsIn, AreInOrder}
 use Rattle.lt_query.specs.Order.{place_at, first_from, original, is_pinned, is_pinned_at, is_as_pinned, is_first, is_original, is_tied_to, with_tied, originals, stated_order, Precedes, IsStatedOrder}
-use Rattle.lt_query.specs.Lists.{below, IsOrderedBy}
+use Rattle.lt_query.specs.Lists.{below}
 use Rattle.lt_face.proofs.Membership.{IsIn-append_cases, IsIn-flat_map_from}
 use Rattle.lt_query.proofs.Elements.{All_from, All_at}
 use Rattle.lt_query.proofs.Distinct.{IsIn-filter_from, IsIn-below_from}
 use Rattle.lt_query.proofs.Text.{IsTold, told}
 use Rattle.lt_query.proofs.Origins.{T, first_is, tied_is, with_tied_from, owned, chosen_of, origin_in, order_within, order_itself}
 
-ordered-append : (R : ℕ → ℕ → Type 0) (xs ys : List ℕ) → IsOrderedBy R xs → IsOrderedBy R ys → ((x y : ℕ) → IsIn x xs → IsIn y ys → R x y) → IsOrderedBy R (xs ++ ys)
+ordered-append : (R : ℕ → ℕ → Type 0) (xs ys : List ℕ) → AreInOrder R xs → AreInOrder R ys → ((x y : ℕ) → IsIn x xs → IsIn y ys → R x y) → AreInOrder R (xs ++ ys)
 ordered-append R [] ys a b h = b
 ordered-append R (x ∷ xs) ys a b h = (
   All_from (R x) (xs ++ ys) (λ y k. elim (IsIn-append_cases y xs ys k) [ inl l ↦ All_at (R x) y xs a.0 l | inr r ↦ h x y (inl refl) r ]),
   ordered-append R xs ys a.1 b (λ z y l r. h z y (inr l) r),
 )
 
-ordered-below : (n : ℕ) → IsOrderedBy (λ x y. x < y) (below n)
+ordered-below : (n : ℕ) → AreInOrder (λ x y. x < y) (below n)
 ordered-below zero = tt
 ordered-below (suc n) =
     ordered-append (λ x y. x < y) (below n) (n ∷ []) (ordered-below n) (tt, tt)
     (λ x y h k. elim k [ inl e ↦ let lt = IsIn-below_from n x h in omega arith | inr r ↦ absurd r ])
 
-ordered-filter : (R : ℕ → ℕ → Type 0) (p : ℕ → Bool) (xs : List ℕ) → IsOrderedBy R xs → IsOrderedBy R (filter p xs)
+ordered-filter : (R : ℕ → ℕ → Type 0) (p : ℕ → Bool) (xs : List ℕ) → AreInOrder R xs → AreInOrder R (filter p xs)
 ordered-filter R p [] h = tt
 ordered-filter R p (x ∷ xs) h =
-    elim (p x) as (λ b. IsOrderedBy R (cond b (x ∷ filter p xs) (filter p xs))) [
+    elim (p x) as (λ b. AreInOrder R (cond b (x ∷ filter p xs) (filter p xs))) [
       | true ↦ (All_from (R x) (filter p xs) (λ y k. All_at (R x) y xs h.0 (IsIn-filter_from p y xs k).0), ordered-filter R p xs h.1)
       | false ↦ ordered-filter R p xs h.1
     ]
 
-ordered-weaker : (R S : ℕ → ℕ → Type 0) (xs : List ℕ) → ((x y : ℕ) → IsIn x xs → IsIn y xs → R x y → S x y) → IsOrderedBy R xs → IsOrderedBy S xs
+ordered-weaker : (R S : ℕ → ℕ → Type 0) (xs : List ℕ) → ((x y : ℕ) → IsIn x xs → IsIn y xs → R x y → S x y) → AreInOrder R xs → AreInOrder S xs
 ordered-weaker R S [] f h = tt
 ordered-weaker R S (x ∷ xs) f h = (All_from (S x) xs (λ y k. f x y (inl refl) (inr k) (All_at (R x) y xs h.0 k)), ordered-weaker R S xs (λ y z k l. f y z (inr k) (inr l)) h.1)
 
-ordered-flat_map : (R S : ℕ → ℕ → Type 0) (f : ℕ → List ℕ) (xs : List ℕ) → IsOrderedBy R xs → ((x : ℕ) → IsIn x xs → IsOrderedBy S (f x)) → ((x y a b : ℕ) → IsIn x xs → IsIn y xs → R x y → IsIn a (f x) → IsIn b (f y) → S a b) → IsOrderedBy S (flat_map f xs)
+ordered-flat_map : (R S : ℕ → ℕ → Type 0) (f : ℕ → List ℕ) (xs : List ℕ) → AreInOrder R xs → ((x : ℕ) → IsIn x xs → AreInOrder S (f x)) → ((x y a b : ℕ) → IsIn x xs → IsIn y xs → R x y → IsIn a (f x) → IsIn b (f y) → S a b) → AreInOrder S (flat_map f xs)
 ordered-flat_map R S f [] o each between = tt
 ordered-flat_map R S f (x ∷ xs) o each between =
     ordered-append S (f x) (flat_map f xs) (each x (inl refl)) (ordered-flat_map R S f xs o.1 (λ y k. each y (inr k)) (λ y z a b k l. between y z a b (inr k) (inr l)))
@@ -79,7 +79,7 @@ tied_after places told p y first lt tied =
     omega arith
 
 module _ (tests : List Test) (places : List Place) (told : IsTold places) where
-  ordered_with_tied : (p : ℕ) → is_first places p (T places p) ≡ true → IsOrderedBy (Precedes tests places) (with_tied places p)
+  ordered_with_tied : (p : ℕ) → is_first places p (T places p) ≡ true → AreInOrder (Precedes tests places) (with_tied places p)
   ordered_with_tied p first = (
     All_from (Precedes tests places p) tied (λ y h. let k = IsIn-filter_from (λ q. is_tied_to (T places p) (place_at places q)) y (below (length places)) h in
         inr (sym (pinned_alike tests places p y (inr h)), inr (owned places p p first (inl refl) ∙ sym (owned places p y first (inr h)), tied_after places told p y first (IsIn-below_from (length places) y k.0) k.1))),
@@ -91,7 +91,7 @@ module _ (tests : List Test) (places : List Place) (told : IsTold places) where
       tied : List ℕ
       tied = filter (λ q. is_tied_to (T places p) (place_at places q)) (below (length places))
 
-  ordered_originals : (b : Bool) → IsOrderedBy (Precedes tests places) (originals tests places b)
+  ordered_originals : (b : Bool) → AreInOrder (Precedes tests places) (originals tests places b)
   ordered_originals b =
       ordered-flat_map (λ x y. x < y) (Precedes tests places) (with_tied places) (chosen_of tests places b)
       (ordered-filter (λ x y. x < y) (is_original tests places b) (below (length places)) (ordered-below (length places)))
@@ -130,7 +130,7 @@ precedes_apart tests places x y h k =
       ]
     ]
 
-pub one_order : (R : ℕ → ℕ → Type 0) → ((x y : ℕ) → R x y → R y x → ⊥) → (xs ys : List ℕ) → IsOrderedBy R xs → IsOrderedBy R ys → ((x : ℕ) → IsIn x xs → IsIn x ys) → ((x : ℕ) → IsIn x ys → IsIn x xs) → xs ≡ ys
+pub one_order : (R : ℕ → ℕ → Type 0) → ((x y : ℕ) → R x y → R y x → ⊥) → (xs ys : List ℕ) → AreInOrder R xs → AreInOrder R ys → ((x : ℕ) → IsIn x xs → IsIn x ys) → ((x : ℕ) → IsIn x ys → IsIn x xs) → xs ≡ ys
 one_order R apart [] [] a b f g = refl
 one_order R apart [] (y ∷ ys) a b f g = absurd (g y (inl refl))
 one_order R apart (x ∷ xs) [] a b f g = absurd (f x (inl refl))

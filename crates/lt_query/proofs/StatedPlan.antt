@@ -16,7 +16,7 @@ use Rattle.lt_query.specs.declared.plans.Level.{Level}
 use Rattle.lt_query.specs.declared.plans.Guide.{Guide}
 use Rattle.lt_query.specs.declared.plans.Plan.{Plan}
 use Rattle.lt_query.specs.declared.places.Place.{Place}
-use Rattle.lt_face.specs.Lists.{IsIn}
+use Rattle.lt_face.specs.Lists.{IsIn, AreInOrder}
 use Rattle.lt_query.specs.Lists.{IsDistinct}
 use Rattle.lt_face.specs.State.{permuted}
 use Rattle.lt_query.specs.Plan.{term_at, IsGuideOf, IsPlanOf}
@@ -31,7 +31,6 @@ use Rattle.lt_query.proofs.Elements.{All_from, All_at}
 use Rattle.lt_query.proofs.LevelSteps.{length-places_of, length-column_levels}
 use Rattle.lt_query.proofs.Counting.{length_within}
 use Rattle.lt_query.proofs.Distinct.{IsIn-filter, IsIn-filter_from, IsIn-below, IsIn-below_from, IsDistinct-filter, IsDistinct-below, IsDistinct-flat_map, get_or-index, index-get_or, IsIn-get_or, length-below}
-use Rattle.lt_query.specs.Lists.{IsOrderedBy}
 use Rattle.lt_query.proofs.Precedence.{IsStatedOrder-stated, one_order, one_stated_order}
 use Rattle.lt_query.proofs.Text.{StandsFrom, AreFrom, StandsFrom-first, AreFrom-rest, AreFrom-all, located_in, stands-take, told}
 use Rattle.lt_query.proofs.Origins.{origin_in, order_within, order_itself, origin_term, origin_before, IsDistinct-order}
@@ -311,7 +310,7 @@ All_map_from P f [] h = tt
 All_map_from P f (x ∷ xs) h = (h.0, All_map_from P f xs h.1)
 
 -- columns whose levels rise are ordered by their levels
-ordered_by_level : (ls cs : List ℕ) → IsRising (permuted cs ls) → IsOrderedBy (λ c d. slice_index ls c < slice_index ls d) cs
+ordered_by_level : (ls cs : List ℕ) → IsRising (permuted cs ls) → AreInOrder (λ c d. slice_index ls c < slice_index ls d) cs
 ordered_by_level ls [] h = tt
 ordered_by_level ls (c ∷ cs) h = (All_map_from (λ y. slice_index ls c < y) (λ d. slice_index ls d) cs h.0, ordered_by_level ls cs h.1)
 

@@ -1,21 +1,16 @@
 -- Words on lists.
 use Rattle.std.specs.Prelude.{◌<◌, ℕ, zero, suc, List, [], ◌∷◌, ◌++◌, ⊤}
 use Rattle.std.specs.List.{AllByRecursion}
-use Rattle.lt_face.specs.Lists.{IsIn}
+use Rattle.lt_face.specs.Lists.{IsIn, AreInOrder}
 
 -- the numbers below n
 abbrev pub below : ℕ → List ℕ
 below zero = []
 below (suc n) = below n ++ n ∷ []
 
--- each element has the relation to those after it
-abbrev pub IsOrderedBy : {X : Type 0} → (X → X → Type 0) → List X → Type 0
-IsOrderedBy R [] = ⊤
-IsOrderedBy R (x ∷ xs) = AllByRecursion (R x) xs × IsOrderedBy R xs
-
 -- each number is below those after it
 abbrev pub IsRising : List ℕ → Type 0
-IsRising xs = IsOrderedBy (λ x y. x < y) xs
+IsRising xs = AreInOrder (λ x y. x < y) xs
 
 -- no element stands twice
 abbrev pub IsDistinct : {X : Type 0} → List X → Type 0

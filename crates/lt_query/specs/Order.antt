@@ -10,8 +10,8 @@ use Rattle.lt_model.specs.declared.normal.Test.{Test}
 use Rattle.lt_model.specs.declared.normal.Test.TheVariants.{Cmp}
 use Rattle.lt_model.specs.declared.normal.Body.{Body}
 use Rattle.lt_query.specs.declared.places.Place.{Place}
-use Rattle.lt_face.specs.Lists.{IsIn}
-use Rattle.lt_query.specs.Lists.{below, IsOrderedBy}
+use Rattle.lt_face.specs.Lists.{IsIn, AreInOrder}
+use Rattle.lt_query.specs.Lists.{below}
 use Rattle.lt_model.specs.Bound.{is_var, stands}
 
 -- whether the term is a variable that stands among the terms before it
@@ -119,4 +119,4 @@ Precedes tests places p q =
 pub record IsStatedOrder (tests : List Test) (places : List Place) (order : List ℕ) : Type 0 where
   pub begins : (p : ℕ) → IsIn p order → (p < length places) × (origin places p ≡ p)
   pub each : (p : ℕ) → p < length places → origin places p ≡ p → IsIn p order
-  pub ordered : IsOrderedBy (Precedes tests places) order
+  pub ordered : AreInOrder (Precedes tests places) order
