@@ -3,10 +3,10 @@ ghost use Rattle.std.specs.Prelude.{◌≡◌, fold, IfOk};
 ghost use Rattle.lt_face.specs.Rows.{IsRowSet, with_row};
 ghost use Rattle.lt_flat.specs.Flat.{kept};
 
-use crate::list::{place_from, place_near, search};
+use crate::list::{place_from, place_near, row_along, search};
 use crate::merging::{remaining, united};
 use crate::shelf::Shelf;
-use lt_face::{Key, Near, NoMemory, Row, RowList, RowReads, RowSet};
+use lt_face::{Fraction, Key, Near, NoMemory, Row, RowList, RowReads, RowSet};
 use std::alloc::Global;
 use std::marker::Model;
 
@@ -119,6 +119,10 @@ impl RowReads for FlatRows {
         let place = place_near(rows, near.at, prefix.cells(), bound);
         near.at = place;
         rows.get(place)
+    }
+
+    fn row_about(&self, along: Fraction) -> Option<&Row> {
+        row_along(self.rows.as_slice(), along)
     }
 }
 

@@ -1,12 +1,12 @@
 //! Sorted vectors of rows behind an `Arc`: searched in place, and edited in place where nobody else owns them.
-ghost use Rattle.std.specs.Prelude.{◌≡◌, ◌<◌, ◌≤◌, ◌++◌, ◌∷◌, [], length, IfOk, IfErr, OnOk, OnErr, slice_get};
+ghost use Rattle.std.specs.Prelude.{◌≡◌, ◌<◌, ◌≤◌, ◌++◌, ◌∷◌, [], true, length, IfOk, IfErr, IfSome, OnOk, OnErr, slice_get};
 ghost use Rattle.std.specs.List.{insert, remove, AllByRecursion};
 ghost use Rattle.std.specs.Ordering.{is_lt};
 ghost use Rattle.std.specs.Arc.{arc_value};
-ghost use Rattle.lt_face.specs.Rows.{IsAscending, first_from, row_cmp};
+ghost use Rattle.lt_face.specs.Rows.{IsAscending, first_from, has_row, row_cmp};
 ghost use Rattle.lt_flat.specs.Flat.{IsFound, IsAbsent, AreBelow, AreNotBelow};
 
-use lt_face::{Key, NoMemory, Row};
+use lt_face::{Fraction, Key, NoMemory, Row};
 use std::alloc::Global;
 use std::sync::Arc;
 
@@ -25,6 +25,17 @@ pub(crate) fn place_from(rows: &[Row], from: &Row) -> usize
     ensures { first_from rows.now from.now ≡ slice_get rows.now result }
 {
     rows.partition_point(|row| row.cmp(from).is_lt())
+}
+
+/// The row so far along the rows, where there are rows.
+pub(crate) fn row_along(rows: &[Row], along: Fraction) -> Option<&Row>
+    ensures { IfSome result (λ row. has_row rows.now row.now ≡ true) }
+{
+    if rows.is_empty() {
+        return None;
+    }
+    let row = &rows[along.place(rows.len())];
+    Some(row)
 }
 
 /// Whether the row comes before the prefix and then the bound.

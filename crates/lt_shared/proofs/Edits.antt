@@ -1,9 +1,9 @@
--- Edits of one part of a list.
+-- Edits of one entry of a list.
 use Rattle.std.proofs.Common.{◌≡◌, ℕ, zero, suc, ◌+◌, ◌-◌, ◌/◌, ◌<◌, ◌≤◌, Bool, true, false, ◌||◌, length, get_or, take, drop, set, List, [], ◌∷◌, ◌++◌, refl, sym, ap, ◌∙◌, subst, arith, append_assoc, length-append, Result, Ok, Err, OnErr}
 use Rattle.std.specs.List.{insert, remove, list_any}
-use Rattle.lt_shared.specs.declared.part.Put.TheVariants.{Was, Fits, Halves}
-use Rattle.lt_shared.specs.declared.part.Taken.TheVariants.{Missing, Out, Last}
-use Rattle.lt_shared.specs.Parts.{joined, IsPlace, IsPut, IsTaken, two_for, AreHalves}
+use Rattle.lt_shared.specs.declared.entry.Put.TheVariants.{Was, Fits, Halves}
+use Rattle.lt_shared.specs.declared.entry.Taken.TheVariants.{Missing, Out, Last}
+use Rattle.lt_shared.specs.Entries.{joined, IsPlace, IsPut, IsTaken, two_for, AreHalves}
 use Rattle.lt_shared.proofs.Joins.{joined-append, joined-at, has-at, with-at, without-at}
 
 pub two_for-length : {X : Type 0} (xs : List X) (at : ℕ) (a b : X) → at < length xs → length (two_for xs at a b) ≡ suc (length xs)
@@ -50,12 +50,12 @@ joined-remove f [] at lt = absurd (omega arith)
 joined-remove f (x ∷ xs) zero lt = refl
 joined-remove f (x ∷ xs) (suc at) lt = ap (λ t. f x ++ t) (joined-remove f xs at (omega arith)) ∙ sym (append_assoc (f x) (joined f (take at xs)) (joined f (drop (suc at) xs)))
 
--- another part with the same rows changes nothing
+-- another entry with the same rows changes nothing
 pub joined-same : {X : Type 0} (f : X → List (List ℕ)) (xs : List X) (at : ℕ) (x y : X) → at < length xs → x ≡ get_or xs at x → f y ≡ f x → joined f (set xs at y) ≡ joined f xs
 joined-same f xs at x y lt is e =
     joined-set f xs at y lt ∙ ap (λ t. joined f (take at xs) ++ (t ++ joined f (drop (suc at) xs))) e ∙ sym (joined-at f xs at x lt is)
 
--- ---- a row put into the part at its place
+-- ---- a row put into the entry at its place
 
 pub put-was : {X Y : Type 0} (f : X → List (List ℕ)) (h : Y → List (List ℕ)) (xs : List X) (at : ℕ) (x y : X) (row : List ℕ) → IsPlace f xs row at → x ≡ get_or xs at x
     → IsPut f Was (f x) (f y) row → IsPut h Was (joined f xs) (joined f (set xs at y)) row
@@ -82,7 +82,7 @@ put-still f h xs at x y row place is put = record {
   kept = refl;
 }
 
--- the part became two, for which there was room
+-- the entry became two, for which there was room
 pub put-two : {X Y : Type 0} (f : X → List (List ℕ)) (h : Y → List (List ℕ)) (xs : List X) (at : ℕ) (x a b : X) (y : List (List ℕ)) (row : List ℕ) → IsPlace f xs row at → x ≡ get_or xs at x
     → IsPut f (Halves a b) (f x) y row → IsPut h Fits (joined f xs) (joined f (two_for xs at a b)) row
 put-two f h xs at x a b y row place is put = record {
@@ -91,7 +91,7 @@ put-two f h xs at x a b y row place is put = record {
   kept = tt;
 }
 
--- the part became two, and so did the list
+-- the entry became two, and so did the list
 pub put-halves : {X Y : Type 0} (f : X → List (List ℕ)) (h : Y → List (List ℕ)) (xs : List X) (at : ℕ) (x a b : X) (y new : List (List ℕ)) (first second : List X) (v w : Y) (row : List ℕ) → IsPlace f xs row at → x ≡ get_or xs at x
     → IsPut f (Halves a b) (f x) y row → first ++ second ≡ two_for xs at a b → h v ≡ joined f first → h w ≡ joined f second → new ≡ joined f xs → IsPut h (Halves v w) (joined f xs) new row
 put-halves f h xs at x a b y new first second v w row place is put all hv hw same = record {
@@ -111,7 +111,7 @@ any-at p (y ∷ ys) (suc at) x lt is h = rw (any-at p ys at x (omega arith) is h
     or_true true = refl
     or_true false = refl
 
--- ---- a row taken out of the part at its place
+-- ---- a row taken out of the entry at its place
 
 pub take-missing : {X : Type 0} (f : X → List (List ℕ)) (xs : List X) (at : ℕ) (x y : X) (row : List ℕ) → IsPlace f xs row at → x ≡ get_or xs at x
     → IsTaken Missing (f x) (f y) row → IsTaken Missing (joined f xs) (joined f (set xs at y)) row
@@ -138,16 +138,16 @@ take-still f xs at x y row place is taken = record {
   kept = refl;
 }
 
--- the part is to go, and others stay
-pub take-part : {X : Type 0} (f : X → List (List ℕ)) (xs : List X) (at : ℕ) (x : X) (y : List (List ℕ)) (row : List ℕ) → IsPlace f xs row at → x ≡ get_or xs at x
+-- the entry is to go, and others stay
+pub take-entry : {X : Type 0} (f : X → List (List ℕ)) (xs : List X) (at : ℕ) (x : X) (y : List (List ℕ)) (row : List ℕ) → IsPlace f xs row at → x ≡ get_or xs at x
     → IsTaken Last (f x) y row → IsTaken Out (joined f xs) (joined f (remove xs at)) row
-take-part f xs at x y row place is taken = record {
+take-entry f xs at x y row place is taken = record {
   rows = joined-append f (take at xs) (drop (suc at) xs) ∙ ap (λ t. joined f (take at xs) ++ (t ++ joined f (drop (suc at) xs))) taken.rows ∙ sym (without-at f xs row at x place is);
   was = taken.was ∙ sym (has-at f xs row at x place is);
   kept = tt;
 }
 
--- the part is to go, and it is the only one
+-- the entry is to go, and it is the only one
 pub take-all : {X : Type 0} (f : X → List (List ℕ)) (xs : List X) (at : ℕ) (x : X) (y new : List (List ℕ)) (row : List ℕ) → IsPlace f xs row at → x ≡ get_or xs at x
     → IsTaken Last (f x) y row → length xs ≡ 1 → new ≡ joined f xs → IsTaken Last (joined f xs) new row
 take-all f xs at x y new row place is taken one same = record {
@@ -167,7 +167,7 @@ remove-length [] at lt = absurd (omega arith)
 remove-length (x ∷ xs) zero lt = omega arith
 remove-length (x ∷ xs) (suc at) lt = let e = remove-length xs at (omega arith) in omega arith
 
--- the same, where the part was edited in its place first
+-- the same, where the entry was edited in its place first
 pub put-two-in : {X Y : Type 0} (f : X → List (List ℕ)) (h : Y → List (List ℕ)) (xs : List X) (at : ℕ) (x a b z : X) (y : List (List ℕ)) (row : List ℕ) → IsPlace f xs row at → x ≡ get_or xs at x
     → IsPut f (Halves a b) (f x) y row → IsPut h Fits (joined f xs) (joined f (two_for (set xs at z) at a b)) row
 put-two-in f h xs at x a b z y row place is put =
@@ -179,12 +179,12 @@ remove-set [] (suc at) z = refl
 remove-set (x ∷ xs) zero z = refl
 remove-set (x ∷ xs) (suc at) z = ap (λ t. x ∷ t) (remove-set xs at z)
 
-pub take-part-in : {X : Type 0} (f : X → List (List ℕ)) (xs : List X) (at : ℕ) (x z : X) (y : List (List ℕ)) (row : List ℕ) → IsPlace f xs row at → x ≡ get_or xs at x
+pub take-entry-in : {X : Type 0} (f : X → List (List ℕ)) (xs : List X) (at : ℕ) (x z : X) (y : List (List ℕ)) (row : List ℕ) → IsPlace f xs row at → x ≡ get_or xs at x
     → IsTaken Last (f x) y row → IsTaken Out (joined f xs) (joined f (remove (set xs at z) at)) row
-take-part-in f xs at x z y row place is taken =
-    subst (λ t. IsTaken Out (joined f xs) (joined f t) row) (sym (remove-set xs at z)) (take-part f xs at x y row place is taken)
+take-entry-in f xs at x z y row place is taken =
+    subst (λ t. IsTaken Out (joined f xs) (joined f t) row) (sym (remove-set xs at z)) (take-entry f xs at x y row place is taken)
 
--- what an error says of a list, whose part is as it was
+-- what an error says of a list, whose entry is as it was
 pub on_err : {A E : Type 0} (r : Result A E) (P : Type 0) → P → OnErr r P
 on_err (Ok a) P p = tt
 on_err (Err e) P p = p

@@ -1,6 +1,6 @@
 -- Levels that are made one after another.
 use Rattle.std.proofs.Common.{◌≡◌, ℕ, List, [], ◌∷◌, ◌++◌, length, refl, sym, ap, ◌∙◌, append_assoc, arith}
-use Rattle.lt_shared.specs.Parts.{joined, level_rows}
+use Rattle.lt_shared.specs.Entries.{joined, level_rows}
 use Rattle.lt_shared.specs.Shared.{row_rows}
 use Rattle.lt_shared.proofs.Joins.{joined-append}
 
@@ -15,7 +15,7 @@ joined-one f xs x = joined-append f xs (x ∷ []) ∙ ap (λ t. joined f xs ++ t
 pub level_rows-close : {X : Type 0} (f : X → List (List ℕ)) (levels : List (List X)) (group : List X) → joined (λ level. joined f level) (levels ++ group ∷ []) ≡ level_rows f levels group
 level_rows-close f levels group = joined-one (λ level. joined f level) levels group
 
--- and one part more begins the next, or is put behind
+-- and one entry more begins the next, or is put behind
 pub level_rows-next : {X : Type 0} (f : X → List (List ℕ)) (levels new : List (List X)) (group next : List X) (x : X) → new ≡ levels ++ group ∷ [] → next ≡ x ∷ []
     → level_rows f new next ≡ level_rows f levels group ++ f x
 level_rows-next f levels new group next x is one =

@@ -1,4 +1,4 @@
--- A row that is found in one part, behind another that is below what is sought.
+-- A row that is found in one entry, behind another that is below what is sought.
 use Rattle.std.proofs.Common.{◌≡◌, ℕ, zero, suc, ◌<◌, Bool, true, false, cond, not, ◌||◌, length, get_or, take, drop, slice_get, List, [], ◌∷◌, ◌++◌, Option, Some, None, IfSome, refl, sym, ap, ◌∙◌, subst, arith}
 use mathlib.Core.Bool.{true≢false}
 use Rattle.std.specs.List.{AllByRecursion}
@@ -7,7 +7,7 @@ use Rattle.std.specs.declared.cmp.Ordering.TheVariants.{Less, Equal, Greater}
 use Rattle.std.specs.Ordering.{is_lt, is_eq}
 use Rattle.lt_face.specs.Rows.{row_cmp, IsAscending, has_row, first_from}
 use Rattle.lt_face.proofs.RowLemmas.{rows_total, rows_exact, cmp_itself, ascending_at}
-use Rattle.lt_shared.specs.Parts.{joined, IsSomeBelow}
+use Rattle.lt_shared.specs.Entries.{joined, IsSomeBelow}
 use Rattle.lt_shared.proofs.Joins.{each-right, joined-at, has-append, first-less, first-some}
 
 is_equal : (o : Ordering) → is_eq o ≡ true → o ≡ Equal
@@ -41,7 +41,7 @@ or_true false = refl
 has_right : (a b : List (List ℕ)) (s : List ℕ) → has_row b s ≡ true → has_row (a ++ b) s ≡ true
 has_right a b s has = has-append a b s ∙ ap (λ t. has_row a s || t) has ∙ or_true (has_row a s)
 
--- what is found in one part is found in all
+-- what is found in one entry is found in all
 pub here-some : {X : Type 0} (f : X → List (List ℕ)) (xs : List X) (q r : List ℕ) (at : ℕ) (x : X) → IsAscending (joined f xs) → at < length xs → x ≡ get_or xs at x
     → first_from (f x) q ≡ Some r → IsSomeBelow (f x) q → first_from (joined f xs) q ≡ Some r
 here-some f xs q r at x up lt is found below =

@@ -1,4 +1,4 @@
--- Ascending lists of rows that are joined from parts.
+-- Ascending lists of rows that are joined from entries.
 use Rattle.std.proofs.Common.{◌≡◌, ℕ, zero, suc, ◌-◌, ◌<◌, ◌≤◌, Bool, true, false, cond, not, ◌||◌, length, get_or, take, drop, List, [], ◌∷◌, ◌++◌, refl, sym, ap, ◌∙◌, subst, arith, append_assoc, Option, Some, None}
 use mathlib.Core.Bool.{true≢false}
 use Rattle.std.specs.List.{AllByRecursion}
@@ -7,7 +7,7 @@ use Rattle.std.specs.declared.cmp.Ordering.TheVariants.{Less, Equal, Greater}
 use Rattle.std.specs.Ordering.{is_lt, is_eq, is_gt}
 use Rattle.lt_face.specs.Rows.{row_cmp, IsAscending, has_row, first_from, with_row, without_row}
 use Rattle.lt_face.proofs.RowLemmas.{rows_total, rows_exact, each_weaker, less_back, greater_back, with_row-after, with_row-before}
-use Rattle.lt_shared.specs.Parts.{joined, IsFirst, IsPlace, IsNear, IsOrNext}
+use Rattle.lt_shared.specs.Entries.{joined, IsFirst, IsPlace, IsNear, IsOrNext}
 
 Rows : Type 0
 Rows = List (List ℕ)
@@ -34,13 +34,13 @@ pub ascending-right : (a b : List (List ℕ)) → IsAscending (a ++ b) → IsAsc
 ascending-right [] b up = up
 ascending-right (x ∷ a) b up = ascending-right a b up.1
 
--- ---- parts
+-- ---- entries
 
 pub joined-append : {X : Type 0} (f : X → List (List ℕ)) (xs ys : List X) → joined f (xs ++ ys) ≡ joined f xs ++ joined f ys
 joined-append f [] ys = refl
 joined-append f (x ∷ xs) ys = ap (λ t. f x ++ t) (joined-append f xs ys) ∙ sym (append_assoc (f x) (joined f xs) (joined f ys))
 
--- the parts before a place, the part there, and those behind it
+-- the entries before a place, the entry there, and those behind it
 pub joined-at : {X : Type 0} (f : X → List (List ℕ)) (xs : List X) (at : ℕ) (x : X) → at < length xs → x ≡ get_or xs at x
     → joined f xs ≡ joined f (take at xs) ++ (f x ++ joined f (drop (suc at) xs))
 joined-at f [] at x lt is = absurd (omega arith)
@@ -94,7 +94,7 @@ is_greater Less h = absurd (true≢false (sym h))
 is_greater Equal h = absurd (true≢false (sym h))
 is_greater Greater h = refl
 
--- the first row of a part, compared with q, tells of the parts before it or of those from it on
+-- the first row of an entry, compared with q, tells of the entries before it or of those from it on
 pub place-low : {X : Type 0} (f : X → List (List ℕ)) (xs : List X) (at : ℕ) (x : X) (r q : List ℕ) → IsAscending (joined f xs) → at < length xs → x ≡ get_or xs at x
     → IsFirst (f x) r → is_gt (row_cmp r q) ≡ false → AllByRecursion (λ s. row_cmp s q ≡ Less) (joined f (take at xs))
 place-low f xs at x r q up lt is first le =
@@ -132,7 +132,7 @@ place-met f (x ∷ xs) q (suc low) some le before after =
       after = subst (λ n. AllByRecursion (λ r. row_cmp r q ≡ Greater) (joined f (drop (suc n) (x ∷ xs)))) (sym e) after;
     }
 
--- ---- what is asked of joined rows is asked of the part at the place
+-- ---- what is asked of joined rows is asked of the entry at the place
 
 pub has-append : (a b : List (List ℕ)) (q : List ℕ) → has_row (a ++ b) q ≡ (has_row a q || has_row b q)
 has-append [] b q = refl
@@ -141,6 +141,15 @@ has-append (x ∷ a) b q = ap (λ t. is_eq (row_cmp x q) || t) (has-append a b q
     or_assoc : (s t u : Bool) → ((s || t) || u) ≡ (s || (t || u))
     or_assoc true t u = refl
     or_assoc false t u = refl
+
+-- a row of one part is one of all
+pub has-part : (a b c : List (List ℕ)) (q : List ℕ) → has_row b q ≡ true → has_row (a ++ (b ++ c)) q ≡ true
+has-part a b c q here =
+    has-append a (b ++ c) q ∙ ap (λ t. has_row a q || t) (has-append b c q ∙ ap (λ t. t || has_row c q) here) ∙ or_true (has_row a q)
+  where
+    or_true : (s : Bool) → (s || true) ≡ true
+    or_true true = refl
+    or_true false = refl
 
 pub has-less : (a : List (List ℕ)) (q : List ℕ) → AllByRecursion (λ r. row_cmp r q ≡ Less) a → has_row a q ≡ false
 has-less [] q h = refl
@@ -189,7 +198,7 @@ pub first-less : (a b : List (List ℕ)) (q : List ℕ) → AllByRecursion (λ r
 first-less [] b q h = refl
 first-less (x ∷ a) b q h = rw h.0 (first-less a b q h.1)
 
--- where the part has one, it is the first
+-- where the entry has one, it is the first
 pub first-some : (b c : List (List ℕ)) (q r : List ℕ) → first_from b q ≡ Some r → first_from (b ++ c) q ≡ Some r
 first-some [] c q r h = cc
 first-some (x ∷ b) c q r h =
@@ -207,11 +216,16 @@ first-none (x ∷ b) c q h =
       | false ↦ λ k. cc
     ] h
 
--- ---- the same, for parts
+-- ---- the same, for entries
 
 pub has-at : {X : Type 0} (f : X → List (List ℕ)) (xs : List X) (q : List ℕ) (at : ℕ) (x : X) → IsPlace f xs q at → x ≡ get_or xs at x → has_row (joined f xs) q ≡ has_row (f x) q
 has-at f xs q at x place is =
     ap (λ t. has_row t q) (joined-at f xs at x place.within is) ∙ has-middle (joined f (take at xs)) (f x) (joined f (drop (suc at) xs)) q place.before place.after
+
+-- a row of an entry is one of all
+pub has-entry : {X : Type 0} (f : X → List (List ℕ)) (xs : List X) (q : List ℕ) (at : ℕ) (x : X) → at < length xs → x ≡ get_or xs at x → has_row (f x) q ≡ true → has_row (joined f xs) q ≡ true
+has-entry f xs q at x within is here =
+    ap (λ t. has_row t q) (joined-at f xs at x within is) ∙ has-part (joined f (take at xs)) (f x) (joined f (drop (suc at) xs)) q here
 
 pub with-at : {X : Type 0} (f : X → List (List ℕ)) (xs : List X) (q : List ℕ) (at : ℕ) (x : X) → IsPlace f xs q at → x ≡ get_or xs at x
     → with_row (joined f xs) q ≡ joined f (take at xs) ++ (with_row (f x) q ++ joined f (drop (suc at) xs))
@@ -223,7 +237,7 @@ pub without-at : {X : Type 0} (f : X → List (List ℕ)) (xs : List X) (q : Lis
 without-at f xs q at x place is =
     ap (λ t. without_row t q) (joined-at f xs at x place.within is) ∙ without-middle (joined f (take at xs)) (f x) (joined f (drop (suc at) xs)) q place.before place.after
 
--- a part of ascending rows ascends
+-- an entry of ascending rows ascends
 pub ascending-at : {X : Type 0} (f : X → List (List ℕ)) (xs : List X) (at : ℕ) (x : X) → IsAscending (joined f xs) → at < length xs → x ≡ get_or xs at x → IsAscending (f x)
 ascending-at f xs at x up lt is =
     ascending-left (f x) (joined f (drop (suc at) xs)) (ascending-right (joined f (take at xs)) (f x ++ joined f (drop (suc at) xs)) (subst IsAscending (joined-at f xs at x lt is) up))
@@ -258,7 +272,7 @@ first-head : (b : List (List ℕ)) (q r : List ℕ) → AllByRecursion (λ s. is
 first-head [] q r h first = absurd first
 first-head (x ∷ b) q r h first = rw h.0 (ap Some first)
 
--- none in the part: the first row of the next part
+-- none in the entry: the first row of the next entry
 pub first-at-next : {X : Type 0} (f : X → List (List ℕ)) (xs : List X) (q r : List ℕ) (at : ℕ) (x y : X) → IsNear f xs q at → x ≡ get_or xs at x
     → first_from (f x) q ≡ None → suc at < length xs → y ≡ get_or xs (suc at) y → IsFirst (f y) r → first_from (joined f xs) q ≡ Some r
 first-at-next f xs q r at x y near is none lt next first =
@@ -272,13 +286,13 @@ drop_past [] (suc n) le = refl
 drop_past (x ∷ xs) zero le = absurd (omega arith)
 drop_past (x ∷ xs) (suc n) le = drop_past xs n (omega arith)
 
--- none in the last part: none at all
+-- none in the last entry: none at all
 pub first-at-end : {X : Type 0} (f : X → List (List ℕ)) (xs : List X) (q : List ℕ) (at : ℕ) (x : X) → IsNear f xs q at → x ≡ get_or xs at x
     → first_from (f x) q ≡ None → length xs ≤ suc at → first_from (joined f xs) q ≡ None
 first-at-end f xs q at x near is none le =
     first-at-none f xs q at x near is none ∙ ap (λ t. first_from (joined f t) q) (drop_past xs (suc at) le)
 
--- what is found in the part, else at the head of the next, is what is found in all
+-- what is found in the entry, else at the head of the next, is what is found in all
 pub found-or_next : {X : Type 0} (f : X → List (List ℕ)) (xs : List X) (q : List ℕ) (at : ℕ) (x : X) (found result : Option (List ℕ)) → IsNear f xs q at → x ≡ get_or xs at x
     → found ≡ first_from (f x) q → IsOrNext f xs at found result → result ≡ first_from (joined f xs) q
 found-or_next f xs q at x (Some r) result near is e h = h ∙ sym (first-at-some f xs q r at x near is (sym e))
@@ -317,7 +331,7 @@ from_not_below (y ∷ b) r q up first h =
         by Equal e = refl
         by Greater e = refl
 
--- where a part doesn't begin below q, no row from there on is below q
+-- where an entry doesn't begin below q, no row from there on is below q
 pub behind-next : {X : Type 0} (f : X → List (List ℕ)) (xs : List X) (q r : List ℕ) (at : ℕ) (x : X) → IsAscending (joined f xs) → at < length xs → x ≡ get_or xs at x
     → IsFirst (f x) r → is_lt (row_cmp r q) ≡ false → AllByRecursion (λ s. is_lt (row_cmp s q) ≡ false) (joined f (drop at xs))
 behind-next f xs q r at x up lt is first not_less =

@@ -1,4 +1,4 @@
--- Edits that are laid on parts of ascending rows.
+-- Edits that are laid on entries of ascending rows.
 use Rattle.std.proofs.Common.{◌≡◌, ℕ, zero, suc, ◌+◌, ◌<◌, Bool, true, false, cond, not, ◌||◌, length, get_or, take, drop, List, [], ◌∷◌, ◌++◌, refl, sym, ap, ◌∙◌, subst, arith, append_assoc, append-nil, length-append, fold}
 use Rattle.std.specs.List.{AllByRecursion}
 use Rattle.std.specs.declared.cmp.Ordering.{Ordering}
@@ -9,7 +9,7 @@ use Rattle.lt_face.specs.Rows.{row_cmp, IsAscending, has_row, with_row}
 use Rattle.lt_face.proofs.RowLemmas.{rows_total, rows_exact, cmp_itself, each_weaker, less_back, greater_back, with_row-after, with_row-before, each_with_row, each_filter}
 use Rattle.lt_flat.specs.Flat.{kept}
 use Rattle.lt_flat.proofs.Merges.{after_none, kept_none}
-use Rattle.lt_shared.specs.Parts.{joined, IsFirst}
+use Rattle.lt_shared.specs.Entries.{joined, IsFirst}
 use Rattle.lt_shared.specs.Shared.{row_rows, root_rows}
 use Rattle.lt_shared.specs.Laid.{laid}
 use Rattle.lt_shared.proofs.Gathered.{joined-rows}
@@ -148,9 +148,9 @@ ascending-take (r ∷ rows) (suc n) up = (all-take (λ s. row_cmp r s ≡ Less) 
 pub take_ascends : (rows a : List (List ℕ)) (n : ℕ) → IsAscending rows → a ≡ take n rows → IsAscending a
 take_ascends rows a n up is = subst IsAscending (sym is) (ascending-take rows n up)
 
--- ---- the edits of one part of many
+-- ---- the edits of one entry of many
 
--- the part at a place, and those behind it: its rows are below the first row of the next part, theirs aren't
+-- the entry at a place, and those behind it: its rows are below the first row of the next entry, theirs aren't
 pub bulk-step : {X : Type 0} (f : X → List (List ℕ)) (xs : List X) (i j : ℕ) (x y : X) (first : List ℕ) (gone gone_here gone_behind come come_here come_behind old new : List (List ℕ))
     → IsAscending (joined f xs) → i < length xs → x ≡ get_or xs i x → j ≡ suc i → j < length xs → y ≡ get_or xs j y → IsFirst (f y) first
     → gone ≡ gone_here ++ gone_behind → AreUnder first gone_here → AreFrom first gone_behind
@@ -176,33 +176,33 @@ bulk-step f xs i j x y first gone gone_here gone_behind come come_here come_behi
     ∙ ap (λ t. old ++ laid (joined f (drop i xs)) t (come_here ++ come_behind)) (sym gone_is)
     ∙ ap (λ t. old ++ laid (joined f (drop i xs)) gone t) (sym come_is)
 
-pub met-step : {X : Type 0} (f : X → List (List ℕ)) (xs : List X) (i j : ℕ) (x : X) (come here behind old new part : List (List ℕ)) (met more sum all : ℕ)
-    → i < length xs → x ≡ get_or xs i x → j ≡ suc i → come ≡ here ++ behind → new ≡ old ++ part → length part + more ≡ length (f x) + length here → sum ≡ met + more
+pub met-step : {X : Type 0} (f : X → List (List ℕ)) (xs : List X) (i j : ℕ) (x : X) (come here behind old new entry : List (List ℕ)) (met more sum all : ℕ)
+    → i < length xs → x ≡ get_or xs i x → j ≡ suc i → come ≡ here ++ behind → new ≡ old ++ entry → length entry + more ≡ length (f x) + length here → sum ≡ met + more
     → length old + met + length (joined f (drop i xs)) + length come ≡ all → length new + sum + length (joined f (drop j xs)) + length behind ≡ all
-met-step f xs i j x come here behind old new part met more sum all lt is next come_is made part_is sum_is before =
+met-step f xs i j x come here behind old new entry met more sum all lt is next come_is made entry_is sum_is before =
     let a : length (joined f (drop i xs)) ≡ length (f x) + length (joined f (drop (suc i) xs)) = ap (λ t. length (joined f t)) (drop-at xs i x lt is) ∙ length-append (f x) (joined f (drop (suc i) xs)) in
     let b : length (joined f (drop j xs)) ≡ length (joined f (drop (suc i) xs)) = ap (λ k. length (joined f (drop k xs))) next in
     let d : length come ≡ length here + length behind = ap length come_is ∙ length-append here behind in
-    let e : length new ≡ length old + length part = ap length made ∙ length-append old part in
-    omega (arith, a, b, d, e, part_is, sum_is, before)
+    let e : length new ≡ length old + length entry = ap length made ∙ length-append old entry in
+    omega (arith, a, b, d, e, entry_is, sum_is, before)
 
--- the last part is all that is left
-last-part : {X : Type 0} (f : X → List (List ℕ)) (xs : List X) (i : ℕ) (x : X) → i + 1 ≡ length xs → x ≡ get_or xs i x → joined f (drop i xs) ≡ f x
-last-part f xs i x last is =
+-- the last entry is all that is left
+last-entry : {X : Type 0} (f : X → List (List ℕ)) (xs : List X) (i : ℕ) (x : X) → i + 1 ≡ length xs → x ≡ get_or xs i x → joined f (drop i xs) ≡ f x
+last-entry f xs i x last is =
     let lt : i < length xs = omega arith in
     ap (joined f) (drop-at xs i x lt is) ∙ ap (λ t. f x ++ joined f t) (drop_past xs (suc i) (omega arith)) ∙ append-nil (f x)
 
 pub bulk-last : {X : Type 0} (f : X → List (List ℕ)) (xs : List X) (i : ℕ) (x : X) (gone come old new all : List (List ℕ)) → i + 1 ≡ length xs → x ≡ get_or xs i x
     → new ≡ old ++ laid (f x) gone come → old ++ laid (joined f (drop i xs)) gone come ≡ all → new ≡ all
-bulk-last f xs i x gone come old new all last is made before = made ∙ ap (λ t. old ++ laid t gone come) (sym (last-part f xs i x last is)) ∙ before
+bulk-last f xs i x gone come old new all last is made before = made ∙ ap (λ t. old ++ laid t gone come) (sym (last-entry f xs i x last is)) ∙ before
 
-pub met-last : {X : Type 0} (f : X → List (List ℕ)) (xs : List X) (i : ℕ) (x : X) (come old new part : List (List ℕ)) (met more sum all : ℕ) → i + 1 ≡ length xs → x ≡ get_or xs i x
-    → new ≡ old ++ part → length part + more ≡ length (f x) + length come → sum ≡ met + more
+pub met-last : {X : Type 0} (f : X → List (List ℕ)) (xs : List X) (i : ℕ) (x : X) (come old new entry : List (List ℕ)) (met more sum all : ℕ) → i + 1 ≡ length xs → x ≡ get_or xs i x
+    → new ≡ old ++ entry → length entry + more ≡ length (f x) + length come → sum ≡ met + more
     → length old + met + length (joined f (drop i xs)) + length come ≡ all → length new + sum ≡ all
-met-last f xs i x come old new part met more sum all last is made part_is sum_is before =
-    let a : length (joined f (drop i xs)) ≡ length (f x) = ap length (last-part f xs i x last is) in
-    let e : length new ≡ length old + length part = ap length made ∙ length-append old part in
-    omega (arith, a, e, part_is, sum_is, before)
+met-last f xs i x come old new entry met more sum all last is made entry_is sum_is before =
+    let a : length (joined f (drop i xs)) ≡ length (f x) = ap length (last-entry f xs i x last is) in
+    let e : length new ≡ length old + length entry = ap length made ∙ length-append old entry in
+    omega (arith, a, e, entry_is, sum_is, before)
 
 -- ---- the edits of one row
 

@@ -1,7 +1,7 @@
 -- What a `SharedRows` is seen as.
 use Rattle.std.specs.Prelude.{◌≡◌, ◌<◌, ◌≤◌, ◌==◌, ◌⊎◌, ℕ, suc, true, length, List, [], ◌∷◌}
 use Rattle.std.specs.List.{list_any}
-use Rattle.lt_shared.specs.Parts.{joined}
+use Rattle.lt_shared.specs.Entries.{joined}
 
 -- the one row of a row
 abbrev pub row_rows : List ℕ → List (List ℕ)

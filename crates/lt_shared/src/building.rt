@@ -1,25 +1,25 @@
-//! Levels of many parts at once.
+//! Levels of many entries at once.
 ghost use Rattle.std.specs.Prelude.{◌≡◌, ◌<◌, ◌≤◌, ◌+◌, ◌*◌, ◌/◌, ◌++◌, length, IfOk};
-ghost use Rattle.lt_shared.specs.Parts.{joined, level_rows};
+ghost use Rattle.lt_shared.specs.Entries.{joined, level_rows};
 ghost use Rattle.lt_shared.specs.Shared.{root_rows};
 
+use crate::entry::Entry;
 use crate::level::{LIMIT, Level, Node};
-use crate::part::Part;
 use lt_face::{NoMemory, Row};
 use std::alloc::Global;
 
-/// One part more: in the list that is being gathered, or as the first of the next, where that one has its share.
-fn add_part<T: Part>(
+/// One entry more: in the list that is being gathered, or as the first of the next, where that one has its share.
+fn add_entry<T: Entry>(
     alloc: Global,
     levels: &mut Vec<Level<T>>,
     group: Vec<T>,
-    part: T,
+    entry: T,
     share: usize,
 ) -> Result<Vec<T>, NoMemory>
     requires some { 0 < share }
     requires limit { share ≤ 64 }
     requires bound { length group.items ≤ share }
-    ensures rows { IfOk result (λ next. level_rows T.rows levels.new.items next.items ≡ level_rows T.rows levels.old.items group.items ++ T.rows part) }
+    ensures rows { IfOk result (λ next. level_rows T.rows levels.new.items next.items ≡ level_rows T.rows levels.old.items group.items ++ T.rows entry) }
     ensures count { share ≡ 64 → IfOk result (λ next. 64 * length levels.new.items + length next.items ≡ 64 * length levels.old.items + length group.items + 1) }
     ensures some { IfOk result (λ next. 0 < length next.items) }
     ensures bound { IfOk result (λ next. length next.items ≤ share) }
@@ -28,16 +28,16 @@ fn add_part<T: Part>(
         let level = Level::of(alloc, group)?;
         levels.push(level)?;
         let mut next = Vec::with_capacity(alloc, share)?;
-        next.push(part)?;
+        next.push(entry)?;
         return Ok(next);
     }
     let mut next = group;
-    next.push(part)?;
+    next.push(entry)?;
     Ok(next)
 }
 
 /// The levels, and one more of what was gathered last, if there is any.
-fn finished<T: Part>(
+fn finished<T: Entry>(
     alloc: Global,
     levels: Vec<Level<T>>,
     group: Vec<T>,
@@ -56,21 +56,21 @@ fn finished<T: Part>(
     Ok(out)
 }
 
-/// Levels of so many parts each, and the last of what is left.
-pub fn levels<T: Part>(
+/// Levels of so many entries each, and the last of what is left.
+pub fn levels<T: Entry>(
     alloc: Global,
-    parts: Vec<T>,
+    entries: Vec<T>,
     share: usize,
 ) -> Result<Vec<Level<T>>, NoMemory>
     requires some { 0 < share }
     requires limit { share ≤ 64 }
-    ensures rows { IfOk result (λ out. joined (λ level. joined T.rows level) out.items ≡ joined T.rows parts.items) }
-    ensures count { share ≡ 64 → IfOk result (λ out. length out.items ≡ (length parts.items + 63) / 64) }
+    ensures rows { IfOk result (λ out. joined (λ level. joined T.rows level) out.items ≡ joined T.rows entries.items) }
+    ensures count { share ≡ 64 → IfOk result (λ out. length out.items ≡ (length entries.items + 63) / 64) }
 {
     let mut out = Vec::new(alloc);
-    let mut group = Vec::with_capacity(alloc, share.min(parts.len()))?;
-    for part in parts {
-        group = add_part(alloc, &mut out, group, part, share)?;
+    let mut group = Vec::with_capacity(alloc, share.min(entries.len()))?;
+    for entry in entries {
+        group = add_entry(alloc, &mut out, group, entry, share)?;
     }
     let all = finished(alloc, out, group)?;
     Ok(all)
@@ -86,46 +86,46 @@ pub fn nodes_of(alloc: Global, rows: Vec<Row>) -> Result<Vec<Node>, NoMemory>
     Ok(nodes)
 }
 
-/// How many parts of a list that edits touch stay together: a row's page is cut small where few rows come, so that the next edit of
+/// How many entries of a list that edits touch stay together: a row's page is cut small where few rows come, so that the next edit of
 /// one of them copies few.
-fn together<T: Part>(parts: usize) -> usize
+fn together<T: Entry>(entries: usize) -> usize
     ensures { result ≤ 64 }
 {
-    if parts > 2 * LIMIT {
+    if entries > 2 * LIMIT {
         return LIMIT;
     }
     T::together()
 }
 
-/// How many parts each list gets where so many are cut up: about three quarters of those that stay together.
-fn fair_share(parts: usize, together: usize) -> usize
+/// How many entries each list gets where so many are cut up: about three quarters of those that stay together.
+fn fair_share(entries: usize, together: usize) -> usize
     ensures some { 0 < result }
     ensures limit { result ≤ 64 }
 {
     let aim = (together / 4).saturating_mul(3).max(1);
-    let lists = (parts / aim).saturating_add(1);
-    (parts / lists).saturating_add(1).min(LIMIT)
+    let lists = (entries / aim).saturating_add(1);
+    (entries / lists).saturating_add(1).min(LIMIT)
 }
 
-/// Puts the levels of these parts behind others: one, where they stay together.
-pub fn push_levels<T: Part>(
+/// Puts the levels of these entries behind others: one, where they stay together.
+pub fn push_levels<T: Entry>(
     alloc: Global,
-    parts: Vec<T>,
+    entries: Vec<T>,
     out: &mut Vec<Level<T>>,
 ) -> Result<(), NoMemory>
-    ensures { IfOk result (λ _. joined (λ level. joined T.rows level) out.new.items ≡ joined (λ level. joined T.rows level) out.old.items ++ joined T.rows parts.items) }
+    ensures { IfOk result (λ _. joined (λ level. joined T.rows level) out.new.items ≡ joined (λ level. joined T.rows level) out.old.items ++ joined T.rows entries.items) }
 {
-    if parts.is_empty() {
+    if entries.is_empty() {
         return Ok(());
     }
-    let together = together::<T>(parts.len());
-    if parts.len() <= together {
-        let level = Level::of(alloc, parts)?;
+    let together = together::<T>(entries.len());
+    if entries.len() <= together {
+        let level = Level::of(alloc, entries)?;
         out.push(level)?;
         return Ok(());
     }
-    let share = fair_share(parts.len(), together);
-    let mut all = levels(alloc, parts, share)?;
+    let share = fair_share(entries.len(), together);
+    let mut all = levels(alloc, entries, share)?;
     out.append(&mut all)?;
     Ok(())
 }

@@ -1,22 +1,22 @@
-//! Edits that are laid on a list of parts in one pass: what they don't touch is shared.
+//! Edits that are laid on a list of entries in one pass: what they don't touch is shared.
 ghost use Rattle.std.specs.Prelude.{◌≡◌, ◌<◌, ◌≤◌, ◌+◌, false, ◌||◌, ◌++◌, take, drop, length, IfOk, OnOk};
 ghost use Rattle.std.specs.List.{AllByRecursion};
 ghost use Rattle.std.specs.Ordering.{is_lt};
 ghost use Rattle.std.specs.declared.cmp.Ordering.TheVariants.{Less};
 ghost use Rattle.lt_face.specs.Rows.{IsAscending, has_row, row_cmp};
-ghost use Rattle.lt_shared.specs.Parts.{joined};
+ghost use Rattle.lt_shared.specs.Entries.{joined};
 ghost use Rattle.lt_shared.specs.Laid.{laid};
 ghost use Rattle.lt_shared.specs.Shared.{root_rows};
 
 use crate::building::{nodes_of, push_levels};
+use crate::entry::Entry;
 use crate::level::{Level, Node};
-use crate::part::Part;
 use lt_face::{NoMemory, Row};
 use std::alloc::Global;
 
-/// A part on which edits can be laid.
-pub trait Bulk: Part {
-    /// Puts what the part becomes without some rows, and then with others, behind the parts of `out`. Answers how many of
+/// An entry on which edits can be laid.
+pub trait Bulk: Entry {
+    /// Puts what the entry becomes without some rows, and then with others, behind the entries of `out`. Answers how many of
     /// its rows are among either.
     fn bulk(
         &self,
@@ -117,26 +117,26 @@ impl Bulk for Row {
     }
 }
 
-/// Puts what the part becomes behind the parts of `out`: the same part where nothing is laid on it.
-fn bulk_part<T: Bulk>(
+/// Puts what the entry becomes behind the entries of `out`: the same entry where nothing is laid on it.
+fn bulk_entry<T: Bulk>(
     alloc: Global,
-    part: &T,
+    entry: &T,
     gone: &[Row],
     come: &[Row],
     out: &mut Vec<T>,
 ) -> Result<usize, NoMemory>
-    requires rises { IsAscending (T.rows part.now) }
+    requires rises { IsAscending (T.rows entry.now) }
     requires gone { IsAscending gone.now }
     requires come { IsAscending come.now }
-    ensures rows { IfOk result (λ _. joined T.rows out.new.items ≡ joined T.rows out.old.items ++ laid (T.rows part.now) gone.now come.now) }
-    ensures met { IfOk result (λ met. length (laid (T.rows part.now) gone.now come.now) + met ≡ length (T.rows part.now) + length come.now) }
+    ensures rows { IfOk result (λ _. joined T.rows out.new.items ≡ joined T.rows out.old.items ++ laid (T.rows entry.now) gone.now come.now) }
+    ensures met { IfOk result (λ met. length (laid (T.rows entry.now) gone.now come.now) + met ≡ length (T.rows entry.now) + length come.now) }
 {
     if gone.is_empty() && come.is_empty() {
-        let same = part.share()?;
+        let same = entry.share()?;
         out.push(same)?;
         return Ok(0);
     }
-    let met = part.bulk(alloc, gone, come, out)?;
+    let met = entry.bulk(alloc, gone, come, out)?;
     Ok(met)
 }
 
@@ -150,38 +150,38 @@ fn sum(a: usize, b: usize) -> Result<usize, NoMemory>
     }
 }
 
-/// The parts with edits laid on them, and how many of their rows are among the edits.
+/// The entries with edits laid on them, and how many of their rows are among the edits.
 fn bulk_among<T: Bulk>(
     alloc: Global,
-    parts: &[T],
+    entries: &[T],
     gone: &[Row],
     come: &[Row],
 ) -> Result<(Vec<T>, usize), NoMemory>
-    requires rises { IsAscending (joined T.rows parts.now) }
-    requires some { 0 < length parts.now }
+    requires rises { IsAscending (joined T.rows entries.now) }
+    requires some { 0 < length entries.now }
     requires gone { IsAscending gone.now }
     requires come { IsAscending come.now }
-    ensures rows { IfOk result (λ out. joined T.rows out.0.items ≡ laid (joined T.rows parts.now) gone.now come.now) }
-    ensures met { IfOk result (λ out. length (joined T.rows out.0.items) + out.1 ≡ length (joined T.rows parts.now) + length come.now) }
+    ensures rows { IfOk result (λ out. joined T.rows out.0.items ≡ laid (joined T.rows entries.now) gone.now come.now) }
+    ensures met { IfOk result (λ out. length (joined T.rows out.0.items) + out.1 ≡ length (joined T.rows entries.now) + length come.now) }
 {
-    let mut out = Vec::with_capacity(alloc, parts.len().saturating_add(come.len()))?;
+    let mut out = Vec::with_capacity(alloc, entries.len().saturating_add(come.len()))?;
     let mut met: usize = 0;
     let mut gone_rest = gone;
     let mut come_rest = come;
-    let last = parts.len() - 1;
+    let last = entries.len() - 1;
     for i in 0..last {
-        let part = &parts[i];
-        let next = &parts[i + 1];
+        let entry = &entries[i];
+        let next = &entries[i + 1];
         let head = next.first();
         let (gone_here, gone_behind) = parted(gone_rest, head);
         let (come_here, come_behind) = parted(come_rest, head);
-        let more = bulk_part(alloc, part, gone_here, come_here, &mut out)?;
+        let more = bulk_entry(alloc, entry, gone_here, come_here, &mut out)?;
         met = sum(met, more)?;
         gone_rest = gone_behind;
         come_rest = come_behind;
     }
-    let part = &parts[last];
-    let rest = bulk_part(alloc, part, gone_rest, come_rest, &mut out)?;
+    let entry = &entries[last];
+    let rest = bulk_entry(alloc, entry, gone_rest, come_rest, &mut out)?;
     let all = sum(met, rest)?;
     Ok((out, all))
 }
@@ -194,8 +194,8 @@ impl<T: Bulk> Bulk for Level<T> {
         come: &[Row],
         out: &mut Vec<Level<T>>,
     ) -> Result<usize, NoMemory> {
-        let (parts, met) = bulk_among(alloc, self.parts(), gone, come)?;
-        push_levels(alloc, parts, out)?;
+        let (entries, met) = bulk_among(alloc, self.entries(), gone, come)?;
+        push_levels(alloc, entries, out)?;
         Ok(met)
     }
 }

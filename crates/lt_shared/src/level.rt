@@ -1,26 +1,26 @@
-//! A list of 1 to 64 parts that may have several owners: a page is one of rows, a node one of pages.
+//! A list of 1 to 64 entries that may have several owners: a page is one of rows, a node one of pages.
 ghost use Rattle.std.specs.Prelude.{◌≡◌, ◌<◌, ◌≤◌, ◌+◌, ◌==◌, ◌++◌, ◌∷◌, [], true, false, length, take, drop, IfOk};
 ghost use Rattle.std.specs.List.{AllByRecursion};
 ghost use Rattle.std.specs.Option.{option_copied};
 ghost use Rattle.lt_face.specs.Rows.{IsAscending};
-ghost use Rattle.lt_shared.specs.Parts.{joined, AreAllBelow, AreNoneBelow, IsFirst, IsNear, IsOrNext};
+ghost use Rattle.lt_shared.specs.Entries.{joined, AreAllBelow, AreNoneBelow, IsFirst, IsNear, IsOrNext};
 
 use crate::edit::{put_among, take_among};
-use crate::part::{Part, Put, Taken};
-use crate::search::{has_among, least_among};
-use lt_face::{Key, Moves, Near, NoMemory, Row};
+use crate::entry::{Entry, Put, Taken};
+use crate::search::{has_among, least_among, row_along};
+use lt_face::{Fraction, Key, Moves, Near, NoMemory, Row};
 use lt_flat::is_below;
 use std::alloc::Global;
 use std::marker::Model;
 use std::sync::Arc;
 
-/// How many parts a list has at most.
+/// How many entries a list has at most.
 pub const LIMIT: usize = 64;
 
-/// A list of 1 to 64 parts.
+/// A list of 1 to 64 entries.
 #[derive(Drop)]
-pub struct Level<T: Part> {
-    parts: Arc<Vec<T>>,
+pub struct Level<T: Entry> {
+    entries: Arc<Vec<T>>,
 }
 
 /// Rows.
@@ -29,81 +29,81 @@ pub type Page = Level<Row>;
 /// Pages.
 pub type Node = Level<Page>;
 
-impl<T: Part> Model for Level<T> {
+impl<T: Entry> Model for Level<T> {
     ghost use Rattle.std.specs.Prelude.{List, ◌<◌, ◌≤◌, length};
     ghost use Rattle.std.specs.Arc.{arc_value};
 
     ghost Value = { List T };
 
-    ghost view = { λ s. (arc_value s.parts).items };
+    ghost view = { λ s. (arc_value s.entries).items };
 
-    ghost invariant = { λ s. (0 < length (arc_value s.parts).items) × (length (arc_value s.parts).items ≤ 64) };
+    ghost invariant = { λ s. (0 < length (arc_value s.entries).items) × (length (arc_value s.entries).items ≤ 64) };
 }
 
-impl<T: Part> Level<T> {
-    /// The level of these parts.
-    pub fn of(alloc: Global, parts: Vec<T>) -> Result<Level<T>, NoMemory>
-        requires some { 0 < length parts.items }
-        requires bound { length parts.items ≤ 64 }
-        ensures { IfOk result (λ level. level ≡ parts.items) }
+impl<T: Entry> Level<T> {
+    /// The level of these entries.
+    pub fn of(alloc: Global, entries: Vec<T>) -> Result<Level<T>, NoMemory>
+        requires some { 0 < length entries.items }
+        requires bound { length entries.items ≤ 64 }
+        ensures { IfOk result (λ level. level ≡ entries.items) }
     {
-        let parts = Arc::new(alloc, parts)?;
-        Ok(Level { parts })
+        let entries = Arc::new(alloc, entries)?;
+        Ok(Level { entries })
     }
 
-    /// The parts.
-    pub fn parts(&self) -> &[T]
-        ensures parts { result.now ≡ self.now }
+    /// The entries.
+    pub fn entries(&self) -> &[T]
+        ensures entries { result.now ≡ self.now }
         ensures some { 0 < length self.now }
     {
-        &self.parts
+        &self.entries
     }
 
-    /// The first row of the first part.
+    /// The first row of the first entry.
     fn first_row(&self) -> &Row
         ensures { IsFirst (joined T.rows self.now) result.now }
     {
-        let part = &self.parts[0];
-        part.first()
+        let entry = &self.entries[0];
+        entry.first()
     }
 }
 
-/// Whether the parts before this place lie below the prefix and then the bound: there is none, or the part there begins below
+/// Whether the entries before this place lie below the prefix and then the bound: there is none, or the entry there begins below
 /// it. Else no row from there on does.
-fn is_behind<T: Part>(parts: &[Level<T>], at: usize, prefix: &[Key], bound: Key) -> bool
-    requires rises { IsAscending (joined (λ level. joined T.rows level) parts.now) }
-    requires wide { AllByRecursion (λ row. length prefix.now < length row) (joined (λ level. joined T.rows level) parts.now) }
-    requires within { at < length parts.now }
-    ensures below { result ≡ true → AreAllBelow (prefix.now ++ bound ∷ []) (joined (λ level. joined T.rows level) (take at parts.now)) }
-    ensures above { result ≡ false → (0 < at) × AreNoneBelow (prefix.now ++ bound ∷ []) (joined (λ level. joined T.rows level) (drop at parts.now)) }
+fn is_behind<T: Entry>(entries: &[Level<T>], at: usize, prefix: &[Key], bound: Key) -> bool
+    requires rises { IsAscending (joined (λ level. joined T.rows level) entries.now) }
+    requires wide { AllByRecursion (λ row. length prefix.now < length row) (joined (λ level. joined T.rows level) entries.now) }
+    requires within { at < length entries.now }
+    ensures below { result ≡ true → AreAllBelow (prefix.now ++ bound ∷ []) (joined (λ level. joined T.rows level) (take at entries.now)) }
+    ensures above { result ≡ false → (0 < at) × AreNoneBelow (prefix.now ++ bound ∷ []) (joined (λ level. joined T.rows level) (drop at entries.now)) }
 {
     if at == 0 {
         return true;
     }
-    let part = &parts[at];
-    is_below(part.first_row(), prefix, bound)
+    let entry = &entries[at];
+    is_below(entry.first_row(), prefix, bound)
 }
 
-/// The place of the part in which the least row that is at least the prefix and then the bound lies, or behind which it begins,
+/// The place of the entry in which the least row that is at least the prefix and then the bound lies, or behind which it begins,
 /// where it is known to lie from `low` to `high`.
-fn place_between<T: Part>(
-    parts: &[Level<T>],
+fn place_between<T: Entry>(
+    entries: &[Level<T>],
     mut low: usize,
     mut high: usize,
     prefix: &[Key],
     bound: Key,
 ) -> usize
-    requires rises { IsAscending (joined (λ level. joined T.rows level) parts.now) }
-    requires wide { AllByRecursion (λ row. length prefix.now < length row) (joined (λ level. joined T.rows level) parts.now) }
+    requires rises { IsAscending (joined (λ level. joined T.rows level) entries.now) }
+    requires wide { AllByRecursion (λ row. length prefix.now < length row) (joined (λ level. joined T.rows level) entries.now) }
     requires order { low < high }
-    requires within { high ≤ length parts.now }
-    requires below { AreAllBelow (prefix.now ++ bound ∷ []) (joined (λ level. joined T.rows level) (take low parts.now)) }
-    requires above { AreNoneBelow (prefix.now ++ bound ∷ []) (joined (λ level. joined T.rows level) (drop high parts.now)) }
-    ensures { IsNear (λ level. joined T.rows level) parts.now (prefix.now ++ bound ∷ []) result }
+    requires within { high ≤ length entries.now }
+    requires below { AreAllBelow (prefix.now ++ bound ∷ []) (joined (λ level. joined T.rows level) (take low entries.now)) }
+    requires above { AreNoneBelow (prefix.now ++ bound ∷ []) (joined (λ level. joined T.rows level) (drop high entries.now)) }
+    ensures { IsNear (λ level. joined T.rows level) entries.now (prefix.now ++ bound ∷ []) result }
 {
     while high - low > 1 {
         let middle = low + (high - low) / 2;
-        if is_behind(parts, middle, prefix, bound) {
+        if is_behind(entries, middle, prefix, bound) {
             low = middle;
         } else {
             high = middle;
@@ -112,47 +112,51 @@ fn place_between<T: Part>(
     low
 }
 
-/// The place of the part in which the least row that is at least the prefix and then the bound lies, or behind which it
-/// begins: a hint and the part behind it are tried first.
-fn place_near<T: Part>(parts: &[Level<T>], hint: usize, prefix: &[Key], bound: Key) -> usize
-    requires rises { IsAscending (joined (λ level. joined T.rows level) parts.now) }
-    requires wide { AllByRecursion (λ row. length prefix.now < length row) (joined (λ level. joined T.rows level) parts.now) }
-    requires some { 0 < length parts.now }
-    ensures { IsNear (λ level. joined T.rows level) parts.now (prefix.now ++ bound ∷ []) result }
+/// The place of the entry in which the least row that is at least the prefix and then the bound lies, or behind which it
+/// begins: a hint and the entry behind it are tried first.
+fn place_near<T: Entry>(entries: &[Level<T>], hint: usize, prefix: &[Key], bound: Key) -> usize
+    requires rises { IsAscending (joined (λ level. joined T.rows level) entries.now) }
+    requires wide { AllByRecursion (λ row. length prefix.now < length row) (joined (λ level. joined T.rows level) entries.now) }
+    requires some { 0 < length entries.now }
+    ensures { IsNear (λ level. joined T.rows level) entries.now (prefix.now ++ bound ∷ []) result }
 {
-    let all = parts.len();
+    let all = entries.len();
     let at = hint.min(all - 1);
-    if !is_behind(parts, at, prefix, bound) {
-        return place_between(parts, 0, at, prefix, bound);
+    if !is_behind(entries, at, prefix, bound) {
+        return place_between(entries, 0, at, prefix, bound);
     }
     let next = at + 1;
     if next == all {
         return at;
     }
-    if is_behind(parts, next, prefix, bound) {
-        return place_between(parts, next, all, prefix, bound);
+    if is_behind(entries, next, prefix, bound) {
+        return place_between(entries, next, all, prefix, bound);
     }
     at
 }
 
-/// What a search in one part found, else the first row of the next part.
-fn or_next<'a, T: Part>(parts: &'a [Level<T>], at: usize, found: Option<&'a Row>) -> Option<&'a Row>
-    requires { at < length parts.now }
-    ensures { IsOrNext (λ level. joined T.rows level) parts.now at (option_copied found.entry) (option_copied result) }
+/// What a search in one entry found, else the first row of the next entry.
+fn or_next<'a, T: Entry>(
+    entries: &'a [Level<T>],
+    at: usize,
+    found: Option<&'a Row>,
+) -> Option<&'a Row>
+    requires { at < length entries.now }
+    ensures { IsOrNext (λ level. joined T.rows level) entries.now at (option_copied found.entry) (option_copied result) }
 {
     match found {
         Some(row) => Some(row),
         None => {
-            if parts.len() - 1 <= at {
+            if entries.len() - 1 <= at {
                 return None;
             }
-            let part = &parts[at + 1];
-            Some(part.first_row())
+            let entry = &entries[at + 1];
+            Some(entry.first_row())
         }
     }
 }
 
-/// The places in the lists of one part, of the places in a list of parts.
+/// The places in the lists of one entry, of the places in a list of entries.
 #[inline]
 fn below(near: &Near) -> Near {
     Near {
@@ -167,7 +171,7 @@ fn above(lower: &Near) -> usize {
     lower.list.wrapping_mul(64).wrapping_add(lower.at)
 }
 
-impl<T: Part> Part for Level<T> {
+impl<T: Entry> Entry for Level<T> {
     ghost rows = { λ s. joined T.rows s };
 
     ghost is_full = { λ s. length s == 64 };
@@ -179,48 +183,52 @@ impl<T: Part> Part for Level<T> {
     }
 
     fn has(&self, row: &Row) -> bool {
-        has_among(&self.parts, row)
+        has_among(&self.entries, row)
     }
 
     fn row_at_least(&self, from: &Row) -> Option<&Row> {
-        least_among(&self.parts, from)
+        least_among(&self.entries, from)
     }
 
     /// `near.at` is the place in this list, and `near.list` has the places in the lists below it, in digits of 64.
     fn row_near<'a>(
-        parts: &'a [Level<T>],
+        entries: &'a [Level<T>],
         near: &mut Near,
         prefix: &[Key],
         bound: Key,
     ) -> Option<&'a Row> {
-        if parts.is_empty() {
+        if entries.is_empty() {
             return None;
         }
-        let at = place_near(parts, near.at, prefix, bound);
+        let at = place_near(entries, near.at, prefix, bound);
         let mut lower = below(near);
-        let part = &parts[at];
-        let found = T::row_near(part.parts(), &mut lower, prefix, bound);
+        let entry = &entries[at];
+        let found = T::row_near(entry.entries(), &mut lower, prefix, bound);
         near.list = above(&lower);
         near.at = at;
-        or_next(parts, at, found)
+        or_next(entries, at, found)
     }
 
     #[inline]
     fn row_here<'a>(
-        parts: &'a [Level<T>],
+        entries: &'a [Level<T>],
         near: &mut Near,
         prefix: &[Key],
         bound: Key,
     ) -> Option<&'a Row> {
         let at = near.at;
-        if parts.len() <= at {
+        if entries.len() <= at {
             return None;
         }
-        let part = &parts[at];
+        let entry = &entries[at];
         let mut lower = below(near);
-        let found = T::row_here(part.parts(), &mut lower, prefix, bound);
+        let found = T::row_here(entry.entries(), &mut lower, prefix, bound);
         near.list = above(&lower);
         found
+    }
+
+    fn row_about(&self, along: Fraction) -> &Row {
+        row_along(&self.entries, along)
     }
 
     fn together() -> usize {
@@ -228,13 +236,13 @@ impl<T: Part> Part for Level<T> {
     }
 
     fn share(&self) -> Result<Level<T>, NoMemory> {
-        let parts = self.parts.clone()?;
-        Ok(Level { parts })
+        let entries = self.entries.clone()?;
+        Ok(Level { entries })
     }
 
     fn put<L>(&mut self, row: Row, made: &mut Moves<L>) -> Result<Put<Level<T>>, NoMemory> {
-        let alloc = *self.parts.allocator();
-        let put = put_among(&mut self.parts, row, LIMIT, made)?;
+        let alloc = *self.entries.allocator();
+        let put = put_among(&mut self.entries, row, LIMIT, made)?;
         match put {
             Put::Was => Ok(Put::Was),
             Put::Fits => Ok(Put::Fits),
@@ -247,7 +255,7 @@ impl<T: Part> Part for Level<T> {
     }
 
     fn take_out<L>(&mut self, row: &Row, made: &mut Moves<L>) -> Result<Taken, NoMemory> {
-        let taken = take_among(&mut self.parts, row, made)?;
+        let taken = take_among(&mut self.entries, row, made)?;
         Ok(taken)
     }
 }

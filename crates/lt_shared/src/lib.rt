@@ -4,8 +4,8 @@
 mod building;
 mod bulk;
 mod edit;
+mod entry;
 mod level;
-mod part;
 mod root;
 mod search;
 mod shared_rows;

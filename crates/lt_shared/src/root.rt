@@ -5,8 +5,8 @@ ghost use Rattle.lt_face.specs.Rows.{IsAscending, has_row, with_row, without_row
 ghost use Rattle.lt_shared.specs.Shared.{root_rows, IsGrown};
 
 use crate::edit::{put_among, take_among};
+use crate::entry::{Put, Taken};
 use crate::level::{Level, Node};
-use crate::part::{Put, Taken};
 use lt_face::{Moves, NoMemory, Row};
 use std::alloc::Global;
 use std::sync::Arc;

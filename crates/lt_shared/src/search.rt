@@ -1,25 +1,25 @@
-//! Where a row lies in a list of parts.
-ghost use Rattle.std.specs.Prelude.{◌≡◌, ◌<◌, [], ◌∷◌, ◌++◌, length};
+//! Where a row lies in a list of entries.
+ghost use Rattle.std.specs.Prelude.{◌≡◌, ◌<◌, [], ◌∷◌, ◌++◌, true, length};
 ghost use Rattle.std.specs.List.{AllByRecursion};
 ghost use Rattle.std.specs.Option.{option_copied};
 ghost use Rattle.lt_face.specs.Rows.{IsAscending, has_row, first_from};
-ghost use Rattle.lt_shared.specs.Parts.{joined, IsPlace, IsOrNext};
+ghost use Rattle.lt_shared.specs.Entries.{joined, IsPlace, IsOrNext};
 
-use crate::part::Part;
-use lt_face::{Key, Near, Row};
+use crate::entry::Entry;
+use lt_face::{Fraction, Key, Near, Row};
 
-/// The place of the last part whose first row is at most the row, or of the first part.
-pub fn place<T: Part>(parts: &[T], row: &Row) -> usize
-    requires rises { IsAscending (joined T.rows parts.now) }
-    requires some { 0 < length parts.now }
-    ensures { IsPlace T.rows parts.now row.now result }
+/// The place of the last entry whose first row is at most the row, or of the first entry.
+pub fn place<T: Entry>(entries: &[T], row: &Row) -> usize
+    requires rises { IsAscending (joined T.rows entries.now) }
+    requires some { 0 < length entries.now }
+    ensures { IsPlace T.rows entries.now row.now result }
 {
     let mut low = 0;
-    let mut high = parts.len();
+    let mut high = entries.len();
     while low < high {
         let middle = low + (high - low) / 2;
-        let part = &parts[middle];
-        if part.first().cmp(row).is_gt() {
+        let entry = &entries[middle];
+        if entry.first().cmp(row).is_gt() {
             high = middle;
         } else {
             low = middle + 1;
@@ -28,63 +28,73 @@ pub fn place<T: Part>(parts: &[T], row: &Row) -> usize
     low.saturating_sub(1)
 }
 
-/// Whether some part has the row.
-pub fn has_among<T: Part>(parts: &[T], row: &Row) -> bool
-    requires { IsAscending (joined T.rows parts.now) }
-    ensures { result ≡ has_row (joined T.rows parts.now) row.now }
+/// Whether some entry has the row.
+pub fn has_among<T: Entry>(entries: &[T], row: &Row) -> bool
+    requires { IsAscending (joined T.rows entries.now) }
+    ensures { result ≡ has_row (joined T.rows entries.now) row.now }
 {
-    if parts.is_empty() {
+    if entries.is_empty() {
         return false;
     }
-    let at = place(parts, row);
-    let part = &parts[at];
-    part.has(row)
+    let at = place(entries, row);
+    let entry = &entries[at];
+    entry.has(row)
 }
 
-/// What a search in one part found, else the first row of the next part.
-fn or_next<'a, T: Part>(parts: &'a [T], at: usize, found: Option<&'a Row>) -> Option<&'a Row>
-    requires { at < length parts.now }
-    ensures { IsOrNext T.rows parts.now at (option_copied found.entry) (option_copied result) }
+/// What a search in one entry found, else the first row of the next entry.
+fn or_next<'a, T: Entry>(entries: &'a [T], at: usize, found: Option<&'a Row>) -> Option<&'a Row>
+    requires { at < length entries.now }
+    ensures { IsOrNext T.rows entries.now at (option_copied found.entry) (option_copied result) }
 {
     match found {
         Some(row) => Some(row),
         None => {
-            if parts.len() - 1 <= at {
+            if entries.len() - 1 <= at {
                 return None;
             }
-            let part = &parts[at + 1];
-            Some(part.first())
+            let entry = &entries[at + 1];
+            Some(entry.first())
         }
     }
 }
 
-/// The least row of the parts that is at least `from`.
-pub fn least_among<'a, T: Part>(parts: &'a [T], from: &Row) -> Option<&'a Row>
-    requires { IsAscending (joined T.rows parts.now) }
-    ensures { option_copied result ≡ first_from (joined T.rows parts.now) from.now }
+/// The least row of the entries that is at least `from`.
+pub fn least_among<'a, T: Entry>(entries: &'a [T], from: &Row) -> Option<&'a Row>
+    requires { IsAscending (joined T.rows entries.now) }
+    ensures { option_copied result ≡ first_from (joined T.rows entries.now) from.now }
 {
-    if parts.is_empty() {
+    if entries.is_empty() {
         return None;
     }
-    let at = place(parts, from);
-    let part = &parts[at];
-    or_next(parts, at, part.row_at_least(from))
+    let at = place(entries, from);
+    let entry = &entries[at];
+    or_next(entries, at, entry.row_at_least(from))
 }
 
-/// The least row of the parts that is at least the prefix and then the bound. The page that `near` says is searched first.
-pub fn near_among<'a, T: Part>(
-    parts: &'a [T],
+/// The least row of the entries that is at least the prefix and then the bound. The page that `near` says is searched first.
+pub fn near_among<'a, T: Entry>(
+    entries: &'a [T],
     near: &mut Near,
     prefix: &Row,
     bound: Key,
 ) -> Option<&'a Row>
-    requires rises { IsAscending (joined T.rows parts.now) }
-    requires wide { AllByRecursion (λ row. length prefix.now < length row) (joined T.rows parts.now) }
-    ensures { option_copied result ≡ first_from (joined T.rows parts.now) (prefix.now ++ bound ∷ []) }
+    requires rises { IsAscending (joined T.rows entries.now) }
+    requires wide { AllByRecursion (λ row. length prefix.now < length row) (joined T.rows entries.now) }
+    ensures { option_copied result ≡ first_from (joined T.rows entries.now) (prefix.now ++ bound ∷ []) }
 {
     let cells = prefix.cells();
-    match T::row_here(parts, near, cells, bound) {
+    match T::row_here(entries, near, cells, bound) {
         Some(row) => Some(row),
-        None => T::row_near(parts, near, cells, bound),
+        None => T::row_near(entries, near, cells, bound),
     }
+}
+
+/// A row about so far along the entries, where each has about as many rows: the one that is so far along the entry in which
+/// that place lies.
+pub fn row_along<'a, T: Entry>(entries: &'a [T], along: Fraction) -> &'a Row
+    requires { 0 < length entries.now }
+    ensures { has_row (joined T.rows entries.now) result.now ≡ true }
+{
+    let entry = &entries[along.place(entries.len())];
+    entry.row_about(along.rest(entries.len()))
 }

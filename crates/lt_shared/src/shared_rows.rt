@@ -9,8 +9,8 @@ use crate::building::nodes_of;
 use crate::bulk::bulk_root;
 use crate::level::Node;
 use crate::root::{put_in, take_from};
-use crate::search::{has_among, least_among, near_among};
-use lt_face::{Key, Moves, Near, NoMemory, Row, RowList, RowReads, RowSet};
+use crate::search::{has_among, least_among, near_among, row_along};
+use lt_face::{Fraction, Key, Moves, Near, NoMemory, Row, RowList, RowReads, RowSet};
 use std::alloc::Global;
 use std::marker::Model;
 use std::sync::Arc;
@@ -139,6 +139,14 @@ impl RowReads for SharedRows {
 
     fn row_near(&self, near: &mut Near, prefix: &Row, bound: Key) -> Option<&Row> {
         near_among(&self.nodes, near, prefix, bound)
+    }
+
+    fn row_about(&self, along: Fraction) -> Option<&Row> {
+        if self.nodes.is_empty() {
+            return None;
+        }
+        let row = row_along(&self.nodes, along);
+        Some(row)
     }
 }
 

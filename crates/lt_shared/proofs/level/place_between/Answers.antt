@@ -1,5 +1,5 @@
 use Rattle.std.proofs.Common.{◌≡◌, ◌<◌, ◌+◌, ◌-◌, ◌/◌, ◌++◌, ◌∷◌, [], suc, drop, subst, arith}
-use Rattle.lt_shared.specs.Parts.{joined, AreNoneBelow}
+use Rattle.lt_shared.specs.Entries.{joined, AreNoneBelow}
 use Rattle.lt_shared.proofs.level.place_between.Goals as goal
 
 pub loop-high-preserved-then-is_behind : goal.loop-high-preserved-then-is_behind
@@ -27,5 +27,5 @@ returns g c =
     record {
       within = omega (arith, c.loop-high.invariant.order, c.loop-high.invariant.within);
       before = c.loop-high.invariant.before;
-      after = subst (λ n. AreNoneBelow (c.args.prefix.now ++ c.args.bound ∷ []) (joined (joined g.T.Part.rows) (drop n c.args.parts.now))) next c.loop-high.invariant.after;
+      after = subst (λ n. AreNoneBelow (c.args.prefix.now ++ c.args.bound ∷ []) (joined (joined g.T.Entry.rows) (drop n c.args.entries.now))) next c.loop-high.invariant.after;
     }

@@ -1,38 +1,38 @@
-//! `Part`: what a list of parts asks of each, and a row as the least of them.
+//! `Entry`: what a list of entries asks of each, and a row as the least of them.
 ghost use Rattle.std.specs.Prelude.{◌≡◌, ◌<◌, ◌≤◌, ◌+◌, ℕ, Bool, true, List, [], ◌∷◌, ◌++◌, length, slice_get, Some, IfOk, IfSome, OnErr};
 ghost use Rattle.std.specs.List.{AllByRecursion};
 ghost use Rattle.std.specs.Option.{option_copied};
 ghost use Rattle.lt_face.specs.Rows.{IsAscending, has_row, first_from};
-ghost use Rattle.lt_shared.specs.Parts.{joined, IsFirst, IsSomeBelow, IsPut, IsTaken, IfHalves};
+ghost use Rattle.lt_shared.specs.Entries.{joined, IsFirst, IsSomeBelow, IsPut, IsTaken, IfHalves};
 
-use lt_face::{Key, Moves, Near, NoMemory, Row};
+use lt_face::{Fraction, Key, Moves, Near, NoMemory, Row};
 use lt_flat::place_near;
 use std::cmp::Ordering;
 
-/// How a row went into a part.
+/// How a row went into an entry.
 #[derive(Drop)]
 pub enum Put<T> {
     /// It was there.
     Was,
-    /// It is in the part now.
+    /// It is in the entry now.
     Fits,
-    /// The part is as it was. These two together, which have the row, are to stand in its place.
+    /// The entry is as it was. These two together, which have the row, are to stand in its place.
     Halves(T, T),
 }
 
-/// How a row went out of a part.
+/// How a row went out of an entry.
 #[derive(Drop)]
 pub enum Taken {
     /// It was not there.
     Missing,
-    /// It is out of the part.
+    /// It is out of the entry.
     Out,
-    /// It is the part's last row. The part is as it was, and is to go.
+    /// It is the entry's last row. The entry is as it was, and is to go.
     Last,
 }
 
-/// A part of an ascending list of rows. It has at least one.
-pub trait Part: Sized + Drop {
+/// An entry of an ascending list of rows. It has at least one.
+pub trait Entry: Sized + Drop {
     /// The rows.
     ghost rows: { Self → List (List ℕ) };
 
@@ -46,7 +46,7 @@ pub trait Part: Sized + Drop {
     fn first(&self) -> &Row
         ensures { IsFirst (rows self.now) result.now };
 
-    /// Whether the part has the row.
+    /// Whether the entry has the row.
     fn has(&self, row: &Row) -> bool
         requires { IsAscending (rows self.now) }
         ensures { result ≡ has_row (rows self.now) row.now };
@@ -56,36 +56,40 @@ pub trait Part: Sized + Drop {
         requires { IsAscending (rows self.now) }
         ensures { option_copied result ≡ first_from (rows self.now) from.now };
 
-    /// The least row of a list of parts that is at least the prefix and then the bound. The search begins where `near` says.
+    /// The least row of a list of entries that is at least the prefix and then the bound. The search begins where `near` says.
     fn row_near<'a>(
-        parts: &'a [Self],
+        entries: &'a [Self],
         near: &mut Near,
         prefix: &[Key],
         bound: Key,
     ) -> Option<&'a Row>
-        requires rises { IsAscending (joined rows parts.now) }
-        requires wide { AllByRecursion (λ row. length prefix.now < length row) (joined rows parts.now) }
-        ensures { option_copied result ≡ first_from (joined rows parts.now) (prefix.now ++ bound ∷ []) };
+        requires rises { IsAscending (joined rows entries.now) }
+        requires wide { AllByRecursion (λ row. length prefix.now < length row) (joined rows entries.now) }
+        ensures { option_copied result ≡ first_from (joined rows entries.now) (prefix.now ++ bound ∷ []) };
 
     /// The same, where it lies in the page that `near` says behind another row of it: one search of that page.
     fn row_here<'a>(
-        parts: &'a [Self],
+        entries: &'a [Self],
         near: &mut Near,
         prefix: &[Key],
         bound: Key,
     ) -> Option<&'a Row>
-        requires rises { IsAscending (joined rows parts.now) }
-        requires wide { AllByRecursion (λ row. length prefix.now < length row) (joined rows parts.now) }
-        ensures found { IfSome result (λ row. first_from (joined rows parts.now) (prefix.now ++ bound ∷ []) ≡ Some row.now) }
-        ensures below { IfSome result (λ row. IsSomeBelow (joined rows parts.now) (prefix.now ++ bound ∷ [])) };
+        requires rises { IsAscending (joined rows entries.now) }
+        requires wide { AllByRecursion (λ row. length prefix.now < length row) (joined rows entries.now) }
+        ensures found { IfSome result (λ row. first_from (joined rows entries.now) (prefix.now ++ bound ∷ []) ≡ Some row.now) }
+        ensures below { IfSome result (λ row. IsSomeBelow (joined rows entries.now) (prefix.now ++ bound ∷ [])) };
 
-    /// How many such parts stay together in a list that a few edits touch.
+    /// A row about so far along the entry.
+    fn row_about(&self, along: Fraction) -> &Row
+        ensures { has_row (rows self.now) result.now ≡ true };
+
+    /// How many such entries stay together in a list that a few edits touch.
     fn together() -> usize
         ensures { result ≤ 64 };
 
-    /// A second owner of the same part.
+    /// A second owner of the same entry.
     fn share(&self) -> Result<Self, NoMemory>
-        ensures { IfOk result (λ part. part ≡ self.now) };
+        ensures { IfOk result (λ entry. entry ≡ self.now) };
 
     /// Puts a row in.
     fn put<L>(&mut self, row: Row, made: &mut Moves<L>) -> Result<Put<Self>, NoMemory>
@@ -110,7 +114,7 @@ fn row_at(rows: &[Row], at: usize) -> Option<&Row>
     rows.get(at)
 }
 
-impl Part for Row {
+impl Entry for Row {
     ghost rows = { λ r. r ∷ [] };
 
     ghost is_full = { λ r. true };
@@ -134,33 +138,37 @@ impl Part for Row {
     }
 
     fn row_near<'a>(
-        parts: &'a [Row],
+        entries: &'a [Row],
         near: &mut Near,
         prefix: &[Key],
         bound: Key,
     ) -> Option<&'a Row> {
-        let at = place_near(parts, near.at, prefix, bound);
+        let at = place_near(entries, near.at, prefix, bound);
         near.at = at;
-        row_at(parts, at)
+        row_at(entries, at)
     }
 
     #[inline]
     fn row_here<'a>(
-        parts: &'a [Row],
+        entries: &'a [Row],
         near: &mut Near,
         prefix: &[Key],
         bound: Key,
     ) -> Option<&'a Row> {
-        let at = place_near(parts, near.at, prefix, bound);
+        let at = place_near(entries, near.at, prefix, bound);
         if at == 0 {
             return None;
         }
-        if parts.len() <= at {
+        if entries.len() <= at {
             return None;
         }
         near.at = at;
-        let row = &parts[at];
+        let row = &entries[at];
         Some(row)
+    }
+
+    fn row_about(&self, _along: Fraction) -> &Row {
+        self
     }
 
     fn together() -> usize {
