@@ -1,7 +1,6 @@
 -- Indexes with layers of edits laid on them.
 use Rattle.std.proofs.Common.{◌≡◌, ℕ, zero, suc, ◌+◌, ◌<◌, ◌≤◌, Bool, true, false, cond, List, [], ◌∷◌, ◌++◌, map, length, refl, sym, ap, ◌∙◌, subst, inl, inr, arith}
 use Rattle.std.specs.Prelude.{if◌then◌else◌, ◌==◌, not}
-use Rattle.std.specs.Arc.{arc_value}
 use Rattle.std.specs.List.{AllByRecursion}
 use Rattle.std.proofs.lemmas.Bool.{eqb-true, eqb-false}
 use Rattle.lt_face.specs.Lists.{IsIn}
@@ -47,18 +46,18 @@ ascending_laid relation rows (m ∷ marks) up = ascending_laid relation (row_lai
 
 -- ---- layers of an index
 
-pub layers_wide : (width relation : ℕ) (columns : List ℕ) (marks : Marks) (edits : IndexEdits) → IsPermOf width columns → edits.relation ≡ relation → edits.columns ≡ columns → IsEditsOf marks edits → AllByRecursion (λ (layer : Edits). layer.width ≡ width) (map arc_value edits.layers.items)
+pub layers_wide : (width relation : ℕ) (columns : List ℕ) (marks : Marks) (edits : IndexEdits) → IsPermOf width columns → edits.relation ≡ relation → edits.columns ≡ columns → IsEditsOf marks edits → AllByRecursion (λ (layer : Edits). layer.width ≡ width) edits.layers
 layers_wide width relation columns marks edits perm same_r same_c are =
-    each_weaker (IsLayer (length edits.columns)) (λ (layer : Edits). layer.width ≡ width) (λ layer is. is.wide ∙ ap length same_c ∙ perm.as_long) (map arc_value edits.layers.items) are.wide
+    each_weaker (IsLayer (length edits.columns)) (λ (layer : Edits). layer.width ≡ width) (λ layer is. is.wide ∙ ap length same_c ∙ perm.as_long) edits.layers are.wide
 
 pub does_rows : (width relation : ℕ) (columns : List ℕ) (marks : Marks) (edits : IndexEdits) (rows set : List Row) → IsPermOf width columns → edits.relation ≡ relation → edits.columns ≡ columns → IsEditsOf marks edits
-    → IsRowSet width rows → set ≡ stacked rows (map arc_value edits.layers.items)
+    → IsRowSet width rows → set ≡ stacked rows edits.layers
     → (table : List Row) → IsRowSet width table → IsPermuted width columns table rows → IsPermuted width columns (rows_laid relation table marks) set
 does_rows width relation columns marks edits rows set perm same_r same_c are is_set is table table_set permuted =
-    let does : AreLayersOf relation columns marks (map arc_value edits.layers.items) = renamed edits.relation relation edits.columns columns marks (map arc_value edits.layers.items) same_r same_c are in
+    let does : AreLayersOf relation columns marks edits.layers = renamed edits.relation relation edits.columns columns marks edits.layers same_r same_c are in
     let long : width ≡ length columns = sym perm.as_long in
     subst (IsPermuted width columns (rows_laid relation table marks)) (sym is)
-    (subst (λ n. IsPermuted n columns (rows_laid relation table marks) (stacked rows (map arc_value edits.layers.items))) (sym long)
+    (subst (λ n. IsPermuted n columns (rows_laid relation table marks) (stacked rows edits.layers)) (sym long)
     (does.does table rows (subst (λ n. IsRowSet n table) long table_set) (subst (λ n. IsRowSet n rows) long is_set) (subst (λ n. IsPermuted n columns table rows) long permuted)))
 
 -- rows that go and come in an index, as a layer

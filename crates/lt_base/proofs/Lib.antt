@@ -1,7 +1,6 @@
 pub mod OwnOrder
 pub mod Elements
 pub mod Kept
-pub mod Nexts
 pub mod Sorts
 pub mod Grown
 pub mod Marked

@@ -1,5 +1,5 @@
 -- Layers of edits that do to an index what marks do to its relation: of marks and then others, and of marks on other relations.
-use Rattle.std.proofs.Common.{◌≡◌, ◌≢◌, ℕ, zero, suc, ◌<◌, true, false, List, [], ◌∷◌, ◌++◌, length, get_or, map, refl, sym, ap, ◌∙◌, subst, arith}
+use Rattle.std.proofs.Common.{◌≡◌, ◌≢◌, ℕ, zero, suc, ◌<◌, true, false, List, [], ◌∷◌, ◌++◌, length, refl, sym, ap, ◌∙◌, subst, arith}
 use Rattle.std.specs.Prelude.{◌==◌, if◌then◌else◌}
 use Rattle.std.specs.List.{AllByRecursion}
 use Rattle.std.proofs.lemmas.Bool.{eqb-true, ne_eqb}
@@ -135,13 +135,6 @@ others_after relation columns a b layers are does off = composed relation column
 pub others_before : (relation : ℕ) (columns : List ℕ) (a b : Marks) (layers : List Edits) → AreMarks a → AllByRecursion (λ (m : Mark). m.relation ≢ relation) a → AreLayersOf relation columns b layers → AreLayersOf relation columns (and_then a b) layers
 others_before relation columns a b layers are off does = composed relation columns a b [] layers layers are (unnamed relation columns a off) does does.wide (λ rows up. refl)
 
--- ---- lists of owners
-
--- the one layer of a list
-pub sole : {X : Type 0} (f : X → Edits) (xs : List X) (x : X) → length xs ≡ 1 → x ≡ get_or xs 0 x → map f xs ≡ f x ∷ []
-sole f [] x long is = absurd (omega arith)
-sole f (y ∷ []) x long is = ap (λ z. f z ∷ []) (sym is)
-sole f (y ∷ (z ∷ xs)) x long is = absurd (omega arith)
-
+-- the one layer of a list is as wide as all
 pub sole_wide : (width : ℕ) (layers : List Edits) (x : Edits) → layers ≡ x ∷ [] → AllByRecursion (IsLayer width) layers → x.width ≡ width
 sole_wide width layers x is wide = let all : AllByRecursion (IsLayer width) (x ∷ []) = subst (AllByRecursion (IsLayer width)) is wide in all.0.wide

@@ -1,6 +1,5 @@
 -- What marks do to an index, as layers of edits.
-use Rattle.std.specs.Prelude.{◌≡◌, ℕ, List, length, map}
-use Rattle.std.specs.Arc.{arc_value}
+use Rattle.std.specs.Prelude.{◌≡◌, ℕ, List, length}
 use Rattle.std.specs.List.{AllByRecursion}
 use Rattle.lt_face.specs.Rows.{IsRow, IsRowSet}
 use Rattle.lt_face.specs.State.{Row}
@@ -20,11 +19,11 @@ pub record AreLayersOf (relation : ℕ) (columns : List ℕ) (marks : Marks) (la
 
 -- each layer is as wide as the index
 abbrev pub AreWide : IndexEdits → Type 0
-AreWide edits = AllByRecursion (IsLayer (length edits.columns)) (map arc_value edits.layers.items)
+AreWide edits = AllByRecursion (IsLayer (length edits.columns)) edits.layers
 
 -- the edits are what the marks do to their index
 abbrev pub IsEditsOf : Marks → IndexEdits → Type 0
-IsEditsOf marks edits = AreLayersOf edits.relation edits.columns marks (map arc_value edits.layers.items)
+IsEditsOf marks edits = AreLayersOf edits.relation edits.columns marks edits.layers
 
 -- marks, and what they do to some indexes
 pub record AreKept (marks : Marks) (edits : List IndexEdits) : Type 0 where

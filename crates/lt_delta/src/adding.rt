@@ -8,9 +8,9 @@ ghost use Rattle.lt_delta.specs.Finding.{IsPlaceFor, is_before as is_before_row,
 
 use crate::finding::{is_before, place_for};
 use crate::order::compare;
-use crate::sharing::append;
 use lt_face::memory::NoMemory;
 use lt_model::mark::Mark;
+use lt_over::sharing::append;
 use std::alloc::Global;
 use std::sync::Arc;
 

@@ -1,14 +1,11 @@
 //! `IndexEdits`: what marks do to an index.
-ghost use Rattle.std.specs.Prelude.{◌≡◌, [], ◌∷◌, map, IfOk};
-ghost use Rattle.std.specs.Arc.{arc_value};
+ghost use Rattle.std.specs.Prelude.{◌≡◌, [], ◌∷◌, IfOk};
 ghost use Rattle.lt_model.specs.Marks.{Marks, AreMarks, and_then};
 ghost use Rattle.lt_delta.specs.IndexEdits.{AreLayersOf, AreWide, IsEditsOf};
 
 use crate::columns::Columns;
-use crate::sharing::append;
 use lt_face::memory::NoMemory;
-use lt_over::Layer;
-use std::sync::Arc;
+use lt_over::{Layer, Layers};
 
 /// What marks do to an index of a relation, as layers of edits, the first laid first. The index has the relation's columns in
 /// this order; the relation's own order is an index like the others, with the columns 0, 1 and so on.
@@ -16,7 +13,7 @@ use std::sync::Arc;
 pub struct IndexEdits {
     pub relation: u32,
     pub columns: Columns,
-    pub layers: Vec<Arc<Layer>>,
+    pub layers: Layers,
 }
 
 impl IndexEdits {
@@ -24,13 +21,10 @@ impl IndexEdits {
     pub fn of_layer(relation: u32, columns: Columns, layer: Layer) -> Result<IndexEdits, NoMemory>
         ensures relation { IfOk result (λ edits. edits.relation ≡ relation) }
         ensures columns { IfOk result (λ edits. edits.columns ≡ columns) }
-        ensures layers { IfOk result (λ edits. map arc_value edits.layers.items ≡ layer ∷ []) }
+        ensures layers { IfOk result (λ edits. edits.layers ≡ layer ∷ []) }
         ensures edits { IfOk result (λ edits. (marks : Marks) → AreLayersOf relation columns marks (layer ∷ []) → IsEditsOf marks edits) }
     {
-        let alloc = columns.allocator();
-        let layer = Arc::new(alloc, layer)?;
-        let mut layers = Vec::with_capacity(alloc, 1)?;
-        layers.push(layer)?;
+        let layers = Layers::one(columns.allocator(), layer)?;
         Ok(IndexEdits {
             relation,
             columns,
@@ -47,10 +41,7 @@ impl IndexEdits {
         ensures both { IfOk result (λ edits. (a b : Marks) → AreMarks a → IsEditsOf a first.now → IsEditsOf b second.now → IsEditsOf (and_then a b) edits) }
     {
         let columns = first.columns.copy();
-        let length = first.layers.len().saturating_add(second.layers.len());
-        let mut layers = Vec::with_capacity(columns.allocator(), length)?;
-        append(&mut layers, &first.layers)?;
-        append(&mut layers, &second.layers)?;
+        let layers = first.layers.chain(&second.layers)?;
         Ok(IndexEdits {
             relation: first.relation,
             columns,
@@ -68,14 +59,14 @@ impl IndexEdits {
         ensures columns { IfOk result (λ edits. edits.columns ≡ first.now.columns) }
         ensures both { IfOk result (λ edits. (a b : Marks) → AreMarks a → IsEditsOf a first.now → IsEditsOf b second.now → IsEditsOf (and_then a b) edits) }
     {
-        if first.layers.len() != 1 {
+        let Some(before) = first.layers.sole() else {
             return IndexEdits::listed(first, second);
-        }
-        if second.layers.len() != 1 {
+        };
+        let Some(behind) = second.layers.sole() else {
             return IndexEdits::listed(first, second);
-        }
+        };
         let columns = first.columns.copy();
-        let layer = Layer::and_then(&first.layers[0], &second.layers[0])?;
+        let layer = Layer::and_then(before, behind)?;
         let _width = layer.width();
         let edits = IndexEdits::of_layer(first.relation, columns, layer)?;
         Ok(edits)

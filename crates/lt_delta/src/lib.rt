@@ -14,7 +14,6 @@ mod marks;
 mod merging;
 mod order;
 mod relation_marks;
-mod sharing;
 mod sorting;
 
 pub use columns::{Columns, permuted_row};

@@ -15,7 +15,7 @@ use crate::joining::{Way, joined_all};
 use crate::known::KnownEdits;
 use crate::merging::merged_lists;
 use crate::order::is_same;
-use crate::sorting::settled;
+use crate::sorting::in_order;
 use lt_face::memory::NoMemory;
 use lt_face::row::Row;
 use lt_model::mark::{Mark, MarkList};
@@ -61,7 +61,7 @@ impl Marks {
         ensures { IfOk result (λ marks. marks ≡ and_then [] list) }
     {
         let alloc = list.allocator();
-        let marks = settled(list.into_vec())?;
+        let marks = in_order(list.into_vec())?;
         let marks = each_shared(alloc, marks)?;
         let list = Arc::new(alloc, marks)?;
         let known = KnownEdits::none();

@@ -50,7 +50,7 @@ fn last_of_each(alloc: Global, sorted: Vec<Mark>) -> Result<Vec<Mark>, NoMemory>
 }
 
 /// The marks in order; of several on one row the last stays.
-pub(crate) fn settled(mut list: Vec<Mark>) -> Result<Vec<Mark>, NoMemory>
+pub(crate) fn in_order(mut list: Vec<Mark>) -> Result<Vec<Mark>, NoMemory>
     ensures { IfOk result (λ marks. marks.items ≡ and_then [] list.items) }
 {
     let alloc = *list.allocator();

@@ -73,37 +73,37 @@ gone_only false true false = refl
 gone_only false false true = refl
 gone_only false false false = refl
 
-module _ (base minus plus : List Row) (up : IsAscending base) (up_minus : IsAscending minus) (up_plus : IsAscending plus) where
+module _ (base gone come : List Row) (up : IsAscending base) (up_gone : IsAscending gone) (up_come : IsAscending come) where
   abbrev pub all : List Row
-  all = overlaid base minus plus
+  all = overlaid base gone come
 
   abbrev pub lacked : Row → Bool
   lacked r = not (has_row base r)
 
   abbrev pub remains : Row → Bool
-  remains r = has_row plus r || not (has_row minus r)
+  remains r = has_row come r || not (has_row gone r)
 
-  come : filter lacked all ≡ filter lacked plus
-  come =
-      rows_same (filter lacked all) (filter lacked plus) (ascending-filter lacked all (ascending-overlaid base minus plus up)) (ascending-filter lacked plus up_plus)
-      (λ q. has-filter lacked all q ∙ ap (λ b. b && lacked q) (has-overlaid base minus plus q) ∙ new_only (has_row plus q) (has_row base q) (has_row minus q) ∙ sym (has-filter lacked plus q))
+  new_ones : filter lacked all ≡ filter lacked come
+  new_ones =
+      rows_same (filter lacked all) (filter lacked come) (ascending-filter lacked all (ascending-overlaid base gone come up)) (ascending-filter lacked come up_come)
+      (λ q. has-filter lacked all q ∙ ap (λ b. b && lacked q) (has-overlaid base gone come q) ∙ new_only (has_row come q) (has_row base q) (has_row gone q) ∙ sym (has-filter lacked come q))
 
   stay : filter (has_row base) all ≡ filter remains base
   stay =
-      rows_same (filter (has_row base) all) (filter remains base) (ascending-filter (has_row base) all (ascending-overlaid base minus plus up)) (ascending-filter remains base up)
-      (λ q. has-filter (has_row base) all q ∙ ap (λ b. b && has_row base q) (has-overlaid base minus plus q) ∙ old_only (has_row plus q) (has_row base q) (has_row minus q) ∙ sym (has-filter remains base q))
+      rows_same (filter (has_row base) all) (filter remains base) (ascending-filter (has_row base) all (ascending-overlaid base gone come up)) (ascending-filter remains base up)
+      (λ q. has-filter (has_row base) all q ∙ ap (λ b. b && has_row base q) (has-overlaid base gone come q) ∙ old_only (has_row come q) (has_row base q) (has_row gone q) ∙ sym (has-filter remains base q))
 
-  gone : filter (λ r. not (remains r)) base ≡ filter (stays base plus) minus
-  gone =
-      rows_same (filter (λ r. not (remains r)) base) (filter (stays base plus) minus) (ascending-filter (λ r. not (remains r)) base up) (ascending-filter (stays base plus) minus up_minus)
-      (λ q. has-filter (λ r. not (remains r)) base q ∙ gone_only (has_row plus q) (has_row base q) (has_row minus q) ∙ sym (has-filter (stays base plus) minus q))
+  lost_ones : filter (λ r. not (remains r)) base ≡ filter (stays base come) gone
+  lost_ones =
+      rows_same (filter (λ r. not (remains r)) base) (filter (stays base come) gone) (ascending-filter (λ r. not (remains r)) base up) (ascending-filter (stays base come) gone up_gone)
+      (λ q. has-filter (λ r. not (remains r)) base q ∙ gone_only (has_row come q) (has_row base q) (has_row gone q) ∙ sym (has-filter (stays base come) gone q))
 
   -- the rows that were there and those that came, against those that are there and those that went
-  pub overlaid_count : length base + length (filter lacked plus) ≡ length (overlaid base minus plus) + length (filter (stays base plus) minus)
+  pub overlaid_count : length base + length (filter lacked come) ≡ length (overlaid base gone come) + length (filter (stays base come) gone)
   overlaid_count =
       let a : length all ≡ length (filter (has_row base) all) + length (filter lacked all) = split (has_row base) all in
       let b : length base ≡ length (filter remains base) + length (filter (λ r. not (remains r)) base) = split remains base in
-      let c : length (filter lacked all) ≡ length (filter lacked plus) = ap length come in
+      let c : length (filter lacked all) ≡ length (filter lacked come) = ap length new_ones in
       let d : length (filter (has_row base) all) ≡ length (filter remains base) = ap length stay in
-      let e : length (filter (λ r. not (remains r)) base) ≡ length (filter (stays base plus) minus) = ap length gone in
+      let e : length (filter (λ r. not (remains r)) base) ≡ length (filter (stays base come) gone) = ap length lost_ones in
       omega (arith, a, b, c, d, e)

@@ -62,43 +62,43 @@ skipped : (p : Row → Bool) (k : Bool) (x : Row) (rows : List Row) → p x ≡ 
 skipped p true x rows fails = ap (λ b. cond b (Some x) (find p rows)) fails
 skipped p false x rows fails = refl
 
-pub kept_none : (p : Row → Bool) (base minus : List Row) → find p base ≡ None → find p (kept base minus) ≡ None
-kept_none p [] minus h = refl
-kept_none p (x ∷ base) minus h =
-    elim (p x) as (λ b. p x ≡ b → cond b (Some x) (find p base) ≡ None → find p (kept (x ∷ base) minus) ≡ None) [
+pub kept_none : (p : Row → Bool) (base gone : List Row) → find p base ≡ None → find p (kept base gone) ≡ None
+kept_none p [] gone h = refl
+kept_none p (x ∷ base) gone h =
+    elim (p x) as (λ b. p x ≡ b → cond b (Some x) (find p base) ≡ None → find p (kept (x ∷ base) gone) ≡ None) [
       | true ↦ λ is e. absurd cc
-      | false ↦ λ is e. skipped p (not (has_row minus x)) x (kept base minus) is ∙ kept_none p base minus e
+      | false ↦ λ is e. skipped p (not (has_row gone x)) x (kept base gone) is ∙ kept_none p base gone e
     ] refl h
 
-pub kept_here : (p : Row → Bool) (base minus : List Row) (r : Row) → find p base ≡ Some r → has_row minus r ≡ false → find p (kept base minus) ≡ Some r
-kept_here p [] minus r h stays = absurd cc
-kept_here p (x ∷ base) minus r h stays =
-    elim (p x) as (λ b. p x ≡ b → cond b (Some x) (find p base) ≡ Some r → find p (kept (x ∷ base) minus) ≡ Some r) [
+pub kept_here : (p : Row → Bool) (base gone : List Row) (r : Row) → find p base ≡ Some r → has_row gone r ≡ false → find p (kept base gone) ≡ Some r
+kept_here p [] gone r h stays = absurd cc
+kept_here p (x ∷ base) gone r h stays =
+    elim (p x) as (λ b. p x ≡ b → cond b (Some x) (find p base) ≡ Some r → find p (kept (x ∷ base) gone) ≡ Some r) [
       | true ↦ λ is e.
           let same : x ≡ r = some_same x r e in
-          let here : has_row minus x ≡ false = ap (has_row minus) same ∙ stays in
-          ap (λ b. find p (cond (not b) (x ∷ kept base minus) (kept base minus))) here ∙ ap (λ b. cond b (Some x) (find p (kept base minus))) is ∙ e
-      | false ↦ λ is e. skipped p (not (has_row minus x)) x (kept base minus) is ∙ kept_here p base minus r e stays
+          let here : has_row gone x ≡ false = ap (has_row gone) same ∙ stays in
+          ap (λ b. find p (cond (not b) (x ∷ kept base gone) (kept base gone))) here ∙ ap (λ b. cond b (Some x) (find p (kept base gone))) is ∙ e
+      | false ↦ λ is e. skipped p (not (has_row gone x)) x (kept base gone) is ∙ kept_here p base gone r e stays
     ] refl h
 
 -- where the least row that passes is taken out, the search goes on above it
-pub kept_past : (p : Row → Bool) (base minus : List Row) (r : Row) → ((a b : Row) → row_cmp a b ≡ Less → p a ≡ true → p b ≡ true) → IsAscending base → find p base ≡ Some r → has_row minus r ≡ true → find p (kept base minus) ≡ first_above (kept base minus) r
-kept_past p [] minus r up rises h out = absurd cc
-kept_past p (x ∷ base) minus r up rises h out =
-    elim (p x) as (λ b. p x ≡ b → cond b (Some x) (find p base) ≡ Some r → find p (kept (x ∷ base) minus) ≡ first_above (kept (x ∷ base) minus) r) [
+pub kept_past : (p : Row → Bool) (base gone : List Row) (r : Row) → ((a b : Row) → row_cmp a b ≡ Less → p a ≡ true → p b ≡ true) → IsAscending base → find p base ≡ Some r → has_row gone r ≡ true → find p (kept base gone) ≡ first_above (kept base gone) r
+kept_past p [] gone r up rises h out = absurd cc
+kept_past p (x ∷ base) gone r up rises h out =
+    elim (p x) as (λ b. p x ≡ b → cond b (Some x) (find p base) ≡ Some r → find p (kept (x ∷ base) gone) ≡ first_above (kept (x ∷ base) gone) r) [
       | true ↦ λ is e.
           let same : x ≡ r = some_same x r e in
-          let here : has_row minus x ≡ true = ap (has_row minus) same ∙ out in
+          let here : has_row gone x ≡ true = ap (has_row gone) same ∙ out in
           rw here
-          (find_agree p (λ s. is_lt (row_cmp r s)) (kept base minus)
-          (each_filter (λ s. p s ≡ is_lt (row_cmp r s)) (λ s. not (has_row minus s)) base
+          (find_agree p (λ s. is_lt (row_cmp r s)) (kept base gone)
+          (each_filter (λ s. p s ≡ is_lt (row_cmp r s)) (λ s. not (has_row gone s)) base
           (each_weaker (λ s. row_cmp x s ≡ Less) (λ s. p s ≡ is_lt (row_cmp r s)) (λ s k. up x s k is ∙ sym (ap is_lt (ap (λ (t : Row). row_cmp t s) (sym same) ∙ k))) base rises.0)))
       | false ↦ λ is e.
           let lower : row_cmp x r ≡ Less = found_each (λ s. row_cmp x s ≡ Less) p base r rises.0 e in
           let fails : is_lt (row_cmp r x) ≡ false = ap is_lt (less_back x r lower) in
-          skipped p (not (has_row minus x)) x (kept base minus) is
-          ∙ kept_past p base minus r up rises.1 e out
-          ∙ sym (skipped (λ s. is_lt (row_cmp r s)) (not (has_row minus x)) x (kept base minus) fails)
+          skipped p (not (has_row gone x)) x (kept base gone) is
+          ∙ kept_past p base gone r up rises.1 e out
+          ∙ sym (skipped (λ s. is_lt (row_cmp r s)) (not (has_row gone x)) x (kept base gone) fails)
     ] refl h
 
 -- ---- fewer rows are left
@@ -171,19 +171,19 @@ absorbed (Some x) p (Some s) h =
     ] refl
 
 -- the least of two sets of rows is the lesser of their least
-first-fold : (rows plus : List Row) (q : Row) → IsAscending plus → first_from (fold with_row rows plus) q ≡ lesser (first_from rows q) (first_from plus q)
+first-fold : (rows come : List Row) (q : Row) → IsAscending come → first_from (fold with_row rows come) q ≡ lesser (first_from rows q) (first_from come q)
 first-fold rows [] q up = sym (lesser_none (first_from rows q))
-first-fold rows (p ∷ plus) q up =
-    first-fold (with_row rows p) plus q up.1
-    ∙ ap (λ o. lesser o (first_from plus q)) (first-with_row rows p q)
+first-fold rows (p ∷ come) q up =
+    first-fold (with_row rows p) come q up.1
+    ∙ ap (λ o. lesser o (first_from come q)) (first-with_row rows p q)
     ∙ join (first_from rows q) (is_lt (row_cmp p q)) refl
   where
-    join : (a : Option Row) (b : Bool) → is_lt (row_cmp p q) ≡ b → lesser (cond (is_lt (row_cmp p q)) a (lesser a (Some p))) (first_from plus q) ≡ lesser a (first_from (p ∷ plus) q)
+    join : (a : Option Row) (b : Bool) → is_lt (row_cmp p q) ≡ b → lesser (cond (is_lt (row_cmp p q)) a (lesser a (Some p))) (first_from come q) ≡ lesser a (first_from (p ∷ come) q)
     join a true e = rw e refl
-    join a false e = rw e (absorbed a p (first_from plus q) (λ s h. found_each (λ t. row_cmp p t ≡ Less) (λ r. not (is_lt (row_cmp r q))) plus s up.0 h))
+    join a false e = rw e (absorbed a p (first_from come q) (λ s h. found_each (λ t. row_cmp p t ≡ Less) (λ r. not (is_lt (row_cmp r q))) come s up.0 h))
 
-pub first-overlaid : (base minus plus : List Row) (q : Row) (b z : Option Row) → IsAscending plus → b ≡ first_from plus q → z ≡ lesser (first_from (kept base minus) q) b → z ≡ first_from (overlaid base minus plus) q
-first-overlaid base minus plus q b z up is_b is_z = is_z ∙ ap (λ o. lesser (first_from (kept base minus) q) o) is_b ∙ sym (first-fold (kept base minus) plus q up)
+pub first-overlaid : (base gone come : List Row) (q : Row) (b z : Option Row) → IsAscending come → b ≡ first_from come q → z ≡ lesser (first_from (kept base gone) q) b → z ≡ first_from (overlaid base gone come) q
+first-overlaid base gone come q b z up is_b is_z = is_z ∙ ap (λ o. lesser (first_from (kept base gone) q) o) is_b ∙ sym (first-fold (kept base gone) come q up)
 
 -- ---- what is asked of a row holds of those above it
 
@@ -207,26 +207,26 @@ lower_than r a s h k = above_up r a s (less_is (row_cmp a s) k) h
 
 -- ---- the same, of the two searches
 
-pub from_none : (base minus : List Row) (q : Row) → first_from base q ≡ None → first_from (kept base minus) q ≡ None
-from_none base minus q h = kept_none (λ r. not (is_lt (row_cmp r q))) base minus h
+pub from_none : (base gone : List Row) (q : Row) → first_from base q ≡ None → first_from (kept base gone) q ≡ None
+from_none base gone q h = kept_none (λ r. not (is_lt (row_cmp r q))) base gone h
 
-pub from_here : (base minus : List Row) (q r : Row) → first_from base q ≡ Some r → has_row minus r ≡ false → first_from (kept base minus) q ≡ Some r
-from_here base minus q r h stays = kept_here (λ s. not (is_lt (row_cmp s q))) base minus r h stays
+pub from_here : (base gone : List Row) (q r : Row) → first_from base q ≡ Some r → has_row gone r ≡ false → first_from (kept base gone) q ≡ Some r
+from_here base gone q r h stays = kept_here (λ s. not (is_lt (row_cmp s q))) base gone r h stays
 
-pub from_past : (base minus : List Row) (q r : Row) → IsAscending base → first_from base q ≡ Some r → has_row minus r ≡ true → first_from (kept base minus) q ≡ first_above (kept base minus) r
-from_past base minus q r up h out = kept_past (λ s. not (is_lt (row_cmp s q))) base minus r (from_up q) up h out
+pub from_past : (base gone : List Row) (q r : Row) → IsAscending base → first_from base q ≡ Some r → has_row gone r ≡ true → first_from (kept base gone) q ≡ first_above (kept base gone) r
+from_past base gone q r up h out = kept_past (λ s. not (is_lt (row_cmp s q))) base gone r (from_up q) up h out
 
 pub from_has : (base : List Row) (q r : Row) → first_from base q ≡ Some r → has_row base r ≡ true
 from_has base q r h = found_has (λ s. not (is_lt (row_cmp s q))) base r h
 
-pub above_none : (base minus : List Row) (r : Row) → first_above base r ≡ None → first_above (kept base minus) r ≡ None
-above_none base minus r h = kept_none (λ s. is_lt (row_cmp r s)) base minus h
+pub above_none : (base gone : List Row) (r : Row) → first_above base r ≡ None → first_above (kept base gone) r ≡ None
+above_none base gone r h = kept_none (λ s. is_lt (row_cmp r s)) base gone h
 
-pub above_here : (base minus : List Row) (r s : Row) → first_above base r ≡ Some s → has_row minus s ≡ false → first_above (kept base minus) r ≡ Some s
-above_here base minus r s h stays = kept_here (λ t. is_lt (row_cmp r t)) base minus s h stays
+pub above_here : (base gone : List Row) (r s : Row) → first_above base r ≡ Some s → has_row gone s ≡ false → first_above (kept base gone) r ≡ Some s
+above_here base gone r s h stays = kept_here (λ t. is_lt (row_cmp r t)) base gone s h stays
 
-pub above_past : (base minus : List Row) (r s : Row) → IsAscending base → first_above base r ≡ Some s → has_row minus s ≡ true → first_above (kept base minus) r ≡ first_above (kept base minus) s
-above_past base minus r s up h out = kept_past (λ t. is_lt (row_cmp r t)) base minus s (above_up r) up h out
+pub above_past : (base gone : List Row) (r s : Row) → IsAscending base → first_above base r ≡ Some s → has_row gone s ≡ true → first_above (kept base gone) r ≡ first_above (kept base gone) s
+above_past base gone r s up h out = kept_past (λ t. is_lt (row_cmp r t)) base gone s (above_up r) up h out
 
 pub above_has : (base : List Row) (r s : Row) → first_above base r ≡ Some s → has_row base s ≡ true
 above_has base r s h = found_has (λ t. is_lt (row_cmp r t)) base s h
@@ -261,24 +261,24 @@ lesser_reached (Some k) r p above more =
     ] refl
 
 -- what is kept isn't below the first of all
-kept_not_below : (p : Row → Bool) (base minus : List Row) (r k : Row) → IsAscending base → find p base ≡ Some r → find p (kept base minus) ≡ Some k → is_lt (row_cmp k r) ≡ false
-kept_not_below p [] minus r k up h there = absurd cc
-kept_not_below p (x ∷ base) minus r k up h there =
+kept_not_below : (p : Row → Bool) (base gone : List Row) (r k : Row) → IsAscending base → find p base ≡ Some r → find p (kept base gone) ≡ Some k → is_lt (row_cmp k r) ≡ false
+kept_not_below p [] gone r k up h there = absurd cc
+kept_not_below p (x ∷ base) gone r k up h there =
     elim (p x) as (λ b. p x ≡ b → cond b (Some x) (find p base) ≡ Some r → is_lt (row_cmp k r) ≡ false) [
       | true ↦ λ is e.
           let same : x ≡ r = some_same x r e in
-          subst (λ (s : Row). is_lt (row_cmp k s) ≡ false) same (first (not (has_row minus x)) is there)
-      | false ↦ λ is e. kept_not_below p base minus r k up.1 e (sym (skipped p (not (has_row minus x)) x (kept base minus) is) ∙ there)
+          subst (λ (s : Row). is_lt (row_cmp k s) ≡ false) same (first (not (has_row gone x)) is there)
+      | false ↦ λ is e. kept_not_below p base gone r k up.1 e (sym (skipped p (not (has_row gone x)) x (kept base gone) is) ∙ there)
     ] refl h
   where
-    first : (b : Bool) → p x ≡ true → find p (cond b (x ∷ kept base minus) (kept base minus)) ≡ Some k → is_lt (row_cmp k x) ≡ false
-    first true is e = let here : x ≡ k = some_same x k (sym (ap (λ c. cond c (Some x) (find p (kept base minus))) is) ∙ e) in ap is_lt (ap (λ (s : Row). row_cmp s x) (sym here) ∙ cmp_itself x)
-    first false is e = ap is_lt (less_back x k (found_each (λ s. row_cmp x s ≡ Less) p (kept base minus) k (each_filter (λ s. row_cmp x s ≡ Less) (λ s. not (has_row minus s)) base up.0) e))
+    first : (b : Bool) → p x ≡ true → find p (cond b (x ∷ kept base gone) (kept base gone)) ≡ Some k → is_lt (row_cmp k x) ≡ false
+    first true is e = let here : x ≡ k = some_same x k (sym (ap (λ c. cond c (Some x) (find p (kept base gone))) is) ∙ e) in ap is_lt (ap (λ (s : Row). row_cmp s x) (sym here) ∙ cmp_itself x)
+    first false is e = ap is_lt (less_back x k (found_each (λ s. row_cmp x s ≡ Less) p (kept base gone) k (each_filter (λ s. row_cmp x s ≡ Less) (λ s. not (has_row gone s)) base up.0) e))
 
-stops : (p : Row → Bool) (base minus : List Row) (r : Row) (more : Option Row) → IsAscending base → find p base ≡ Some r → is_reached more r ≡ true → lesser (find p (kept base minus)) more ≡ more
-stops p base minus r None up h reached = absurd (true≢false (sym reached))
-stops p base minus r (Some put) up h reached =
-    lesser_reached (find p (kept base minus)) r put (λ k e. kept_not_below p base minus r k up h e) (not_true (is_lt (row_cmp r put)) reached)
+stops : (p : Row → Bool) (base gone : List Row) (r : Row) (more : Option Row) → IsAscending base → find p base ≡ Some r → is_reached more r ≡ true → lesser (find p (kept base gone)) more ≡ more
+stops p base gone r None up h reached = absurd (true≢false (sym reached))
+stops p base gone r (Some put) up h reached =
+    lesser_reached (find p (kept base gone)) r put (λ k e. kept_not_below p base gone r k up h e) (not_true (is_lt (row_cmp r put)) reached)
   where
     not_true : (b : Bool) → not b ≡ true → b ≡ false
     not_true true e = absurd (true≢false (sym e))
@@ -293,12 +293,12 @@ lesser_before (Some put) r off =
       | Greater ↦ λ e h. absurd (true≢false h)
     ] refl off
 
-pub from_stops : (base minus : List Row) (q r : Row) (more : Option Row) → IsAscending base → first_from base q ≡ Some r → is_reached more r ≡ true → lesser (first_from (kept base minus) q) more ≡ more
-from_stops base minus q r more up h reached = stops (λ s. not (is_lt (row_cmp s q))) base minus r more up h reached
+pub from_stops : (base gone : List Row) (q r : Row) (more : Option Row) → IsAscending base → first_from base q ≡ Some r → is_reached more r ≡ true → lesser (first_from (kept base gone) q) more ≡ more
+from_stops base gone q r more up h reached = stops (λ s. not (is_lt (row_cmp s q))) base gone r more up h reached
 
-pub above_stops : (base minus : List Row) (r s : Row) (more : Option Row) → IsAscending base → first_above base r ≡ Some s → is_reached more s ≡ true → lesser (first_above (kept base minus) r) more ≡ more
-above_stops base minus r s more up h reached = stops (λ t. is_lt (row_cmp r t)) base minus s more up h reached
+pub above_stops : (base gone : List Row) (r s : Row) (more : Option Row) → IsAscending base → first_above base r ≡ Some s → is_reached more s ≡ true → lesser (first_above (kept base gone) r) more ≡ more
+above_stops base gone r s more up h reached = stops (λ t. is_lt (row_cmp r t)) base gone s more up h reached
 
 -- with nothing laid over it the base's least row is the least
-pub first-bare : (base minus plus : List Row) (q : Row) (first : Option Row) → minus ≡ [] → plus ≡ [] → first ≡ first_from base q → first ≡ first_from (overlaid base minus plus) q
-first-bare base minus plus q first none no_more is = is ∙ ap (λ (rows : List Row). first_from rows q) (sym (bare_rows base minus plus none no_more))
+pub first-bare : (base gone come : List Row) (q : Row) (first : Option Row) → gone ≡ [] → come ≡ [] → first ≡ first_from base q → first ≡ first_from (overlaid base gone come) q
+first-bare base gone come q first none no_more is = is ∙ ap (λ (rows : List Row). first_from rows q) (sym (bare_rows base gone come none no_more))

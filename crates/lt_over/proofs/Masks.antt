@@ -11,7 +11,7 @@ use Rattle.std.specs.declared.cmp.Ordering.TheVariants.{Less, Equal, Greater}
 use Rattle.std.proofs.lemmas.Bool.{ltb-true, ltb-false}
 use Rattle.std.proofs.lemmas.List.{take_more, get_or-set_same}
 use Rattle.std.proofs.lemmas.Nat.Bits.{shr_and_one, bit_at_or, bit_at_set_same}
-use Rattle.lt_face.specs.Rows.{row_cmp, IsRowSet, has_row, with_row}
+use Rattle.lt_face.specs.Rows.{row_cmp, IsRowSet, has_row, with_row, without_row}
 use Rattle.lt_face.specs.State.{Row}
 use Rattle.lt_face.proofs.RowLemmas.{each_weaker, each_filter, each_with_row, cmp_itself}
 use Rattle.lt_face.proofs.Walked.{each_has}
@@ -22,7 +22,7 @@ use Rattle.lt_over.specs.Candidates.{IsApart, IsCandidate, from}
 use Rattle.lt_over.specs.Masks.{place, has_cell, may_have, AreMasked, first_cell}
 use Rattle.lt_over.proofs.Candidates.{behind_kept, from_rises, not_lt}
 use Rattle.lt_over.proofs.Firsts.{found_has, found_passes}
-use Rattle.lt_over.proofs.Stacks.{all_end}
+use Rattle.lt_over.proofs.Stacks.{all_both}
 
 -- ---- one place
 
@@ -101,11 +101,18 @@ pub masked_more : (old new : List ℕ) (rows : List Row) (i : ℕ) (row : Row) �
     → ((r : Row) → may_have old r ≡ true → may_have new r ≡ true) → may_have new row ≡ true → AreMasked new (take (i + 1) rows)
 masked_more old new rows i row lt is before kept there =
     subst (AreMasked new) (sym (take_more rows i row lt ∙ ap (λ (r : Row). take i rows ++ r ∷ []) (sym is)))
-    (all_end (λ r. may_have new r ≡ true) (take i rows) row (masked_kept old new (take i rows) kept before) there)
+    (all_both (λ r. may_have new r ≡ true) (take i rows) (row ∷ []) (masked_kept old new (take i rows) kept before) (there, tt))
 
 masked_fold : (words : List ℕ) (rows more : List Row) → AreMasked words rows → AreMasked words more → AreMasked words (fold with_row rows more)
 masked_fold words rows [] all each = all
 masked_fold words rows (m ∷ more) all each = masked_fold words (with_row rows m) more (each_with_row (λ r. may_have words r ≡ true) rows m all each.0) each.1
+
+-- one row more, whose place is there, and one row less
+pub masked_with : (words : List ℕ) (rows new : List Row) (row : Row) → new ≡ with_row rows row → may_have words row ≡ true → AreMasked words rows → AreMasked words new
+masked_with words rows new row is one all = subst (AreMasked words) (sym is) (each_with_row (λ r. may_have words r ≡ true) rows row all one)
+
+pub masked_without : (words : List ℕ) (rows new : List Row) (row : Row) → new ≡ without_row rows row → AreMasked words rows → AreMasked words new
+masked_without words rows new row is all = subst (AreMasked words) (sym is) (each_filter (λ r. may_have words r ≡ true) (λ r. not (is_eq (row_cmp r row))) rows all)
 
 -- two layers as one, with the places of both
 pub joined_masked : (words mine others : List ℕ) (gone come more_gone more_come new_gone left new_come : List Row)

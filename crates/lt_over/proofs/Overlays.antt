@@ -55,12 +55,12 @@ has-without_row rows q r =
     laid_has (record { width = 0; rows = rows } ∷ []) (record { relation = 0; row = q; plus = false } ∷ []) 0 r (lit< tt)
     ∙ told_out (is_eq (row_cmp q r)) (has_row rows r)
 
-pub has-fold : (rows plus : List Row) (q : Row) → has_row (fold with_row rows plus) q ≡ (has_row plus q || has_row rows q)
+pub has-fold : (rows come : List Row) (q : Row) → has_row (fold with_row rows come) q ≡ (has_row come q || has_row rows q)
 has-fold rows [] q = refl
-has-fold rows (p ∷ plus) q =
-    has-fold (with_row rows p) plus q
-    ∙ ap (λ b. has_row plus q || b) (has-with_row rows p q)
-    ∙ turned (has_row plus q) (is_eq (row_cmp p q)) (has_row rows q)
+has-fold rows (p ∷ come) q =
+    has-fold (with_row rows p) come q
+    ∙ ap (λ b. has_row come q || b) (has-with_row rows p q)
+    ∙ turned (has_row come q) (is_eq (row_cmp p q)) (has_row rows q)
 
 has-cond : (k : Bool) (r : Row) (rows : List Row) (q : Row) → has_row (cond k (r ∷ rows) rows) q ≡ ((k && is_eq (row_cmp r q)) || has_row rows q)
 has-cond true r rows q = refl
@@ -73,28 +73,28 @@ has-filter p (r ∷ rows) q =
     ∙ ap (λ b. (p r && is_eq (row_cmp r q)) || b) (has-filter p rows q)
     ∙ one_kept (is_eq (row_cmp r q)) (p r) (has_row rows q) (p q) (λ e. ap p (same_is r q e))
 
-pub has-kept : (base minus : List Row) (q : Row) → has_row (kept base minus) q ≡ stays base minus q
-has-kept base minus q = has-filter (λ r. not (has_row minus r)) base q
+pub has-kept : (base gone : List Row) (q : Row) → has_row (kept base gone) q ≡ stays base gone q
+has-kept base gone q = has-filter (λ r. not (has_row gone r)) base q
 
 -- a row is there where it is put in, or stays
-pub has-overlaid : (base minus plus : List Row) (q : Row) → has_row (overlaid base minus plus) q ≡ (has_row plus q || stays base minus q)
-has-overlaid base minus plus q = has-fold (kept base minus) plus q ∙ ap (λ b. has_row plus q || b) (has-kept base minus q)
+pub has-overlaid : (base gone come : List Row) (q : Row) → has_row (overlaid base gone come) q ≡ (has_row come q || stays base gone q)
+has-overlaid base gone come q = has-fold (kept base gone) come q ∙ ap (λ b. has_row come q || b) (has-kept base gone q)
 
-pub ascending-fold : (rows plus : List Row) → IsAscending rows → IsAscending (fold with_row rows plus)
+pub ascending-fold : (rows come : List Row) → IsAscending rows → IsAscending (fold with_row rows come)
 ascending-fold rows [] up = up
-ascending-fold rows (p ∷ plus) up = ascending-fold (with_row rows p) plus (ascending-with_row rows p up)
+ascending-fold rows (p ∷ come) up = ascending-fold (with_row rows p) come (ascending-with_row rows p up)
 
-pub ascending-overlaid : (base minus plus : List Row) → IsAscending base → IsAscending (overlaid base minus plus)
-ascending-overlaid base minus plus up = ascending-fold (kept base minus) plus (ascending-filter (λ r. not (has_row minus r)) base up)
+pub ascending-overlaid : (base gone come : List Row) → IsAscending base → IsAscending (overlaid base gone come)
+ascending-overlaid base gone come up = ascending-fold (kept base gone) come (ascending-filter (λ r. not (has_row gone r)) base up)
 
-each-fold : (P : Row → Type 0) (rows plus : List Row) → AllByRecursion P rows → AllByRecursion P plus → AllByRecursion P (fold with_row rows plus)
+each-fold : (P : Row → Type 0) (rows come : List Row) → AllByRecursion P rows → AllByRecursion P come → AllByRecursion P (fold with_row rows come)
 each-fold P rows [] all more = all
-each-fold P rows (p ∷ plus) all more = each-fold P (with_row rows p) plus (each_with_row P rows p all more.0) more.1
+each-fold P rows (p ∷ come) all more = each-fold P (with_row rows p) come (each_with_row P rows p all more.0) more.1
 
-pub IsRowSet-overlaid : (width : ℕ) (base minus plus : List Row) → IsRowSet width base → AllByRecursion (IsRow width) plus → IsRowSet width (overlaid base minus plus)
-IsRowSet-overlaid width base minus plus set more = record {
-  rises = ascending-overlaid base minus plus set.rises;
-  each = each-fold (IsRow width) (kept base minus) plus (each_filter (IsRow width) (λ r. not (has_row minus r)) base set.each) more;
+pub IsRowSet-overlaid : (width : ℕ) (base gone come : List Row) → IsRowSet width base → AllByRecursion (IsRow width) come → IsRowSet width (overlaid base gone come)
+IsRowSet-overlaid width base gone come set more = record {
+  rises = ascending-overlaid base gone come set.rises;
+  each = each-fold (IsRow width) (kept base gone) come (each_filter (IsRow width) (λ r. not (has_row gone r)) base set.each) more;
 }
 
 -- nothing is laid over it
@@ -104,38 +104,38 @@ bare (r ∷ base) = ap (λ (rs : List Row). r ∷ rs) (bare base)
 
 -- ---- edits
 
-pub put_in : (base minus plus : List Row) (row : Row) → IsAscending base → overlaid base minus (with_row plus row) ≡ with_row (overlaid base minus plus) row
-put_in base minus plus row up =
-    rows_same (overlaid base minus (with_row plus row)) (with_row (overlaid base minus plus) row) (ascending-overlaid base minus (with_row plus row) up)
-    (ascending-with_row (overlaid base minus plus) row (ascending-overlaid base minus plus up))
-    (λ q. has-overlaid base minus (with_row plus row) q
-    ∙ ap (λ b. b || stays base minus q) (has-with_row plus row q)
-    ∙ grouped (is_eq (row_cmp row q)) (has_row plus q) (stays base minus q)
-    ∙ ap (λ b. is_eq (row_cmp row q) || b) (sym (has-overlaid base minus plus q))
-    ∙ sym (has-with_row (overlaid base minus plus) row q))
+pub put_in : (base gone come : List Row) (row : Row) → IsAscending base → overlaid base gone (with_row come row) ≡ with_row (overlaid base gone come) row
+put_in base gone come row up =
+    rows_same (overlaid base gone (with_row come row)) (with_row (overlaid base gone come) row) (ascending-overlaid base gone (with_row come row) up)
+    (ascending-with_row (overlaid base gone come) row (ascending-overlaid base gone come up))
+    (λ q. has-overlaid base gone (with_row come row) q
+    ∙ ap (λ b. b || stays base gone q) (has-with_row come row q)
+    ∙ grouped (is_eq (row_cmp row q)) (has_row come q) (stays base gone q)
+    ∙ ap (λ b. is_eq (row_cmp row q) || b) (sym (has-overlaid base gone come q))
+    ∙ sym (has-with_row (overlaid base gone come) row q))
 
 pub ascending-without : (rows : List Row) (row : Row) → IsAscending rows → IsAscending (without_row rows row)
 ascending-without rows row up = ascending-filter (λ r. not (is_eq (row_cmp r row))) rows up
 
 -- ---- what a look-up answers
 
-pub told_put : (base minus plus : List Row) (row : Row) (p : Bool) → p ≡ has_row plus row → p ≡ true → p ≡ has_row (overlaid base minus plus) row
-told_put base minus plus row p is on = on ∙ sym (has-overlaid base minus plus row ∙ ap (λ b. b || stays base minus row) (sym is ∙ on))
+pub told_put : (base gone come : List Row) (row : Row) (p : Bool) → p ≡ has_row come row → p ≡ true → p ≡ has_row (overlaid base gone come) row
+told_put base gone come row p is on = on ∙ sym (has-overlaid base gone come row ∙ ap (λ b. b || stays base gone row) (sym is ∙ on))
 
-pub told_base : (base minus plus : List Row) (row : Row) (p b m : Bool) → p ≡ has_row plus row → p ≡ false → b ≡ has_row base row → b ≡ true → m ≡ has_row minus row → not m ≡ has_row (overlaid base minus plus) row
-told_base base minus plus row p b m is_p off is_b on is_m =
+pub told_base : (base gone come : List Row) (row : Row) (p b m : Bool) → p ≡ has_row come row → p ≡ false → b ≡ has_row base row → b ≡ true → m ≡ has_row gone row → not m ≡ has_row (overlaid base gone come) row
+told_base base gone come row p b m is_p off is_b on is_m =
     ap not is_m
-    ∙ sym (has-overlaid base minus plus row ∙ ap (λ c. c || stays base minus row) (sym is_p ∙ off) ∙ ap (λ c. c && not (has_row minus row)) (sym is_b ∙ on))
+    ∙ sym (has-overlaid base gone come row ∙ ap (λ c. c || stays base gone row) (sym is_p ∙ off) ∙ ap (λ c. c && not (has_row gone row)) (sym is_b ∙ on))
 
-pub told_off : (base minus plus : List Row) (row : Row) (p b : Bool) → p ≡ has_row plus row → p ≡ false → b ≡ has_row base row → b ≡ false → b ≡ has_row (overlaid base minus plus) row
-told_off base minus plus row p b is_p off is_b none =
+pub told_off : (base gone come : List Row) (row : Row) (p b : Bool) → p ≡ has_row come row → p ≡ false → b ≡ has_row base row → b ≡ false → b ≡ has_row (overlaid base gone come) row
+told_off base gone come row p b is_p off is_b none =
     none
-    ∙ sym (has-overlaid base minus plus row ∙ ap (λ c. c || stays base minus row) (sym is_p ∙ off) ∙ ap (λ c. c && not (has_row minus row)) (sym is_b ∙ none))
+    ∙ sym (has-overlaid base gone come row ∙ ap (λ c. c || stays base gone row) (sym is_p ∙ off) ∙ ap (λ c. c && not (has_row gone row)) (sym is_b ∙ none))
 
 -- ---- nothing laid over a set
 
-pub bare_rows : (base minus plus : List Row) → minus ≡ [] → plus ≡ [] → overlaid base minus plus ≡ base
-bare_rows base minus plus no_minus no_plus = ap (λ (m : List Row). overlaid base m plus) no_minus ∙ ap (λ (p : List Row). overlaid base [] p) no_plus ∙ bare base
+pub bare_rows : (base gone come : List Row) → gone ≡ [] → come ≡ [] → overlaid base gone come ≡ base
+bare_rows base gone come no_gone no_come = ap (λ (m : List Row). overlaid base m come) no_gone ∙ ap (λ (p : List Row). overlaid base [] p) no_come ∙ bare base
 
 -- ---- edits that change nothing
 
@@ -158,13 +158,13 @@ length-with_row (r ∷ rs) row =
       | Greater ↦ omega arith
     ]
 
-pub fits_one : (plus new : List Row) (row : Row) (n m : ℕ) → n + m + 1 < 18446744073709551616 → m ≡ length plus → new ≡ with_row plus row → n + length new < 18446744073709551616
-fits_one plus new row n m room is more =
-    let le : length new ≤ length plus + 1 = rw more (length-with_row plus row) in
+pub fits_one : (come new : List Row) (row : Row) (n m : ℕ) → n + m + 1 < 18446744073709551616 → m ≡ length come → new ≡ with_row come row → n + length new < 18446744073709551616
+fits_one come new row n m room is more =
+    let le : length new ≤ length come + 1 = rw more (length-with_row come row) in
     omega (arith, room, is, le)
 
-pub in_rows : (base minus plus new : List Row) (row : Row) → IsAscending base → new ≡ with_row plus row → overlaid base minus new ≡ with_row (overlaid base minus plus) row
-in_rows base minus plus new row up is = ap (λ (p : List Row). overlaid base minus p) is ∙ put_in base minus plus row up
+pub in_rows : (base gone come new : List Row) (row : Row) → IsAscending base → new ≡ with_row come row → overlaid base gone new ≡ with_row (overlaid base gone come) row
+in_rows base gone come new row up is = ap (λ (p : List Row). overlaid base gone p) is ∙ put_in base gone come row up
 
 -- ---- edits one by one
 
@@ -185,14 +185,14 @@ has-end [] q r = ap (λ b. b || false) (flips q r) ∙ alone (is_eq (row_cmp r q
 has-end (x ∷ rows) q r = ap (λ b. is_eq (row_cmp x r) || b) (has-end rows q r) ∙ sym (grouped (is_eq (row_cmp x r)) (has_row rows r) (is_eq (row_cmp r q)))
 
 -- a row more is taken out
-pub one_less : (base minus : List Row) (row : Row) → kept base (minus ++ row ∷ []) ≡ without_row (kept base minus) row
-one_less [] minus row = refl
-one_less (r ∷ base) minus row =
-    ap (λ b. cond (not b) (r ∷ kept base (minus ++ row ∷ [])) (kept base (minus ++ row ∷ []))) (has-end minus row r)
-    ∙ ap (λ (l : List Row). cond (not (has_row minus r || is_eq (row_cmp r row))) (r ∷ l) l) (one_less base minus row)
-    ∙ both (has_row minus r)
+pub one_less : (base gone : List Row) (row : Row) → kept base (gone ++ row ∷ []) ≡ without_row (kept base gone) row
+one_less [] gone row = refl
+one_less (r ∷ base) gone row =
+    ap (λ b. cond (not b) (r ∷ kept base (gone ++ row ∷ [])) (kept base (gone ++ row ∷ []))) (has-end gone row r)
+    ∙ ap (λ (l : List Row). cond (not (has_row gone r || is_eq (row_cmp r row))) (r ∷ l) l) (one_less base gone row)
+    ∙ both (has_row gone r)
   where
-    both : (h : Bool) → cond (not (h || is_eq (row_cmp r row))) (r ∷ without_row (kept base minus) row) (without_row (kept base minus) row) ≡ without_row (cond (not h) (r ∷ kept base minus) (kept base minus)) row
+    both : (h : Bool) → cond (not (h || is_eq (row_cmp r row))) (r ∷ without_row (kept base gone) row) (without_row (kept base gone) row) ≡ without_row (cond (not h) (r ∷ kept base gone) (kept base gone)) row
     both true = refl
     both false = refl
 

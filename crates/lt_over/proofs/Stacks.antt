@@ -6,7 +6,7 @@ use Rattle.std.proofs.lemmas.List.{take_more}
 use Rattle.lt_face.specs.Rows.{IsRow, IsRowSet, has_row, with_row, without_row}
 use Rattle.lt_face.specs.State.{Row}
 use Rattle.lt_over.specs.Overlaid.{overlaid}
-use Rattle.lt_over.specs.Layers.{Edits, IsLayer, under, stacked, gathered}
+use Rattle.lt_over.specs.Layers.{Edits, IsLayer, AreLayers, AreAsWide, under, stacked, gathered}
 use Rattle.lt_over.specs.Candidates.{IsCandidate}
 use Rattle.lt_over.proofs.Overlays.{IsRowSet-overlaid, length-with_row, has-overlaid, bare, one_less}
 use Rattle.lt_over.proofs.Counts.{le_all}
@@ -32,10 +32,10 @@ stacked_set width rows (l ∷ layers) set all = stacked_set width (under rows l)
 
 -- ---- how many rows there are at most
 
-length-fold : (rows plus : List Row) → length (fold with_row rows plus) ≤ length rows + length plus
+length-fold : (rows come : List Row) → length (fold with_row rows come) ≤ length rows + length come
 length-fold rows [] = omega arith
-length-fold rows (p ∷ plus) =
-    let more = length-fold (with_row rows p) plus in
+length-fold rows (p ∷ come) =
+    let more = length-fold (with_row rows p) come in
     let one = length-with_row rows p in
     omega (arith, more, one)
 
@@ -62,13 +62,14 @@ goes_on width base g layers i w l p o next told then lt is named all step before
 
 -- ---- one more layer
 
-map_end : {W X : Type 0} (g : W → X) (ws : List W) (w : W) → map g (ws ++ w ∷ []) ≡ map g ws ++ g w ∷ []
-map_end g [] w = refl
-map_end g (v ∷ ws) w = ap (λ (xs : List _). g v ∷ xs) (map_end g ws w)
+pub all_both : {X : Type 0} (P : X → Type 0) (xs ys : List X) → AllByRecursion P xs → AllByRecursion P ys → AllByRecursion P (xs ++ ys)
+all_both P [] ys all more = more
+all_both P (x ∷ xs) ys all more = (all.0, all_both P xs ys all.1 more)
 
-pub all_end : {X : Type 0} (P : X → Type 0) (xs : List X) (x : X) → AllByRecursion P xs → P x → AllByRecursion P (xs ++ x ∷ [])
-all_end P [] x all one = (one, tt)
-all_end P (y ∷ xs) x all one = (all.0, all_end P xs x all.1 one)
+-- layers that are all so wide
+pub layers_of_width : (width : ℕ) (layers : List Edits) → AreLayers layers → AreAsWide width layers → AllByRecursion (IsLayer width) layers
+layers_of_width width [] are wide = tt
+layers_of_width width (l ∷ layers) are wide = (subst (λ n. IsLayer n l) wide.0 are.0, layers_of_width width layers are.1 wide.1)
 
 pub length-overlaid : (rows gone come : List Row) → length (overlaid rows gone come) ≤ length rows + length come
 length-overlaid rows gone come =
@@ -76,18 +77,25 @@ length-overlaid rows gone come =
     let fewer = le_all (λ r. not (has_row gone r)) rows in
     omega (arith, all, fewer)
 
-pub stacked_more : {W : Type 0} (base : List Row) (g : W → Edits) (layers new : List W) (w : W) → new ≡ layers ++ w ∷ [] → stacked base (map g new) ≡ under (stacked base (map g layers)) (g w)
-stacked_more base g layers new w is = ap (λ (ws : List _). stacked base (map g ws)) is ∙ ap (stacked base) (map_end g layers w) ∙ fold_append under base (map g layers) (g w ∷ [])
+-- one more layer passes the bound by the rows that it puts in at most
+pub bound_more : {W : Type 0} (g : W → Edits) (layers : List W) (i : ℕ) (w : W) (l : Edits) (rows : List Row) (bound more next : ℕ) → i < length layers → w ≡ get_or layers i w → l ≡ g w → more ≡ length l.come → next ≡ bound + more
+    → length (stacked rows (map g (take i layers))) ≤ bound → length (stacked rows (map g (take (i + 1) layers))) ≤ next
+bound_more g layers i w l rows bound more next lt is named long sum before =
+    let one = length-overlaid (stacked rows (map g (take i layers))) (g w).gone (g w).come in
+    let same : length (stacked rows (map g (take (i + 1) layers))) ≡ length (under (stacked rows (map g (take i layers))) (g w)) = ap length (fold_next under g rows layers i w lt is) in
+    let come : length l.come ≡ length (g w).come = ap (λ (e : Edits). length e.come) named in
+    omega (arith, one, same, come, long, sum, before)
 
-pub layered_more : {W : Type 0} (width : ℕ) (base : List Row) (g : W → Edits) (layers new : List W) (w : W) (most more : ℕ) → new ≡ layers ++ w ∷ [] → IsLayer width (g w)
-    → AllByRecursion (IsLayer width) (map g layers) → length (stacked base (map g layers)) ≤ most → most + length (g w).come ≤ more
-    → AllByRecursion (IsLayer width) (map g new) × (length (stacked base (map g new)) ≤ more)
-layered_more width base g layers new w most more is one all before le =
-    let so : map g new ≡ map g layers ++ g w ∷ [] = ap (map g) is ∙ map_end g layers w in
-    let rows : stacked base (map g new) ≡ under (stacked base (map g layers)) (g w) = stacked_more base g layers new w is in
-    let long = length-overlaid (stacked base (map g layers)) (g w).gone (g w).come in
-    let same : length (stacked base (map g new)) ≡ length (under (stacked base (map g layers)) (g w)) = ap length rows in
-    (subst (AllByRecursion (IsLayer width)) (sym so) (all_end (IsLayer width) (map g layers) (g w) all one), omega (arith, same, long, before, le))
+pub stacked_more : (base : List Row) (layers new more : List Edits) → new ≡ layers ++ more → stacked base new ≡ stacked (stacked base layers) more
+stacked_more base layers new more is = ap (stacked base) is ∙ fold_append under base layers more
+
+pub layered_more : (width : ℕ) (base : List Row) (layers new more : List Edits) (most bound : ℕ) → new ≡ layers ++ more → AllByRecursion (IsLayer width) more
+    → AllByRecursion (IsLayer width) layers → length (stacked base layers) ≤ most → ((rows : List Row) → length rows ≤ most → length (stacked rows more) ≤ bound)
+    → AllByRecursion (IsLayer width) new × (length (stacked base new) ≤ bound)
+layered_more width base layers new more most bound is are all before le =
+    let same : length (stacked base new) ≡ length (stacked (stacked base layers) more) = ap length (stacked_more base layers new more is) in
+    let fewer = le (stacked base layers) before in
+    (subst (AllByRecursion (IsLayer width)) (sym is) (all_both (IsLayer width) layers more all are), omega (arith, same, fewer))
 
 -- ---- what the last layer tells of a row
 

@@ -1,5 +1,6 @@
 -- Layers of edits, laid one after another over a list of rows.
 use Rattle.std.specs.Prelude.{◌≡◌, ℕ, ◌++◌, List, fold}
+use Rattle.std.specs.List.{AllByRecursion}
 use Rattle.lt_face.specs.Rows.{IsRowSet}
 use Rattle.lt_face.specs.State.{Row}
 use Rattle.lt_over.specs.Overlaid.{overlaid}
@@ -15,6 +16,14 @@ pub record IsLayer (width : ℕ) (layer : Edits) : Type 0 where
   pub wide : layer.width ≡ width
   pub gone : IsRowSet width layer.gone
   pub come : IsRowSet width layer.come
+
+-- each is a layer of its own width
+abbrev pub AreLayers : List Edits → Type 0
+AreLayers layers = AllByRecursion (λ layer. IsLayer layer.width layer) layers
+
+-- each is so wide
+abbrev pub AreAsWide : ℕ → List Edits → Type 0
+AreAsWide width layers = AllByRecursion (λ layer. layer.width ≡ width) layers
 
 -- the rows with one layer laid over them
 abbrev pub under : List Row → Edits → List Row

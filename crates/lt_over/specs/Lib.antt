@@ -1,4 +1,5 @@
 pub mod Candidates
+pub mod Held
 pub mod Layers
 pub mod Masks
 pub mod Overlaid

@@ -7,11 +7,11 @@ use Rattle.lt_flat.specs.Flat.{kept}
 
 -- the rows without some, and then with some
 abbrev pub overlaid : List Row → List Row → List Row → List Row
-overlaid base minus plus = fold with_row (kept base minus) plus
+overlaid base gone come = fold with_row (kept base gone) come
 
 -- the row stands in base, and isn't taken out
 abbrev pub stays : List Row → List Row → Row → Bool
-stays base minus row = has_row base row && not (has_row minus row)
+stays base gone row = has_row base row && not (has_row gone row)
 
 -- the lesser of two rows
 abbrev pub lesser : Option Row → Option Row → Option Row

@@ -1,17 +1,19 @@
 //! `Layer`: edits of a set of rows, made once and shared.
-ghost use Rattle.std.specs.Prelude.{◌≡◌, ◌≤◌, ◌∷◌, ℕ, List, false, IfOk, IsTrue};
+ghost use Rattle.std.specs.Prelude.{◌≡◌, ◌≤◌, ◌∷◌, [], ℕ, List, false, length, IfOk, IsTrue, OnOk, OnErr};
 ghost use Rattle.lt_face.specs.Limits.{most_columns};
-ghost use Rattle.lt_face.specs.Rows.{IsAscending, IsRowSet, has_row};
+ghost use Rattle.lt_face.specs.Rows.{IsAscending, IsRow, IsRowSet, has_row, with_row, without_row};
 ghost use Rattle.lt_face.specs.State.{Row as RowView};
 ghost use Rattle.lt_over.specs.Layers.{IsLayer, under};
 ghost use Rattle.lt_over.specs.Masks.{AreMasked};
 
+use crate::edits::take_row;
 use crate::mask::{Mask, add_all};
-use lt_face::{Key, NoMemory, Row, RowList, RowReads, RowSet};
+use lt_face::{Items, Key, NoMemory, Row, RowList, RowReads, RowSet};
 use lt_flat::FlatRows;
+use std::alloc::Global;
 use std::marker::Model;
 
-/// Rows that go from a set, and then rows that come into it. It is never edited, so that sets may share it.
+/// Rows that go from a set, and then rows that come into it.
 #[derive(Drop)]
 pub struct Layer {
     gone: FlatRows,
@@ -56,15 +58,60 @@ impl Layer {
         Ok(Layer { gone, come, mask })
     }
 
-    /// The layer of these rows, shared.
-    pub(crate) fn of(gone: &FlatRows, come: &FlatRows) -> Result<Layer, NoMemory>
-        requires { come.now.width ≡ gone.now.width }
-        ensures { IfOk result (λ layer. layer ≡ record { width = gone.now.width; gone = gone.now.rows; come = come.now.rows }) }
+    /// The layer that changes nothing.
+    pub(crate) fn none(alloc: Global, width: usize) -> Result<Layer, NoMemory>
+        requires { width ≤ most_columns }
+        ensures { IfOk result (λ layer. layer ≡ record { width = width; gone = []; come = [] }) }
     {
-        let gone = gone.share()?;
-        let come = come.share()?;
-        let mask = masked(&gone, &come);
+        let layer = Layer::new(width, Items::new(alloc), Items::new(alloc))?;
+        Ok(layer)
+    }
+
+    /// A second owner of the same rows.
+    pub(crate) fn share(&self) -> Result<Layer, NoMemory>
+        ensures { IfOk result (λ same. same ≡ self.now) }
+    {
+        let gone = self.gone.share()?;
+        let come = self.come.share()?;
+        let mask = self.mask.copy();
         Ok(Layer { gone, come, mask })
+    }
+
+    /// Whether no row goes or comes.
+    pub(crate) fn is_bare(&self) -> bool
+        ensures gone { IsTrue result → self.now.gone ≡ [] }
+        ensures come { IsTrue result → self.now.come ≡ [] }
+    {
+        self.gone.len() == 0 && self.come.len() == 0
+    }
+
+    /// How many rows go and come.
+    pub(crate) fn len(&self) -> usize {
+        self.gone.len().saturating_add(self.come.len())
+    }
+
+    /// One more row comes. Want of memory changes nothing.
+    pub(crate) fn put(&mut self, row: Row) -> Result<(), NoMemory>
+        requires { IsRow self.old.width row }
+        ensures ok { OnOk result (self.new ≡ record { width = self.old.width; gone = self.old.gone; come = with_row self.old.come row }) }
+        ensures err { OnErr result (self.new ≡ self.old) }
+    {
+        self.mask.add(&row);
+        self.come.insert(row)?;
+        Ok(())
+    }
+
+    /// One more row goes, be it one that came or not. Want of memory leaves what the layer does as it was.
+    pub(crate) fn take(&mut self, row: &Row) -> Result<(), NoMemory>
+        requires { IsRow self.old.width row.now }
+        ensures ok { OnOk result ((rows : List RowView) → IsAscending rows → under rows self.new ≡ without_row (under rows self.old) row.now) }
+        ensures err { OnErr result ((rows : List RowView) → IsAscending rows → under rows self.new ≡ under rows self.old) }
+        ensures fewer { length self.new.come ≤ length self.old.come }
+        ensures width { self.new.width ≡ self.old.width }
+    {
+        self.mask.add(row);
+        take_row(&mut self.gone, &mut self.come, row)?;
+        Ok(())
     }
 
     /// How many cells each row has.

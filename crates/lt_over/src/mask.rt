@@ -37,6 +37,13 @@ impl Mask {
         Mask { words: [0; 4] }
     }
 
+    /// The same places.
+    pub(crate) fn copy(&self) -> Mask
+        ensures { result ≡ self.now }
+    {
+        Mask { words: self.words }
+    }
+
     /// Adds the place of a cell.
     fn add_cell(&mut self, cell: Key)
         ensures there { has_cell self.new cell ≡ true }
@@ -47,7 +54,7 @@ impl Mask {
     }
 
     /// Adds the place of the row's first cell.
-    fn add(&mut self, row: &Row)
+    pub(crate) fn add(&mut self, row: &Row)
         ensures there { may_have self.new row.now ≡ true }
         ensures kept { (r : RowView) → may_have self.old r ≡ true → may_have self.new r ≡ true }
     {

@@ -1,20 +1,12 @@
-//! Searches past rows that are taken out.
-ghost use Rattle.std.specs.Prelude.{◌≡◌, [], true, IsTrue, List, ℕ};
+//! Searches past rows that go.
+ghost use Rattle.std.specs.Prelude.{◌≡◌, true, List, ℕ};
 ghost use Rattle.std.specs.Option.{option_copied};
 ghost use Rattle.lt_face.specs.Rows.{first_above, first_from, has_row};
 ghost use Rattle.lt_flat.specs.Flat.{kept};
 ghost use Rattle.lt_over.specs.Overlaid.{is_reached, lesser};
 
+use crate::layer::Layer;
 use lt_face::{Near, Row, RowReads, row_above};
-use lt_flat::FlatRows;
-
-/// Whether no row is taken out and none put in.
-pub(crate) fn are_bare(minus: &FlatRows, plus: &FlatRows) -> bool
-    ensures minus { IsTrue result → minus.now.rows ≡ [] }
-    ensures plus { IsTrue result → plus.now.rows ≡ [] }
-{
-    minus.len() == 0 && plus.len() == 0
-}
 
 /// Whether the row is at least one that is put in.
 pub(crate) fn reaches(more: Option<&Row>, row: &Row) -> bool
@@ -29,13 +21,13 @@ pub(crate) fn reaches(more: Option<&Row>, row: &Row) -> bool
 /// The least of the rows that stay above a row of the set, and of one that is put in.
 fn least_above<'a, B: RowReads>(
     base: &'a B,
-    minus: &FlatRows,
+    layer: &Layer,
     near: &mut Near,
     row: &'a Row,
     more: Option<&'a Row>,
 ) -> Option<&'a Row>
     requires { has_row (B.rows base.now) row.now ≡ true }
-    ensures { option_copied result ≡ lesser (first_above (kept (B.rows base.now) minus.now.rows) row.now) (option_copied more.entry) }
+    ensures { option_copied result ≡ lesser (first_above (kept (B.rows base.now) layer.now.gone) row.now) (option_copied more.entry) }
 {
     let _width = base.width();
     let mut from = row;
@@ -46,7 +38,7 @@ fn least_above<'a, B: RowReads>(
                 if reaches(more, next) {
                     return more;
                 }
-                if !minus.has(next) {
+                if !layer.takes(next) {
                     return Some(next);
                 }
                 from = next;
@@ -58,13 +50,13 @@ fn least_above<'a, B: RowReads>(
 /// The least of the rows that stay, where the set's least row is known, and of one that is put in.
 pub(crate) fn least_from<'a, B: RowReads>(
     base: &'a B,
-    minus: &FlatRows,
+    layer: &Layer,
     near: &mut Near,
     first: Option<&'a Row>,
     more: Option<&'a Row>,
 ) -> Option<&'a Row>
     requires { (q : List ℕ) × (option_copied first ≡ first_from (B.rows base.now) q) }
-    ensures { (q : List ℕ) → option_copied first.entry ≡ first_from (B.rows base.now) q → option_copied result ≡ lesser (first_from (kept (B.rows base.now) minus.now.rows) q) (option_copied more.entry) }
+    ensures { (q : List ℕ) → option_copied first.entry ≡ first_from (B.rows base.now) q → option_copied result ≡ lesser (first_from (kept (B.rows base.now) layer.now.gone) q) (option_copied more.entry) }
 {
     let _width = base.width();
     match first {
@@ -73,8 +65,8 @@ pub(crate) fn least_from<'a, B: RowReads>(
             if reaches(more, row) {
                 return more;
             }
-            if minus.has(row) {
-                least_above(base, minus, near, row, more)
+            if layer.takes(row) {
+                least_above(base, layer, near, row, more)
             } else {
                 Some(row)
             }

@@ -1,20 +1,19 @@
 //! `SharedOver`: rows in pages with edits laid over them.
-ghost use Rattle.std.specs.Prelude.{◌≡◌, fold, map, IfOk, OnOk, OnErr};
-ghost use Rattle.std.specs.Arc.{arc_value};
+ghost use Rattle.std.specs.Prelude.{◌≡◌, fold, IfOk, OnOk, OnErr};
 ghost use Rattle.std.specs.List.{AllByRecursion};
 ghost use Rattle.lt_face.specs.Rows.{IsRow, IsRowSet, with_row, without_row};
 ghost use Rattle.lt_flat.specs.Flat.{kept};
-ghost use Rattle.lt_over.specs.Layers.{stacked};
+ghost use Rattle.lt_over.specs.Layers.{AreAsWide, stacked};
 ghost use Rattle.lt_over.specs.Overlaid.{overlaid};
 
 use crate::layer::Layer;
+use crate::layers::Layers;
 use crate::over::Over;
 use crate::stack::Stack;
-use lt_face::{Key, Near, NoMemory, Row, RowList, RowReads, RowSet};
+use lt_face::{Fraction, Key, Near, NoMemory, Row, RowList, RowReads, RowSet};
 use lt_shared::SharedRows;
 use std::alloc::Global;
 use std::marker::Model;
-use std::sync::Arc;
 
 /// So many edits may lie over the pages of a set that is kept, whatever it holds.
 const FEW: usize = 16;
@@ -40,11 +39,11 @@ fn is_long(edits: usize) -> bool {
 }
 
 /// The same rows, with the edits laid on the pages where they are many.
-fn settled_if_long(alloc: Global, edited: Over<SharedRows>) -> Result<Over<SharedRows>, NoMemory>
+fn merged_if_long(alloc: Global, edited: Over<SharedRows>) -> Result<Over<SharedRows>, NoMemory>
     ensures { IfOk result (λ set. set ≡ edited) }
 {
     if is_long(edited.edits()) {
-        let base = edited.settled()?;
+        let base = edited.merged()?;
         let most = base.len();
         let set = Over::on(alloc, base, most)?;
         return Ok(set);
@@ -58,7 +57,7 @@ impl SharedOver {
         ensures { IfOk result (λ set. set ≡ self.now) }
     {
         let edited = self.set.raised()?.lowered()?;
-        let lower = settled_if_long(alloc, edited)?;
+        let lower = merged_if_long(alloc, edited)?;
         let most = lower.most();
         let stack = Stack::on(alloc, lower, most);
         let set = Over::on(alloc, stack, most)?;
@@ -71,12 +70,13 @@ impl SharedOver {
     }
 
     /// The set with the layers laid over it, the first layer first. No row is copied.
-    pub fn layered(&self, layers: &[Arc<Layer>]) -> Result<SharedOver, NoMemory>
-        requires { AllByRecursion (λ layer. layer.width ≡ self.now.width) (map arc_value layers.now) }
-        ensures rows { IfOk result (λ set. set.rows ≡ stacked self.now.rows (map arc_value layers.now)) }
+    pub fn layered(&self, layers: &Layers) -> Result<SharedOver, NoMemory>
+        requires { AreAsWide self.now.width layers.now }
+        ensures rows { IfOk result (λ set. set.rows ≡ stacked self.now.rows layers.now) }
         ensures width { IfOk result (λ set. set.width ≡ self.now.width) }
     {
-        let stack = self.set.raised()?.pushed(layers)?;
+        let mut stack = self.set.raised()?;
+        stack.push(layers)?;
         let most = stack.most();
         let set = Over::on(stack.allocator(), stack, most)?;
         Ok(SharedOver { set })
@@ -113,9 +113,9 @@ impl SharedOver {
     {
         let alloc = come.allocator();
         let layer = Layer::new(self.set.width(), gone, come)?;
-        let layer = Arc::new(alloc, layer)?;
+        let layers = Layers::one(alloc, layer)?;
         let mut stack = self.set.raised()?;
-        stack.push(layer)?;
+        stack.push(&layers)?;
         let most = stack.most();
         let set = Over::on(alloc, stack, most)?;
         Ok(SharedOver { set })
@@ -193,6 +193,10 @@ impl RowReads for SharedOver {
     #[inline(always)]
     fn row_near(&self, near: &mut Near, prefix: &Row, bound: Key) -> Option<&Row> {
         self.set.row_near(near, prefix, bound)
+    }
+
+    fn row_about(&self, along: Fraction) -> Option<&Row> {
+        self.set.row_about(along)
     }
 }
 

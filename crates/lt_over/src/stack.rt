@@ -1,17 +1,20 @@
 //! `Stack`: a set of rows under layers of edits that sets share.
-ghost use Rattle.std.specs.Prelude.{◌≡◌, ◌+◌, ◌<◌, ◌≤◌, ◌^◌, ◌++◌, ◌∷◌, [], true, length, map, slice_get, IfOk, OnOk, OnErr};
+ghost use Rattle.std.specs.Prelude.{◌≡◌, ◌≤◌, ◌++◌, ◌∷◌, [], List, true, length, map, slice_get, IfOk, OnOk, OnErr};
 ghost use Rattle.std.specs.Arc.{arc_value};
 ghost use Rattle.std.specs.List.{AllByRecursion};
 ghost use Rattle.std.specs.Option.{option_copied};
 ghost use Rattle.lt_face.specs.Limits.{most_columns};
 ghost use Rattle.lt_face.specs.Rows.{IsRow, first_above, has_row};
-ghost use Rattle.lt_over.specs.Layers.{IsLayer, stacked, under};
+ghost use Rattle.lt_face.specs.State.{Row as RowView};
+ghost use Rattle.lt_over.specs.Layers.{AreAsWide, AreLayers, IsLayer, stacked};
 
+use crate::about::near_stacked;
 use crate::candidate::{candidate_above, candidate_from, candidate_near, find_staying};
 use crate::edits::has_room;
 use crate::layer::Layer;
+use crate::layers::Layers;
 use crate::over::Over;
-use lt_face::{Items, Key, Near, NoMemory, Row, RowList, RowReads, RowSet};
+use lt_face::{Fraction, Items, Key, Near, NoMemory, Row, RowList, RowReads, RowSet};
 use std::alloc::Global;
 use std::marker::Model;
 use std::sync::Arc;
@@ -21,81 +24,77 @@ use std::sync::Arc;
 #[derive(Drop)]
 pub(crate) struct Stack<B: RowSet> {
     base: B,
-    layers: Vec<Arc<Layer>>,
+    layers: Layers,
     most: usize,
 }
 
 impl<B: RowSet> Model for Stack<B> {
-    ghost use Rattle.std.specs.Prelude.{◌≤◌, length, map};
-    ghost use Rattle.std.specs.Arc.{arc_value};
+    ghost use Rattle.std.specs.Prelude.{◌≤◌, length};
     ghost use Rattle.std.specs.List.{AllByRecursion};
     ghost use Rattle.lt_face.specs.State.{Relation};
     ghost use Rattle.lt_over.specs.Layers.{IsLayer, stacked};
 
     ghost Value = { Relation };
 
-    ghost view = { λ s. record { width = B.width_of s.base; rows = stacked (B.rows s.base) (map arc_value s.layers.items) } };
+    ghost view = { λ s. record { width = B.width_of s.base; rows = stacked (B.rows s.base) s.layers } };
 
     ghost invariant = { λ s.
-        AllByRecursion (IsLayer (B.width_of s.base)) (map arc_value s.layers.items)
-        × (length (stacked (B.rows s.base) (map arc_value s.layers.items)) ≤ s.most) };
+        AllByRecursion (IsLayer (B.width_of s.base)) s.layers
+        × (length (stacked (B.rows s.base) s.layers) ≤ s.most) };
 }
 
-/// Second owners of the layers.
-fn shared(alloc: Global, layers: &[Arc<Layer>]) -> Result<Vec<Arc<Layer>>, NoMemory>
-    ensures { IfOk result (λ list. map arc_value list.items ≡ map arc_value layers.now) }
+/// A number that the rows don't pass under the layers, where there are at most so many without them.
+fn most_under(most: usize, layers: &[Arc<Layer>]) -> Result<usize, NoMemory>
+    ensures { IfOk result (λ bound. (rows : List RowView) → length rows ≤ most → length (stacked rows (map arc_value layers.now)) ≤ bound) }
 {
-    let mut list = Vec::with_capacity(alloc, layers.len())?;
+    let mut bound = most;
     for layer in layers {
-        let layer = layer.clone()?;
-        list.push(layer)?;
+        let more = layer.come().len();
+        if !has_room(bound, more) {
+            return Err(NoMemory);
+        }
+        bound += more;
     }
-    Ok(list)
+    Ok(bound)
 }
 
-/// One more layer, where there are at most so many rows. Answers how many there are then at most. Want of memory changes nothing.
-fn push_layer(
-    layers: &mut Vec<Arc<Layer>>,
-    most: usize,
-    layer: Arc<Layer>,
-) -> Result<usize, NoMemory>
-    ensures ok { OnOk result (layers.new.items ≡ layers.old.items ++ layer ∷ []) }
-    ensures err { OnErr result (layers.new.items ≡ layers.old.items) }
-    ensures most { IfOk result (λ more. most + length (arc_value layer).come ≤ more) }
+/// More layers behind these, where there are at most so many rows. Answers how many there are then at most. Want of memory
+/// changes nothing.
+fn push_layers(layers: &mut Layers, most: usize, more: &Layers) -> Result<usize, NoMemory>
+    ensures ok { OnOk result (layers.new ≡ layers.old ++ more.now) }
+    ensures err { OnErr result (layers.new ≡ layers.old) }
+    ensures most { IfOk result (λ bound. (rows : List RowView) → length rows ≤ most → length (stacked rows more.now) ≤ bound) }
+    ensures are_layers { IfOk result (λ _. AreLayers more.now) }
 {
-    let _width = layer.width();
-    let more = layer.come().len();
-    if !has_room(most, more) {
-        return Err(NoMemory);
-    }
-    layers.push(layer)?;
-    Ok(most + more)
+    let bound = most_under(most, more.as_slice())?;
+    *layers = layers.chain(more)?;
+    Ok(bound)
 }
 
 /// The layer that puts one row in.
-fn put_one(alloc: Global, width: usize, row: Row) -> Result<Arc<Layer>, NoMemory>
+fn put_one(alloc: Global, width: usize, row: Row) -> Result<Layers, NoMemory>
     requires narrow { width ≤ most_columns }
     requires row { IsRow width row }
-    ensures { IfOk result (λ layer. arc_value layer ≡ record { width = width; gone = []; come = row ∷ [] }) }
+    ensures { IfOk result (λ layers. layers ≡ record { width = width; gone = []; come = row ∷ [] } ∷ []) }
 {
     let mut come = Items::new(alloc);
     come.push(row)?;
     let layer = Layer::new(width, Items::new(alloc), come)?;
-    let layer = Arc::new(alloc, layer)?;
-    Ok(layer)
+    let layers = Layers::one(alloc, layer)?;
+    Ok(layers)
 }
 
 /// The layer that takes one row out.
-fn take_one(alloc: Global, width: usize, row: &Row) -> Result<Arc<Layer>, NoMemory>
+fn take_one(alloc: Global, width: usize, row: &Row) -> Result<Layers, NoMemory>
     requires narrow { width ≤ most_columns }
     requires row { IsRow width row.now }
-    ensures { IfOk result (λ layer. arc_value layer ≡ record { width = width; gone = row.now ∷ []; come = [] }) }
+    ensures { IfOk result (λ layers. layers ≡ record { width = width; gone = row.now ∷ []; come = [] } ∷ []) }
 {
     let mut gone = Items::new(alloc);
     gone.push(row.copy_row())?;
     let layer = Layer::new(width, gone, Items::new(alloc))?;
-    let layer = Arc::new(alloc, layer)?;
-    Ok(layer)
+    let layers = Layers::one(alloc, layer)?;
+    Ok(layers)
 }
 
 /// Whether the row is there with the layers laid over the base: what the last layer that tells of it says.
@@ -164,36 +163,21 @@ impl<B: RowSet> Stack<B> {
     {
         Stack {
             base,
-            layers: Vec::new(alloc),
+            layers: Layers::none(alloc),
             most,
         }
     }
 
-    /// Lays one more layer over the rows. Want of memory leaves them as they were.
-    pub(crate) fn push(&mut self, layer: Arc<Layer>) -> Result<(), NoMemory>
-        requires { (arc_value layer).width ≡ self.old.width }
-        ensures ok { OnOk result (self.new.rows ≡ under self.old.rows (arc_value layer)) }
+    /// Lays more layers over the rows, the first one first. Want of memory leaves them as they were.
+    pub(crate) fn push(&mut self, more: &Layers) -> Result<(), NoMemory>
+        requires { AreAsWide self.old.width more.now }
+        ensures ok { OnOk result (self.new.rows ≡ stacked self.old.rows more.now) }
         ensures err { OnErr result (self.new.rows ≡ self.old.rows) }
         ensures width { self.new.width ≡ self.old.width }
     {
         let _width = self.base.width();
-        let _width = layer.width();
-        self.most = push_layer(&mut self.layers, self.most, layer)?;
+        self.most = push_layers(&mut self.layers, self.most, more)?;
         Ok(())
-    }
-
-    /// The set with more layers laid over it.
-    pub(crate) fn pushed(self, more: &[Arc<Layer>]) -> Result<Stack<B>, NoMemory>
-        requires { AllByRecursion (λ layer. layer.width ≡ self.width) (map arc_value more.now) }
-        ensures rows { IfOk result (λ stack. stack.rows ≡ stacked self.rows (map arc_value more.now)) }
-        ensures width { IfOk result (λ stack. stack.width ≡ self.width) }
-    {
-        let mut stack = self;
-        for layer in more {
-            let layer = layer.clone()?;
-            stack.push(layer)?;
-        }
-        Ok(stack)
     }
 
     /// A number that the rows don't pass.
@@ -205,7 +189,7 @@ impl<B: RowSet> Stack<B> {
 
     /// Where the layers' memory comes from.
     pub(crate) fn allocator(&self) -> Global {
-        *self.layers.allocator()
+        self.layers.allocator()
     }
 
     /// Whether there is a layer.
@@ -222,7 +206,7 @@ fn laid_all<B: RowSet>(base: &Over<B>, layers: &[Arc<Layer>]) -> Result<Over<B>,
 {
     let mut set = base.share()?;
     for layer in layers {
-        set = set.laid_by(layer.gone(), layer.come())?;
+        set = set.laid_by(layer)?;
     }
     Ok(set)
 }
@@ -232,7 +216,7 @@ impl<B: RowSet> Stack<Over<B>> {
     pub(crate) fn lowered(&self) -> Result<Over<B>, NoMemory>
         ensures { IfOk result (λ set. set ≡ self.now) }
     {
-        let set = laid_all(&self.base, &self.layers)?;
+        let set = laid_all(&self.base, self.layers.as_slice())?;
         Ok(set)
     }
 }
@@ -252,8 +236,8 @@ impl<B: RowSet> RowReads for Stack<B> {
         if self.layers.is_empty() {
             return self.base.len();
         }
-        let layers: &[Arc<Layer>] = &self.layers;
-        let start = Row::from_cells(*self.layers.allocator(), &[]);
+        let layers = self.layers.as_slice();
+        let start = Row::from_cells(self.layers.allocator(), &[]);
         let first = candidate_from(&self.base, layers, &start);
         let mut near = Near::start();
         let first = find_staying(&self.base, layers, &mut near, first);
@@ -261,13 +245,14 @@ impl<B: RowSet> RowReads for Stack<B> {
     }
 
     fn has(&self, row: &Row) -> bool {
-        has_stacked(&self.base, &self.layers, row)
+        has_stacked(&self.base, self.layers.as_slice(), row)
     }
 
     fn row_at_least(&self, from: &Row) -> Option<&Row> {
-        let first = candidate_from(&self.base, &self.layers, from);
+        let layers = self.layers.as_slice();
+        let first = candidate_from(&self.base, layers, from);
         let mut near = Near::start();
-        find_staying(&self.base, &self.layers, &mut near, first)
+        find_staying(&self.base, layers, &mut near, first)
     }
 
     #[inline(always)]
@@ -275,8 +260,16 @@ impl<B: RowSet> RowReads for Stack<B> {
         if self.layers.is_empty() {
             return self.base.row_near(near, prefix, bound);
         }
-        let first = candidate_near(&self.base, &self.layers, near, prefix, bound);
-        find_staying(&self.base, &self.layers, near, first)
+        let layers = self.layers.as_slice();
+        let first = candidate_near(&self.base, layers, near, prefix, bound);
+        find_staying(&self.base, layers, near, first)
+    }
+
+    fn row_about(&self, along: Fraction) -> Option<&Row> {
+        match near_stacked(&self.base, self.most, self.layers.as_slice(), along) {
+            Some(row) => self.row_at_least(row),
+            None => None,
+        }
     }
 }
 
@@ -285,7 +278,7 @@ impl<B: RowSet> RowSet for Stack<B> {
         let base = B::empty(alloc, width)?;
         Ok(Stack {
             base,
-            layers: Vec::new(alloc),
+            layers: Layers::none(alloc),
             most: 0,
         })
     }
@@ -296,34 +289,34 @@ impl<B: RowSet> RowSet for Stack<B> {
         let base = B::from_sorted(width, rows)?;
         Ok(Stack {
             base,
-            layers: Vec::new(alloc),
+            layers: Layers::none(alloc),
             most,
         })
     }
 
     fn insert(&mut self, row: Row) -> Result<bool, NoMemory> {
         let width = self.base.width();
-        if has_stacked(&self.base, &self.layers, &row) {
+        if has_stacked(&self.base, self.layers.as_slice(), &row) {
             return Ok(false);
         }
-        let layer = put_one(*self.layers.allocator(), width, row)?;
-        self.most = push_layer(&mut self.layers, self.most, layer)?;
+        let layer = put_one(self.layers.allocator(), width, row)?;
+        self.most = push_layers(&mut self.layers, self.most, &layer)?;
         Ok(true)
     }
 
     fn remove(&mut self, row: &Row) -> Result<bool, NoMemory> {
         let width = self.base.width();
-        if !has_stacked(&self.base, &self.layers, row) {
+        if !has_stacked(&self.base, self.layers.as_slice(), row) {
             return Ok(false);
         }
-        let layer = take_one(*self.layers.allocator(), width, row)?;
-        self.most = push_layer(&mut self.layers, self.most, layer)?;
+        let layer = take_one(self.layers.allocator(), width, row)?;
+        self.most = push_layers(&mut self.layers, self.most, &layer)?;
         Ok(true)
     }
 
     fn share(&self) -> Result<Stack<B>, NoMemory> {
         let base = self.base.share()?;
-        let layers = shared(*self.layers.allocator(), &self.layers)?;
+        let layers = self.layers.share()?;
         Ok(Stack {
             base,
             layers,

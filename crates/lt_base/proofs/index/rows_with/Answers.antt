@@ -1,6 +1,4 @@
-use Rattle.std.proofs.Common.{◌≡◌, List, sym, ap, map, ◌∙◌, subst, arith}
-use Rattle.std.specs.Arc.{arc_value}
-use Rattle.lt_over.specs.Layers.{stacked}
+use Rattle.std.proofs.Common.{sym, ◌∙◌, subst, arith}
 use Rattle.lt_delta.specs.Columns.{IsPermuted}
 use Rattle.lt_delta.specs.Laying.{rows_laid}
 use Rattle.lt_base.proofs.Kept.{all_laid}
@@ -11,7 +9,7 @@ pub returns-in_ok-set-in-Some-clause-rows : goal.returns-in_ok-set-in-Some-claus
 returns-in_ok-set-in-Some-clause-rows c = λ table set is.
     does_rows c.args.rows.now.width c.args.relation c.args.columns.now c.args.marks.now c.in-Some.edits.now c.args.rows.now.rows c.in_ok-set-in-Some.set.rows c.requires.perm c.in-Some.ensures.relation
     (c.in-Some.ensures.columns ∙ c.as_slice.ensures) c.in-Some.ensures.edits c.width-width.ensures.is_set
-    (c.in_ok-set-in-Some.ensures.rows ∙ ap (λ (layers : List _). stacked c.args.rows.now.rows (map arc_value layers)) c.deref.ensures.value) table set is
+    c.in_ok-set-in-Some.ensures.rows table set is
 
 pub edits_in-requires : goal.edits_in-requires
 edits_in-requires c = (c.args.rows.now.width, c.requires.perm, omega (arith, c.width-width.ensures.value, c.width-width.ensures.bound), c.requires.fit)

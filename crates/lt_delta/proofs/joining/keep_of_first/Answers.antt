@@ -1,4 +1,4 @@
-use Rattle.std.proofs.Common.{◌≢◌, map, refl, sym, subst}
+use Rattle.std.proofs.Common.{◌≢◌, refl, sym, subst}
 use Rattle.std.specs.Arc.{arc_value}
 use Rattle.std.specs.List.{AllByRecursion}
 use Rattle.lt_model.specs.declared.mark.Mark.{Mark}
@@ -20,7 +20,7 @@ loop-edits-preserved c =
           let of_first : IsEditsOf first edits = owned_each arc_value (IsEditsOf first) c.known-edits-items.result.now c.loop-edits.edits-index c.edits-item.result c.known-edits-items.ensures c.loop-edits-test.true c.edits-item.is in
           let off : AllByRecursion (λ (m : Mark). m.relation ≢ edits.relation) second = subst (λ (e : IndexEdits). AllByRecursion (λ (m : Mark). m.relation ≢ e.relation) second) c.deref.ensures (w.if-not-is_on.ensures.off refl) in
           let one : IsEditsOf (and_then first second) (arc_value w.in_ok-same.same) = subst (IsEditsOf (and_then first second)) (sym w.in_ok-same.ensures.cases)
-          (others_after edits.relation edits.columns first second (map arc_value edits.layers.items) c.len-len.ensures.ascending of_first off) in
+          (others_after edits.relation edits.columns first second edits.layers c.len-len.ensures.ascending of_first off) in
           rw w.all-is (each_pushed arc_value (IsEditsOf (and_then first second)) c.loop-edits.all.items w.push.new.self.items w.in_ok-same.same w.in_ok-push.ensures.items c.loop-edits.invariant one)
       | else-not-is_on w ↦ rw w.all-is c.loop-edits.invariant
     ]

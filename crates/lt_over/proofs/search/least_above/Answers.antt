@@ -12,17 +12,17 @@ row_above-requires g c = c.loop-more.invariant.there
 
 pub returns-in-None : goal.returns-in-None
 returns-in-None g c =
-    sym (ap (λ o. lesser o (option_copied c.args.more)) (c.loop-more.invariant.same ∙ above_none (g.B.RowReads.rows c.args.base.now) c.args.minus.now.rows c.loop-more.from.now (sym c.in-None.ensures)))
+    sym (ap (λ o. lesser o (option_copied c.args.more)) (c.loop-more.invariant.same ∙ above_none (g.B.RowReads.rows c.args.base.now) c.args.layer.now.gone c.loop-more.from.now (sym c.in-None.ensures)))
 
 pub returns-then-reaches : goal.returns-then-reaches
 returns-then-reaches g c =
     sym (ap (λ o. lesser o (option_copied c.args.more)) c.loop-more.invariant.same
-    ∙ above_stops (g.B.RowReads.rows c.args.base.now) c.args.minus.now.rows c.loop-more.from.now c.in-Some.next.now (option_copied c.args.more) c.width-width.ensures.is_set.rises (sym c.in-Some.ensures)
+    ∙ above_stops (g.B.RowReads.rows c.args.base.now) c.args.layer.now.gone c.loop-more.from.now c.in-Some.next.now (option_copied c.args.more) c.width-width.ensures.is_set.rises (sym c.in-Some.ensures)
     (sym c.reaches.ensures ∙ c.if-reaches.true))
 
-pub returns-then-not-has : goal.returns-then-not-has
-returns-then-not-has g c =
-    sym (ap (λ o. lesser o (option_copied c.args.more)) (c.loop-more.invariant.same ∙ above_here (g.B.RowReads.rows c.args.base.now) c.args.minus.now.rows c.loop-more.from.now c.in-Some.next.now (sym c.in-Some.ensures) (sym c.has.ensures ∙ c.if-not-has.true))
+pub returns-then-not-takes : goal.returns-then-not-takes
+returns-then-not-takes g c =
+    sym (ap (λ o. lesser o (option_copied c.args.more)) (c.loop-more.invariant.same ∙ above_here (g.B.RowReads.rows c.args.base.now) c.args.layer.now.gone c.loop-more.from.now c.in-Some.next.now (sym c.in-Some.ensures) (sym c.takes.ensures ∙ c.if-not-takes.true))
     ∙ lesser_before (option_copied c.args.more) c.in-Some.next.now (sym c.reaches.ensures ∙ c.if-reaches.false))
 
 pub loop-more-smaller : goal.loop-more-smaller
@@ -33,6 +33,6 @@ loop-more-preserved g c = record {
   there = above_has (g.B.RowReads.rows c.args.base.now) c.loop-more.from.now c.in-Some.next.now (sym c.in-Some.ensures);
   same =
       c.loop-more.invariant.same
-      ∙ above_past (g.B.RowReads.rows c.args.base.now) c.args.minus.now.rows c.loop-more.from.now c.in-Some.next.now c.width-width.ensures.is_set.rises (sym c.in-Some.ensures)
-      (sym c.has.ensures ∙ c.if-not-has.false);
+      ∙ above_past (g.B.RowReads.rows c.args.base.now) c.args.layer.now.gone c.loop-more.from.now c.in-Some.next.now c.width-width.ensures.is_set.rises (sym c.in-Some.ensures)
+      (sym c.takes.ensures ∙ c.if-not-takes.false);
 }

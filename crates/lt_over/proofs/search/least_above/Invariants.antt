@@ -8,7 +8,7 @@ use Rattle.lt_over.proofs.search.least_above.Given as goal
 abbrev pub invariant-loop-more : goal.invariant-loop-more
 invariant-loop-more g l = record {
   there : has_row (g.B.RowReads.rows l.base) l.from ≡ true;
-  same : first_above (kept (g.B.RowReads.rows l.base) l.minus.rows) l.fn.row ≡ first_above (kept (g.B.RowReads.rows l.base) l.minus.rows) l.from;
+  same : first_above (kept (g.B.RowReads.rows l.base) l.layer.gone) l.fn.row ≡ first_above (kept (g.B.RowReads.rows l.base) l.layer.gone) l.from;
 }
 
 abbrev pub decreases-loop-more : goal.decreases-loop-more

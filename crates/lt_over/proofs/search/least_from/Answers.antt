@@ -10,19 +10,19 @@ least_above-requires g c =
 
 pub returns-in-None : goal.returns-in-None
 returns-in-None g c = λ q is.
-    sym (ap (λ o. lesser o (option_copied c.args.more)) (from_none (g.B.RowReads.rows c.args.base.now) c.args.minus.now.rows q (sym (sym (ap option_copied c.in-None.is) ∙ is))))
+    sym (ap (λ o. lesser o (option_copied c.args.more)) (from_none (g.B.RowReads.rows c.args.base.now) c.args.layer.now.gone q (sym (sym (ap option_copied c.in-None.is) ∙ is))))
 
 pub returns-then-reaches : goal.returns-then-reaches
 returns-then-reaches g c = λ q is.
-    sym (from_stops (g.B.RowReads.rows c.args.base.now) c.args.minus.now.rows q c.in-Some.row.now (option_copied c.args.more) c.width-width.ensures.is_set.rises (sym (sym (ap option_copied c.in-Some.is) ∙ is))
+    sym (from_stops (g.B.RowReads.rows c.args.base.now) c.args.layer.now.gone q c.in-Some.row.now (option_copied c.args.more) c.width-width.ensures.is_set.rises (sym (sym (ap option_copied c.in-Some.is) ∙ is))
     (sym c.reaches.ensures ∙ c.if-reaches.true))
 
-pub returns-then-has : goal.returns-then-has
-returns-then-has g c = λ q is.
+pub returns-then-takes : goal.returns-then-takes
+returns-then-takes g c = λ q is.
     c.least_above.ensures
-    ∙ ap (λ o. lesser o (option_copied c.args.more)) (sym (from_past (g.B.RowReads.rows c.args.base.now) c.args.minus.now.rows q c.in-Some.row.now c.width-width.ensures.is_set.rises (sym (sym (ap option_copied c.in-Some.is) ∙ is)) (sym c.has.ensures ∙ c.if-has.true)))
+    ∙ ap (λ o. lesser o (option_copied c.args.more)) (sym (from_past (g.B.RowReads.rows c.args.base.now) c.args.layer.now.gone q c.in-Some.row.now c.width-width.ensures.is_set.rises (sym (sym (ap option_copied c.in-Some.is) ∙ is)) (sym c.takes.ensures ∙ c.if-takes.true)))
 
-pub returns-else-has : goal.returns-else-has
-returns-else-has g c = λ q is.
-    sym (ap (λ o. lesser o (option_copied c.args.more)) (from_here (g.B.RowReads.rows c.args.base.now) c.args.minus.now.rows q c.in-Some.row.now (sym (sym (ap option_copied c.in-Some.is) ∙ is)) (sym c.has.ensures ∙ c.if-has.false))
+pub returns-else-takes : goal.returns-else-takes
+returns-else-takes g c = λ q is.
+    sym (ap (λ o. lesser o (option_copied c.args.more)) (from_here (g.B.RowReads.rows c.args.base.now) c.args.layer.now.gone q c.in-Some.row.now (sym (sym (ap option_copied c.in-Some.is) ∙ is)) (sym c.takes.ensures ∙ c.if-takes.false))
     ∙ lesser_before (option_copied c.args.more) c.in-Some.row.now (sym c.reaches.ensures ∙ c.if-reaches.false))

@@ -5,7 +5,7 @@ use Rattle.lt_face.specs.Rows.{IsCell, IsRow}
 use Rattle.lt_face.proofs.RowLemmas.{each_weaker}
 use Rattle.lt_model.specs.Report.{line, cell_texts, rows_text}
 use Rattle.lt_face.proofs.Walked.{first_dropped, dropped_more}
-use Rattle.lt_base.proofs.Nexts.{some_place, row_there, is_there}
+use Rattle.lt_report.proofs.Places.{some_place, row_there, is_there}
 use Rattle.lt_report.proofs.Going.{did_more, did_none, stops}
 use Rattle.lt_report.proofs.Folding.{text-at, text-more}
 use Rattle.lt_report.proofs.Parts.{element_at}

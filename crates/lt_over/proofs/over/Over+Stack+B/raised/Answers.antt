@@ -3,9 +3,9 @@ use Rattle.lt_face.specs.State.{Relation, Row}
 use Rattle.lt_over.proofs.Overlays.{bare_rows}
 use Rattle.lt_over.proofs.over.Over+Stack+B.raised.Goals as goal
 
-pub returns-then-are_bare : goal.returns-then-are_bare
-returns-then-are_bare g c =
-    let bare = bare_rows c.self.inside.base.rows c.self.inside.minus.rows c.self.inside.plus.rows (c.are_bare.ensures.minus c.if-are_bare.true) (c.are_bare.ensures.plus c.if-are_bare.true) in
+pub returns-then-is_bare : goal.returns-then-is_bare
+returns-then-is_bare g c =
+    let bare = bare_rows c.self.inside.base.rows c.self.inside.layer.gone c.self.inside.layer.come (c.is_bare.ensures.gone c.if-is_bare.true) (c.is_bare.ensures.come c.if-is_bare.true) in
     ap (λ (n : ℕ). record { width = n; rows = c.in_ok-stack.stack.rows }) c.in_ok-stack.ensures.width
     ∙ ap (λ (rs : List Row). record { width = c.self.inside.base.width; rows = rs }) (c.in_ok-stack.ensures.rows ∙ sym bare)
     ∙ c.self.view_is

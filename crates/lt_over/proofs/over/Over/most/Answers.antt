@@ -7,6 +7,7 @@ use Rattle.lt_over.proofs.over.Over.most.Goals as goal
 pub returns : goal.returns
 returns g c =
     let base = g.B.RowReads.rows c.self.inside.base in
-    let all = length-overlaid base c.self.inside.minus.rows c.self.inside.plus.rows in
-    let seen : length (overlaid base c.self.inside.minus.rows c.self.inside.plus.rows) ≡ length c.args.self.now.rows = ap (λ (v : Relation). length v.rows) c.self.view_is in
-    omega (arith, all, seen, c.len.ensures, c.self.invariant.3)
+    let all = length-overlaid base c.self.inside.layer.gone c.self.inside.layer.come in
+    let come : length c.come.result.now.rows ≡ length c.self.inside.layer.come = ap length c.come.ensures.rows in
+    let seen : length (overlaid base c.self.inside.layer.gone c.self.inside.layer.come) ≡ length c.args.self.now.rows = ap (λ (v : Relation). length v.rows) c.self.view_is in
+    omega (arith, all, seen, c.len.ensures, come, c.self.invariant.2)

@@ -1,7 +1,9 @@
-use Rattle.std.proofs.Common.{◌∙◌}
+use Rattle.std.proofs.Common.{ap, ◌∙◌}
+use Rattle.lt_over.specs.Layers.{Edits}
 use Rattle.lt_over.proofs.Overlays.{bare_rows}
 use Rattle.lt_over.proofs.over.OverRowSet.from_sorted.Goals as goal
 
 pub returns-clause-rows : goal.returns-clause-rows
 returns-clause-rows g c =
-    bare_rows (g.B.RowReads.rows c.in_ok-base.base) c.in_ok-minus.minus.rows c.in_ok-plus.plus.rows c.in_ok-minus.ensures.rows c.in_ok-plus.ensures.rows ∙ c.in_ok-base.ensures.rows
+    bare_rows (g.B.RowReads.rows c.in_ok-base.base) c.in_ok-layer.layer.gone c.in_ok-layer.layer.come (ap (λ (l : Edits). l.gone) c.in_ok-layer.ensures) (ap (λ (l : Edits). l.come) c.in_ok-layer.ensures)
+    ∙ c.in_ok-base.ensures.rows

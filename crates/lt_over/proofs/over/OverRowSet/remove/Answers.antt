@@ -14,13 +14,13 @@ returns-then-not-has_over-clause-ok g c =
     let same : without_row c.args.self.now.rows c.args.row.now ≡ c.args.self.now.rows = without_row-absent c.args.self.now.rows c.args.row.now off in
     sym same
 
-pub take_row-requires : goal.take_row-requires
-take_row-requires g c =
+pub take-requires : goal.take-requires
+take-requires g c =
     let w = g.B.RowReads.width_of c.self.inside.base in
     let base = g.B.RowReads.rows c.self.inside.base in
-    let minus = c.self.inside.minus.rows in
-    let plus = c.self.inside.plus.rows in
-    let more = subst (λ (n : ℕ). AllByRecursion (IsRow n) plus) c.self.invariant.1 c.width-width-2.ensures.is_set.each in
-    let set = IsRowSet-overlaid w base minus plus c.width-width.ensures.is_set more in
-    let one : IsRow w c.args.row.now = each_has (IsRow w) (overlaid base minus plus) c.args.row.now set.each (sym c.has_over.ensures ∙ c.if-not-has_over.false) in
+    let gone = c.self.inside.layer.gone in
+    let come = c.self.inside.layer.come in
+    let more = subst (λ (n : ℕ). AllByRecursion (IsRow n) come) c.self.invariant.0 c.width-width-2.ensures.is_layer.come.each in
+    let set = IsRowSet-overlaid w base gone come c.width-width.ensures.is_set more in
+    let one : IsRow w c.args.row.now = each_has (IsRow w) (overlaid base gone come) c.args.row.now set.each (sym c.has_over.ensures ∙ c.if-not-has_over.false) in
     subst (λ (n : ℕ). IsRow n c.args.row.now) (sym c.self.invariant.0) one

@@ -1,15 +1,17 @@
 use Rattle.std.proofs.Common.{◌≡◌, ℕ, sym, ap, ◌∙◌, subst}
-use Rattle.std.specs.Arc.{arc_value}
 use Rattle.lt_face.specs.State.{Relation}
-use Rattle.lt_over.specs.Layers.{Edits, IsLayer}
-use Rattle.lt_over.proofs.Stacks.{layered_more}
+use Rattle.lt_over.specs.Layers.{AreAsWide, stacked}
+use Rattle.lt_over.proofs.Stacks.{layered_more, layers_of_width, stacked_more}
 use Rattle.lt_over.proofs.stack.Stack.push.Goals as goal
 
 pub invariant_of-self-2 : goal.invariant_of-self-2
 invariant_of-self-2 g c =
     let w = g.B.RowReads.width_of c.self.inside.base in
-    let wide : (arc_value c.args.layer).width ≡ w = c.requires ∙ ap (λ (r : Relation). r.width) (sym c.self.view_is) in
-    let one : IsLayer c.deref.result.now.width c.deref.result.now = c.width-width-2.ensures.is_layer in
-    let two : IsLayer (arc_value c.args.layer).width (arc_value c.args.layer) = subst (λ (e : Edits). IsLayer e.width e) c.deref.ensures one in
-    layered_more w (g.B.RowReads.rows c.self.inside.base) arc_value c.self.inside.layers.items c.push_layer.new.layers.items c.args.layer c.self.inside.most c.in_ok-self-inside.field-0 c.in_ok-self-inside.ensures.ok
-    (subst (λ (n : ℕ). IsLayer n (arc_value c.args.layer)) wide two) c.self.invariant.0 c.self.invariant.1 c.in_ok-self-inside.ensures.most
+    let wide : AreAsWide w c.args.more.now = subst (λ (r : Relation). AreAsWide r.width c.args.more.now) (sym c.self.view_is) c.requires in
+    layered_more w (g.B.RowReads.rows c.self.inside.base) c.self.inside.layers c.push_layers.new.layers c.args.more.now c.self.inside.most c.in_ok-self-inside.field-0 c.in_ok-self-inside.ensures.ok
+    (layers_of_width w c.args.more.now c.in_ok-self-inside.ensures.are_layers wide) c.self.invariant.0 c.self.invariant.1 c.in_ok-self-inside.ensures.most
+
+pub returns-clause-ok : goal.returns-clause-ok
+returns-clause-ok g c =
+    stacked_more (g.B.RowReads.rows c.self.inside.base) c.self.inside.layers c.push_layers.new.layers c.args.more.now c.in_ok-self-inside.ensures.ok
+    ∙ ap (λ (r : Relation). stacked r.rows c.args.more.now) c.self.view_is

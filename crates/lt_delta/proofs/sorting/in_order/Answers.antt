@@ -5,7 +5,7 @@ use Rattle.std.proofs.lemmas.Fn.{always_returns_same}
 use Rattle.lt_model.specs.Marks.{mark_cmp}
 use Rattle.lt_delta.proofs.MarkOrder.{mark_total}
 use Rattle.lt_delta.proofs.Ends.{sorted_says_same}
-use Rattle.lt_delta.proofs.sorting.settled.Goals as goal
+use Rattle.lt_delta.proofs.sorting.in_order.Goals as goal
 
 pub last_of_each-requires : goal.last_of_each-requires
 last_of_each-requires c =
