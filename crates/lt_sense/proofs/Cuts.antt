@@ -8,13 +8,14 @@ use Rattle.std.proofs.lemmas.List.{append-nil, append_assoc, drop_all, drop_more
 use Rattle.std.proofs.lemmas.List.Elements.{filter-append}
 use Rattle.std.proofs.lemmas.Grind.{flat_map-append}
 use Rattle.lt_face.proofs.RowLemmas.{each_weaker}
+use Rattle.lt_face.specs.Lists.{AreInOrder}
 use Rattle.lt_sense.specs.declared.covering.KeptGap.{KeptGap}
 use Rattle.lt_sense.specs.declared.store.Passed.{Passed}
 use Rattle.lt_sense.specs.declared.store.Family.{Family}
 use Rattle.lt_sense.specs.declared.store.Run.{Run}
 use Rattle.lt_sense.specs.declared.store.Store.{Store}
 use Rattle.lt_sense.specs.Cut.{without_key, without_keys, has_room}
-use Rattle.lt_sense.specs.Ordered.{AreInOrder, gaps_in}
+use Rattle.lt_sense.specs.Ordered.{gaps_in}
 use Rattle.lt_sense.specs.Stored.{family_gap, run_gap, stored_gap}
 
 -- ---- cells

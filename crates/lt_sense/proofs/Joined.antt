@@ -16,6 +16,7 @@ use Rattle.std.proofs.lemmas.Option.{slice_get-get_or}
 use Rattle.lt_face.specs.Rows.{row_cmp}
 use Rattle.lt_face.specs.State.{Row, row_eq}
 use Rattle.lt_face.proofs.RowLemmas.{rows_exact}
+use Rattle.lt_face.specs.Lists.{AreInOrder}
 use Rattle.lt_sense.specs.declared.covering.KeptGap.{KeptGap}
 use Rattle.lt_sense.specs.declared.covering.Hit.{Hit}
 use Rattle.lt_sense.specs.declared.store.Family.{Family}
@@ -25,7 +26,7 @@ use Rattle.lt_sense.specs.declared.store.Met.{Met}
 use Rattle.lt_sense.specs.declared.store.Store.{Store}
 use Rattle.lt_sense.specs.Stored.{piece_of, family_gap, run_gap, stored_gap, hit_of}
 use Rattle.lt_sense.specs.Sense.{hit_covers}
-use Rattle.lt_sense.specs.Ordered.{place_cmp, gap_cmp, hit_cmp, place_of, gap_holds, IsGapBefore, IsHitBefore, AreInOrder, AreUpTo, IsPut, IsSealedOf, joins, gaps_in, hits_in}
+use Rattle.lt_sense.specs.Ordered.{place_cmp, gap_cmp, hit_cmp, place_of, gap_holds, IsGapBefore, IsHitBefore, AreUpTo, IsPut, IsSealedOf, joins, gaps_in, hits_in}
 use Rattle.lt_sense.proofs.Sorted.{hit_total, place_total, at_tie, both_tied, less_up, is_tie, number_up, same_family_parts, same_place_parts, all_push, all_init, in_order_push, in_order_init, in_order_next, each_then, in_order_at, gap_before_trans, image_at, some_is}
 use Rattle.lt_sense.proofs.Lies.{get_there, take_next}
 

@@ -10,11 +10,11 @@ use Rattle.std.specs.Cmp.{IsTotalOrder, ranks}
 use Rattle.std.specs.FinMap.{nat_cmp-IsAntisymmetric}
 use Rattle.std.proofs.lemmas.Cmp.{nat_cmp_total, on_total, then_total, alike_right}
 use Rattle.lt_face.specs.Rows.{row_cmp}
-use Rattle.lt_face.specs.Lists.{IsIn}
+use Rattle.lt_face.specs.Lists.{IsIn, AreInOrder}
 use Rattle.lt_face.proofs.RowLemmas.{rows_total, rows_exact}
 use Rattle.lt_sense.specs.declared.covering.KeptGap.{KeptGap}
 use Rattle.lt_sense.specs.declared.covering.Hit.{Hit}
-use Rattle.lt_sense.specs.Ordered.{family_cmp, place_cmp, gap_cmp, hit_cmp, IsGapBefore, AreInOrder}
+use Rattle.lt_sense.specs.Ordered.{family_cmp, place_cmp, gap_cmp, hit_cmp, IsGapBefore}
 
 pub family_total : IsTotalOrder family_cmp
 family_total = then_total (on_total (λ (g : KeptGap). g.relation) nat_cmp_total) (on_total (λ (g : KeptGap). g.columns) rows_total)

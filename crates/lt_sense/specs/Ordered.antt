@@ -14,7 +14,7 @@ use Rattle.lt_sense.specs.declared.store.Store.{Store}
 use Rattle.lt_sense.specs.Kept.{Sense}
 use Rattle.lt_sense.specs.Sense.{gap_covers}
 use Rattle.lt_sense.specs.Stored.{stored_gap, hit_of, sense_of, IsPiece}
-use Rattle.lt_face.specs.Lists.{IsIn}
+use Rattle.lt_face.specs.Lists.{IsIn, AreInOrder}
 
 -- by relation, then by the order of its columns
 abbrev pub family_cmp : KeptGap → KeptGap → Ordering
@@ -39,11 +39,6 @@ pub record IsGapBefore (a b : KeptGap) : Type 0 where
 
 abbrev pub IsHitBefore : Hit → Hit → Type 0
 IsHitBefore a b = hit_cmp a b ≡ Less
-
--- each stands so to all after it
-abbrev pub AreInOrder : {X : Type 0} → (X → X → Type 0) → List X → Type 0
-AreInOrder before [] = ⊤
-AreInOrder before (x ∷ xs) = AllByRecursion (before x) xs × AreInOrder before xs
 
 -- gaps and hits stand in order, the gaps under one prefix apart
 pub record IsSealed (sense : Sense) : Type 0 where

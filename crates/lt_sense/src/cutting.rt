@@ -1,8 +1,9 @@
 //! Gaps cut at cells.
 ghost use Rattle.std.specs.Prelude.{◌≡◌, ◌<◌, ◌++◌, ◌∷◌, [], ◌&&◌, nat_le, nat_lt, filter, length, IfOk, OnOk};
 ghost use Rattle.std.specs.List.{AllByRecursion};
+ghost use Rattle.lt_face.specs.Lists.{AreInOrder};
 ghost use Rattle.lt_sense.specs.Cut.{without_keys, has_room, cut};
-ghost use Rattle.lt_sense.specs.Ordered.{AreInOrder, IsKeptGap, gaps_in};
+ghost use Rattle.lt_sense.specs.Ordered.{IsKeptGap, gaps_in};
 ghost use Rattle.lt_sense.specs.Stored.{stored_gap, sense_of, IsSound};
 
 use crate::store::{Family, Passed, Store};

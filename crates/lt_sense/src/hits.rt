@@ -2,10 +2,11 @@
 ghost use Rattle.std.specs.Prelude.{◌≡◌, ◌<◌, ◌≤◌, ◌++◌, true, false, length, slice_get, Some, IfOk, OnOk};
 ghost use Rattle.std.specs.List.{AllByRecursion};
 ghost use Rattle.std.specs.Ordering.{is_gt};
+ghost use Rattle.lt_face.specs.Lists.{AreInOrder};
 ghost use Rattle.lt_sense.specs.declared.covering.Hit.{Hit as HitView};
 ghost use Rattle.lt_sense.specs.Sense.{hit_covers};
 ghost use Rattle.lt_sense.specs.Stored.{hit_of, IsPiece};
-ghost use Rattle.lt_sense.specs.Ordered.{hit_cmp, IsHitBefore, AreInOrder, IsSealedOf, hits_in, IsKeptHit, AreUpTo, IsPut};
+ghost use Rattle.lt_sense.specs.Ordered.{hit_cmp, IsHitBefore, IsSealedOf, hits_in, IsKeptHit, AreUpTo, IsPut};
 
 use crate::store::{Met, Store};
 use lt_face::memory::NoMemory;

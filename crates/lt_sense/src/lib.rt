@@ -6,6 +6,7 @@ mod covering;
 mod cutting;
 mod gathering;
 mod hits;
+mod joining;
 mod no_noted;
 mod no_sense;
 mod noted;

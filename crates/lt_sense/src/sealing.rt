@@ -2,10 +2,11 @@
 ghost use Rattle.std.specs.Prelude.{◌≡◌, ◌<◌, ◌≤◌, ◌++◌, true, false, length, slice_get, Some, IfOk, OnOk, OnErr};
 ghost use Rattle.std.specs.List.{AllByRecursion};
 ghost use Rattle.std.specs.Ordering.{is_gt};
+ghost use Rattle.lt_face.specs.Lists.{AreInOrder};
 ghost use Rattle.lt_sense.specs.declared.covering.KeptGap.{KeptGap as KeptGapView};
 ghost use Rattle.lt_sense.specs.Sense.{hit_covers};
 ghost use Rattle.lt_sense.specs.Stored.{stored_gap, sense_of, IsSound};
-ghost use Rattle.lt_sense.specs.Ordered.{gap_cmp, gap_holds, IsGapBefore, IsHitBefore, AreInOrder, IsSealed, IsSealedOf, gaps_in, IsKeptGap, AreUpTo, joins as is_to_join, IsPut};
+ghost use Rattle.lt_sense.specs.Ordered.{gap_cmp, gap_holds, IsGapBefore, IsHitBefore, IsSealed, IsSealedOf, gaps_in, IsKeptGap, AreUpTo, joins as is_to_join, IsPut};
 
 use crate::store::{Passed, Store};
 use lt_face::key::Key;

@@ -40,7 +40,8 @@ impl Sense {
     ghost use Rattle.lt_sense.specs.Cells.{HaveSameCells};
     ghost use Rattle.lt_sense.specs.Cut.{cut};
     ghost use Rattle.lt_sense.specs.Gathered.{gathered};
-    ghost use Rattle.lt_sense.specs.Ordered.{AreInOrder, IsSealed, orders_of};
+    ghost use Rattle.lt_face.specs.Lists.{AreInOrder};
+    ghost use Rattle.lt_sense.specs.Ordered.{IsSealed, orders_of};
     ghost use Rattle.lt_sense.specs.Spots.{IsSpotOf, IsFirstSpot, AreUncovered, IsFirstCovered};
 
     /// Sensitive to nothing.
@@ -103,6 +104,17 @@ impl Sense {
     {
         self.sealed = false;
         self.store.add_hit(relation, row)?;
+        Ok(())
+    }
+
+    /// Adds what another keeps, at the end.
+    pub fn add_all(&mut self, other: &Sense) -> Result<(), NoMemory>
+        ensures gaps { OnOk result (self.new.gaps ≡ self.old.gaps ++ other.now.gaps) }
+        ensures hits { OnOk result (self.new.hits ≡ self.old.hits ++ other.now.hits) }
+    {
+        self.sealed = false;
+        self.store.add_gaps_of(&other.store)?;
+        self.store.add_hits_of(&other.store)?;
         Ok(())
     }
 

@@ -4,7 +4,8 @@ use Rattle.lt_sense.specs.Ordered.{gaps_in}
 use Rattle.lt_sense.proofs.Lies.{get_there, length_map}
 use Rattle.lt_sense.proofs.Sorted.{image_at}
 use Rattle.lt_sense.proofs.Families.{no_family}
-use Rattle.lt_sense.proofs.Sought.{paid_next, paid_stop, paid_ended, uncovered_next, uncovered_all}
+use Rattle.lt_sense.proofs.Sought.{uncovered_next, uncovered_all}
+use Rattle.lt_sense.proofs.SearchCost.{paid_next, paid_stop, paid_ended}
 use Rattle.lt_sense.proofs.store.Store.sealed_gap_with.Goals as goal
 
 pub families-preserved : goal.families-preserved

@@ -1,6 +1,7 @@
 use Rattle.std.proofs.Common.{◌-◌, length}
 use Rattle.lt_sense.specs.Ordered.{gaps_in}
-use Rattle.lt_sense.proofs.Sought.{ArePaid, AreUncoveredBelow}
+use Rattle.lt_sense.proofs.Sought.{AreUncoveredBelow}
+use Rattle.lt_sense.proofs.SearchCost.{ArePaid}
 use Rattle.lt_sense.proofs.store.Store.sealed_gap_with.Given as goal
 
 abbrev pub invariant-families : goal.invariant-families
