@@ -14,18 +14,18 @@ use Rattle.lt_query.specs.declared.plans.Level.{Level}
 use Rattle.lt_query.specs.declared.plans.Plan.{Plan}
 use Rattle.lt_query.specs.Plan.{Keys, levels_of}
 use Rattle.lt_query.specs.Lists.{IsRising}
-use Rattle.lt_join.specs.declared.seat.Seat.{Seat}
-use Rattle.lt_join.specs.declared.seat.Walk.{Walk}
+use Rattle.lt_join.specs.declared.leaper.Leaper.{Leaper}
+use Rattle.lt_join.specs.declared.leaper.Walk.{Walk}
 use Rattle.lt_join.specs.Lone.{LoneView}
-use Rattle.lt_join.specs.declared.seat.Seat.TheVariants.{Walks, Single}
-use Rattle.lt_join.specs.Seat.{seat_keys, seat_here}
+use Rattle.lt_join.specs.declared.leaper.Leaper.TheVariants.{Walks, Single}
+use Rattle.lt_join.specs.Leaper.{leaper_keys, leaper_here}
 use Rattle.lt_join.specs.Explored.{prefix_at, before, with_key}
 use Rattle.lt_leap.specs.Common.{has_key}
 use Rattle.lt_join.specs.Walked.{at}
-use Rattle.lt_join.specs.Holders.{Holder, OfAtom, OfKey, IsTrieOf, IsOpenedOf, IsSeatOf, IsOpen, atoms_at, holders_at, path_of}
+use Rattle.lt_join.specs.Holders.{Holder, OfAtom, OfKey, IsTrieOf, IsOpenedOf, IsLeaperOf, IsOpen, atoms_at, holders_at, path_of}
 use Rattle.lt_join.proofs.Under.{row_split, IsIn-keys_under_from}
 use Rattle.lt_join.proofs.Opening.{zip_long}
-use Rattle.lt_join.proofs.Noting.{seat_at, keys_opened, some_is, get_below}
+use Rattle.lt_join.proofs.Noting.{leaper_at, keys_opened, some_is, get_below}
 use Rattle.lt_join.proofs.Levels.{found_in_all}
 
 -- ---- the levels above the next
@@ -123,58 +123,58 @@ TrieOf-deeper state l keys guide t k up h goes here there is =
           (f.0, f.1, s.0, s.1 ∙ ap (λ p. p ++ s.0) (sym path));
     }
 
--- the seat of an atom that holds the level
-atom_seat : (guides : List Guide) (rest : List Holder) (l i : ℕ) (guide : Guide) → i < length guides → guide ≡ get_or guides i guide → has_key (levels_of guide) l ≡ true → slice_get (atoms_at guides l ++ rest) (length (atoms_at (take i guides) l)) ≡ Some (OfAtom guide)
-atom_seat [] rest l i guide lt is h = absurd (omega arith)
-atom_seat (g ∷ guides) rest l zero guide lt is h = let held : has_key (levels_of g) l ≡ true = ap (λ (w : Guide). has_key (levels_of w) l) (sym is) ∙ h in rw held (ap (λ w. Some (OfAtom w)) (sym is))
-atom_seat (g ∷ guides) rest l (suc i) guide lt is h =
-    let later = atom_seat guides rest l i guide (omega arith) is h in
+-- the leaper of an atom that holds the level
+atom_leaper : (guides : List Guide) (rest : List Holder) (l i : ℕ) (guide : Guide) → i < length guides → guide ≡ get_or guides i guide → has_key (levels_of guide) l ≡ true → slice_get (atoms_at guides l ++ rest) (length (atoms_at (take i guides) l)) ≡ Some (OfAtom guide)
+atom_leaper [] rest l i guide lt is h = absurd (omega arith)
+atom_leaper (g ∷ guides) rest l zero guide lt is h = let held : has_key (levels_of g) l ≡ true = ap (λ (w : Guide). has_key (levels_of w) l) (sym is) ∙ h in rw held (ap (λ w. Some (OfAtom w)) (sym is))
+atom_leaper (g ∷ guides) rest l (suc i) guide lt is h =
+    let later = atom_leaper guides rest l i guide (omega arith) is h in
     elim (has_key (levels_of g) l) as (λ b. slice_get (map OfAtom (cond b (g ∷ filter (λ w. has_key (levels_of w) l) guides) (filter (λ w. has_key (levels_of w) l) guides)) ++ rest) (length (map OfAtom (cond b (g ∷ filter (λ w. has_key (levels_of w) l) (take i guides)) (filter (λ w. has_key (levels_of w) l) (take i guides))))) ≡ Some (OfAtom guide))
     [ true ↦ later | false ↦ later ]
 
-here_at : {R : Type 0} (seats : List (Seat R)) (i key : ℕ) (s : Seat R) → ((j : ℕ) → j < length (map seat_here seats) → slice_index (map seat_here seats) j ≡ key) → slice_get seats i ≡ Some s → seat_here s ≡ key
+here_at : {R : Type 0} (leapers : List (Leaper R)) (i key : ℕ) (s : Leaper R) → ((j : ℕ) → j < length (map leaper_here leapers) → slice_index (map leaper_here leapers) j ≡ key) → slice_get leapers i ≡ Some s → leaper_here s ≡ key
 here_at [] i key s all e = cc
-here_at (x ∷ seats) zero key s all e = ap seat_here (sym (some_is x s e)) ∙ all 0 (omega arith)
-here_at (x ∷ seats) (suc i) key s all e = here_at seats i key s (λ j lt. all (suc j) (omega arith)) e
+here_at (x ∷ leapers) zero key s all e = ap leaper_here (sym (some_is x s e)) ∙ all 0 (omega arith)
+here_at (x ∷ leapers) (suc i) key s all e = here_at leapers i key s (λ j lt. all (suc j) (omega arith)) e
 
-in_at : {R : Type 0} (seats : List (Seat R)) (i key : ℕ) (s : Seat R) → AllByRecursion (λ ks. IsIn key ks) (map seat_keys seats) → slice_get seats i ≡ Some s → IsIn key (seat_keys s)
+in_at : {R : Type 0} (leapers : List (Leaper R)) (i key : ℕ) (s : Leaper R) → AllByRecursion (λ ks. IsIn key ks) (map leaper_keys leapers) → slice_get leapers i ≡ Some s → IsIn key (leaper_keys s)
 in_at [] i key s all e = cc
-in_at (x ∷ seats) zero key s all e = subst (λ w. IsIn key (seat_keys w)) (some_is x s e) all.0
-in_at (x ∷ seats) (suc i) key s all e = in_at seats i key s all.1 e
+in_at (x ∷ leapers) zero key s all e = subst (λ w. IsIn key (leaper_keys w)) (some_is x s e) all.0
+in_at (x ∷ leapers) (suc i) key s all e = in_at leapers i key s all.1 e
 
--- ---- the seats of the atoms, in order
+-- ---- the leapers of the atoms, in order
 
-module _ {R : Type 0} (plan : Plan) (state : State) (keys : List ℕ) (level : Level) (leap : LeapView (Seat R)) (key : ℕ) (is_open : IsOpen plan state keys level leap key) (goes : key ≢ end_key) where
-  seat_of : (i : ℕ) (guide : Guide) (s : Seat R) → i < length plan.guides → guide ≡ get_or plan.guides i guide → has_key (levels_of guide) (length keys) ≡ true → slice_get leap.iters (length (atoms_at (take i plan.guides) (length keys))) ≡ Some s → IsSeatOf plan state (length keys) (at keys) (OfAtom guide) s
-  seat_of i guide s lt is h there =
-      let f = seat_at (IsSeatOf plan state (length keys) (at keys)) (holders_at plan.guides level (length keys) (at keys)) leap.iters (length (atoms_at (take i plan.guides) (length keys))) s is_open.seats there in
-      let a = atom_seat plan.guides (map OfKey level.pins ++ map (λ m. OfKey (at keys m)) level.ties) (length keys) i guide lt is h in
+module _ {R : Type 0} (plan : Plan) (state : State) (keys : List ℕ) (level : Level) (leap : LeapView (Leaper R)) (key : ℕ) (is_open : IsOpen plan state keys level leap key) (goes : key ≢ end_key) where
+  leaper_of : (i : ℕ) (guide : Guide) (s : Leaper R) → i < length plan.guides → guide ≡ get_or plan.guides i guide → has_key (levels_of guide) (length keys) ≡ true → slice_get leap.iters (length (atoms_at (take i plan.guides) (length keys))) ≡ Some s → IsLeaperOf plan state (length keys) (at keys) (OfAtom guide) s
+  leaper_of i guide s lt is h there =
+      let f = leaper_at (IsLeaperOf plan state (length keys) (at keys)) (holders_at plan.guides level (length keys) (at keys)) leap.iters (length (atoms_at (take i plan.guides) (length keys))) s is_open.leapers there in
+      let a = atom_leaper plan.guides (map OfKey level.pins ++ map (λ m. OfKey (at keys m)) level.ties) (length keys) i guide lt is h in
       let same : f.0 ≡ OfAtom guide = some_is f.0 (OfAtom guide) (sym f.1 ∙ a) in
-      subst (λ w. IsSeatOf plan state (length keys) (at keys) w s) same f.2
+      subst (λ w. IsLeaperOf plan state (length keys) (at keys) w s) same f.2
 
   -- it is no key alone
-  pub no_lone : (i : ℕ) (guide : Guide) (s : Seat R) (lone : LoneView) → i < length plan.guides → guide ≡ get_or plan.guides i guide → has_key (levels_of guide) (length keys) ≡ true → slice_get leap.iters (length (atoms_at (take i plan.guides) (length keys))) ≡ Some s → s ≡ Single lone → ⊥
-  no_lone i guide s lone lt is h there e = subst (IsSeatOf plan state (length keys) (at keys) (OfAtom guide)) e (seat_of i guide s lt is h there)
+  pub no_lone : (i : ℕ) (guide : Guide) (s : Leaper R) (lone : LoneView) → i < length plan.guides → guide ≡ get_or plan.guides i guide → has_key (levels_of guide) (length keys) ≡ true → slice_get leap.iters (length (atoms_at (take i plan.guides) (length keys))) ≡ Some s → s ≡ Single lone → ⊥
+  no_lone i guide s lone lt is h there e = subst (IsLeaperOf plan state (length keys) (at keys) (OfAtom guide)) e (leaper_of i guide s lt is h there)
 
-  pub seat_deeper : (i : ℕ) (guide : Guide) (s : Seat R) (walk : Walk R) → i < length plan.guides → guide ≡ get_or plan.guides i guide → has_key (levels_of guide) (length keys) ≡ true → IsRising (levels_of guide) → slice_get leap.iters (length (atoms_at (take i plan.guides) (length keys))) ≡ Some s → s ≡ Walks walk
+  pub leaper_deeper : (i : ℕ) (guide : Guide) (s : Leaper R) (walk : Walk R) → i < length plan.guides → guide ≡ get_or plan.guides i guide → has_key (levels_of guide) (length keys) ≡ true → IsRising (levels_of guide) → slice_get leap.iters (length (atoms_at (take i plan.guides) (length keys))) ≡ Some s → s ≡ Walks walk
       → IsTrieOf state (length keys + 1) (with_key (at keys) (length keys) key) guide walk.trie
-  seat_deeper i guide s walk lt is h up there e =
-      let sits = subst (IsSeatOf plan state (length keys) (at keys) (OfAtom guide)) e (seat_of i guide s lt is h there) in
+  leaper_deeper i guide s walk lt is h up there e =
+      let sits = subst (IsLeaperOf plan state (length keys) (at keys) (OfAtom guide)) e (leaper_of i guide s lt is h there) in
       let found = is_open.found goes in
       let here = here_at leap.iters (length (atoms_at (take i plan.guides) (length keys))) key s (λ j jt. found.together j jt) there in
-      let inside = in_at leap.iters (length (atoms_at (take i plan.guides) (length keys))) key s (found_in_all (map seat_keys leap.iters) (map seat_here leap.iters) leap.ring key found goes) there in
-      TrieOf-deeper state (length keys) (at keys) guide walk.trie key up h goes (ap seat_here (sym e) ∙ here)
-      (subst (IsIn key) (ap seat_keys e ∙ keys_opened state (length keys) (at keys) guide walk sits.1) inside) sits.1
+      let inside = in_at leap.iters (length (atoms_at (take i plan.guides) (length keys))) key s (found_in_all (map leaper_keys leap.iters) (map leaper_here leap.iters) leap.ring key found goes) there in
+      TrieOf-deeper state (length keys) (at keys) guide walk.trie key up h goes (ap leaper_here (sym e) ∙ here)
+      (subst (IsIn key) (ap leaper_keys e ∙ keys_opened state (length keys) (at keys) guide walk sits.1) inside) sits.1
 
   -- its iterator is opened
-  pub seat_opened : (i : ℕ) (guide : Guide) (s : Seat R) (walk : Walk R) → i < length plan.guides → guide ≡ get_or plan.guides i guide → has_key (levels_of guide) (length keys) ≡ true → slice_get leap.iters (length (atoms_at (take i plan.guides) (length keys))) ≡ Some s → s ≡ Walks walk
+  pub leaper_opened : (i : ℕ) (guide : Guide) (s : Leaper R) (walk : Walk R) → i < length plan.guides → guide ≡ get_or plan.guides i guide → has_key (levels_of guide) (length keys) ≡ true → slice_get leap.iters (length (atoms_at (take i plan.guides) (length keys))) ≡ Some s → s ≡ Walks walk
       → IsOpenedOf state (length keys) (at keys) guide walk.trie
-  seat_opened i guide s walk lt is h there e = (subst (IsSeatOf plan state (length keys) (at keys) (OfAtom guide)) e (seat_of i guide s lt is h there)).1
+  leaper_opened i guide s walk lt is h there e = (subst (IsLeaperOf plan state (length keys) (at keys) (OfAtom guide)) e (leaper_of i guide s lt is h there)).1
 
-  -- the seat is there
-  pub seat_within : (i : ℕ) (guide : Guide) → i < length plan.guides → guide ≡ get_or plan.guides i guide → has_key (levels_of guide) (length keys) ≡ true → length (atoms_at (take i plan.guides) (length keys)) < length leap.iters
-  seat_within i guide lt is h =
-      let a = atom_seat plan.guides (map OfKey level.pins ++ map (λ m. OfKey (at keys m)) level.ties) (length keys) i guide lt is h in
-      let n = zip_long (IsSeatOf plan state (length keys) (at keys)) (holders_at plan.guides level (length keys) (at keys)) leap.iters is_open.seats in
+  -- the leaper is there
+  pub leaper_within : (i : ℕ) (guide : Guide) → i < length plan.guides → guide ≡ get_or plan.guides i guide → has_key (levels_of guide) (length keys) ≡ true → length (atoms_at (take i plan.guides) (length keys)) < length leap.iters
+  leaper_within i guide lt is h =
+      let a = atom_leaper plan.guides (map OfKey level.pins ++ map (λ m. OfKey (at keys m)) level.ties) (length keys) i guide lt is h in
+      let n = zip_long (IsLeaperOf plan state (length keys) (at keys)) (holders_at plan.guides level (length keys) (at keys)) leap.iters is_open.leapers in
       let b = get_below (holders_at plan.guides level (length keys) (at keys)) (length (atoms_at (take i plan.guides) (length keys))) (OfAtom guide) a in
       omega arith

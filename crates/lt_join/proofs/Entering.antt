@@ -81,7 +81,7 @@ parted_keep Q P i xs ys x lt h ex q =
 
 -- ---- down
 
--- the seat's iterator stands one level below the atom's
+-- the leaper's iterator stands one level below the atom's
 pub record IsBelow (t u : TrieView) : Type 0 where
   pub level : u.level ≡ t.level + 1
   pub root : t.level ≡ 0 → u.prefix ≡ []

@@ -20,17 +20,17 @@ use Rattle.lt_sense.specs.declared.covering.KeptGap.{KeptGap}
 use Rattle.lt_sense.specs.Gathered.{is_its, gap_under, gathered}
 use Rattle.lt_sense.specs.Kept.{Sense}
 use Rattle.lt_sense.specs.Sense.{IsTight}
-use Rattle.lt_join.specs.declared.seat.Seat.{Seat}
-use Rattle.lt_join.specs.declared.seat.Walk.{Walk}
-use Rattle.lt_join.specs.declared.seat.Seat.TheVariants.{Walks, Single}
+use Rattle.lt_join.specs.declared.leaper.Leaper.{Leaper}
+use Rattle.lt_join.specs.declared.leaper.Walk.{Walk}
+use Rattle.lt_join.specs.declared.leaper.Leaper.TheVariants.{Walks, Single}
 use Rattle.lt_join.specs.Lone.{LoneView}
-use Rattle.lt_join.specs.Seat.{seat_keys}
+use Rattle.lt_join.specs.Leaper.{leaper_keys}
 use Rattle.lt_join.specs.Explored.{prefix_at}
 use Rattle.lt_join.specs.Walked.{at, Grows}
-use Rattle.lt_join.specs.Holders.{Holder, OfAtom, OfKey, IsOver, IsSeatOf, IsKept, IsNotedKept, AreUnder, AreKept, holders_at}
+use Rattle.lt_join.specs.Holders.{Holder, OfAtom, OfKey, IsOver, IsLeaperOf, IsKept, IsNotedKept, AreUnder, AreKept, holders_at}
 use Rattle.lt_join.proofs.Steps.{Grows-chain}
 use Rattle.lt_join.proofs.Opening.{AddsGap, GapAdded, gap_added, Grows-none, IsKept-grows, under_none, under_chain}
-use Rattle.lt_join.proofs.Noting.{seat_at, atom_of, get_same, keys_at-map, keys_opened, key_of_alone}
+use Rattle.lt_join.proofs.Noting.{leaper_at, atom_of, get_same, keys_at-map, keys_opened, key_of_alone}
 
 -- ---- counts
 
@@ -137,7 +137,7 @@ under_gathered keys guide s ns mid new are gap there =
           inr (guide, ap (λ (g : KeptGap). g.prefix) (sym f.2))
     ]
 
--- ---- seat by seat
+-- ---- leaper by leaper
 
 -- the gaps that iterators below this one noted are kept
 pub record AreKeptBelow (plan : Plan) (state : State) (keys : List ℕ) (level : Level) (s : ℕ) (old new : Sense) (ns : List (ℕ × Gap)) : Type 0 where
@@ -148,7 +148,7 @@ pub record AreKeptBelow (plan : Plan) (state : State) (keys : List ℕ) (level :
   pub few : length new.gaps ≤ length old.gaps + below s ns
   pub hits : new.hits ≡ old.hits
 
-module _ {R : Type 0} (plan : Plan) (state : State) (keys : List ℕ) (level : Level) (seats : List (Seat R)) (sits : AllZip (IsSeatOf plan state (length keys) (at keys)) (holders_at plan.guides level (length keys) (at keys)) seats) where
+module _ {R : Type 0} (plan : Plan) (state : State) (keys : List ℕ) (level : Level) (leapers : List (Leaper R)) (sits : AllZip (IsLeaperOf plan state (length keys) (at keys)) (holders_at plan.guides level (length keys) (at keys)) leapers) where
   abbrev hs : List Holder
   hs = holders_at plan.guides level (length keys) (at keys)
 
@@ -159,11 +159,11 @@ module _ {R : Type 0} (plan : Plan) (state : State) (keys : List ℕ) (level : L
   pub kept_below_none : (s : Sense) (ns : List (ℕ × Gap)) → IsTight s state → AreKeptBelow plan state keys level 0 s s ns
   kept_below_none s ns tight = record { grows = Grows-none s; tight = tight; kept = none_below s ns; under = under_none keys s; few = omega arith; hits = refl }
 
-  all_below : (s : ℕ) (new : Sense) (ns : List (ℕ × Gap)) → AllByRecursion (IsGapOf (map seat_keys seats)) ns → length seats ≤ s → AllByRecursion (λ (n : ℕ × Gap). n.0 < s → IsNotedKept new (length keys) (at keys) hs n) ns → AllByRecursion (IsNotedKept new (length keys) (at keys) hs) ns
+  all_below : (s : ℕ) (new : Sense) (ns : List (ℕ × Gap)) → AllByRecursion (IsGapOf (map leaper_keys leapers)) ns → length leapers ≤ s → AllByRecursion (λ (n : ℕ × Gap). n.0 < s → IsNotedKept new (length keys) (at keys) hs n) ns → AllByRecursion (IsNotedKept new (length keys) (at keys) hs) ns
   all_below s new [] are le h = tt
-  all_below s new (n ∷ ns) are le h = (h.0 (let a = are.0.0 in let b = length_map seat_keys seats in omega arith), all_below s new ns are.1 le h.1)
+  all_below s new (n ∷ ns) are le h = (h.0 (let a = are.0.0 in let b = length_map leaper_keys leapers in omega arith), all_below s new ns are.1 le h.1)
 
-  pub kept_all : (s : ℕ) (old new : Sense) (ns : List (ℕ × Gap)) → AllByRecursion (IsGapOf (map seat_keys seats)) ns → length seats ≤ s → AreKeptBelow plan state keys level s old new ns → AreKept plan state keys level old new ns
+  pub kept_all : (s : ℕ) (old new : Sense) (ns : List (ℕ × Gap)) → AllByRecursion (IsGapOf (map leaper_keys leapers)) ns → length leapers ≤ s → AreKeptBelow plan state keys level s old new ns → AreKept plan state keys level old new ns
   kept_all s old new ns are le so = record {
     grows = so.grows;
     tight = so.tight;
@@ -184,30 +184,30 @@ module _ {R : Type 0} (plan : Plan) (state : State) (keys : List ℕ) (level : L
     merged s mid new grows ns h.1 k.1,
   )
 
-  at_seat : (s : ℕ) (holder : Holder) (new : Sense) → slice_get hs s ≡ Some holder → (ns : List (ℕ × Gap)) → AllByRecursion (λ (n : ℕ × Gap). n.0 ≡ s → n.1.lo < n.1.hi → IsKept new (length keys) (at keys) n.1.lo n.1.hi holder) ns
+  at_leaper : (s : ℕ) (holder : Holder) (new : Sense) → slice_get hs s ≡ Some holder → (ns : List (ℕ × Gap)) → AllByRecursion (λ (n : ℕ × Gap). n.0 ≡ s → n.1.lo < n.1.hi → IsKept new (length keys) (at keys) n.1.lo n.1.hi holder) ns
       → AllByRecursion (λ (n : ℕ × Gap). n.0 ≡ s → IsNotedKept new (length keys) (at keys) hs n) ns
-  at_seat s holder new there [] h = tt
-  at_seat s holder new there (n ∷ ns) h = ((λ e some. (holder, ap (slice_get hs) e ∙ there, h.0 e some)), at_seat s holder new there ns h.1)
+  at_leaper s holder new there [] h = tt
+  at_leaper s holder new there (n ∷ ns) h = ((λ e some. (holder, ap (slice_get hs) e ∙ there, h.0 e some)), at_leaper s holder new there ns h.1)
 
-  free_at : (s : ℕ) (ks : List ℕ) → keys_at (map seat_keys seats) s ≡ ks → (ns : List (ℕ × Gap)) → AllByRecursion (IsGapOf (map seat_keys seats)) ns → AllByRecursion (λ (n : ℕ × Gap). n.0 ≡ s → (y : ℕ) → n.1.lo ≤ y → y < n.1.hi → has_key ks y ≡ false) ns
+  free_at : (s : ℕ) (ks : List ℕ) → keys_at (map leaper_keys leapers) s ≡ ks → (ns : List (ℕ × Gap)) → AllByRecursion (IsGapOf (map leaper_keys leapers)) ns → AllByRecursion (λ (n : ℕ × Gap). n.0 ≡ s → (y : ℕ) → n.1.lo ≤ y → y < n.1.hi → has_key ks y ≡ false) ns
   free_at s ks is [] are = tt
-  free_at s ks is (n ∷ ns) are = ((λ e y from below. ap (λ zs. has_key zs y) (sym (ap (keys_at (map seat_keys seats)) e ∙ is)) ∙ are.0.1 y from below), free_at s ks is ns are.1)
+  free_at s ks is (n ∷ ns) are = ((λ e y from below. ap (λ zs. has_key zs y) (sym (ap (keys_at (map leaper_keys leapers)) e ∙ is)) ∙ are.0.1 y from below), free_at s ks is ns are.1)
 
-  pub kept_seat : (s : ℕ) (old mid new : Sense) (ns : List (ℕ × Gap)) (seat : Seat R) (walk : Walk R) (guide : Guide) → AreKeptBelow plan state keys level s old mid ns → AllByRecursion (IsGapOf (map seat_keys seats)) ns → slice_get seats s ≡ Some seat → seat ≡ Walks walk → guide ≡ get_or plan.guides walk.guide guide
+  pub kept_leaper : (s : ℕ) (old mid new : Sense) (ns : List (ℕ × Gap)) (leaper : Leaper R) (walk : Walk R) (guide : Guide) → AreKeptBelow plan state keys level s old mid ns → AllByRecursion (IsGapOf (map leaper_keys leapers)) ns → slice_get leapers s ≡ Some leaper → leaper ≡ Walks walk → guide ≡ get_or plan.guides walk.guide guide
       → new.gaps ≡ mid.gaps ++ gathered guide.relation guide.columns walk.trie.prefix s ns → new.hits ≡ mid.hits → AreKeptBelow plan state keys level (s + 1) old new ns
-  kept_seat s old mid new ns seat walk guide so are there is guide_is gaps hits =
+  kept_leaper s old mid new ns leaper walk guide so are there is guide_is gaps hits =
       let l = length keys in
-      let h = seat_at (IsSeatOf plan state l (at keys)) hs seats s seat sits there in
-      let a = atom_of plan state l (at keys) h.0 walk (subst (IsSeatOf plan state l (at keys) h.0) is h.2) in
+      let h = leaper_at (IsLeaperOf plan state l (at keys)) hs leapers s leaper sits there in
+      let a = atom_of plan state l (at keys) h.0 walk (subst (IsLeaperOf plan state l (at keys) h.0) is h.2) in
       let same : guide ≡ a.0 = get_same plan.guides walk.guide a.0 guide a.2 guide_is in
-      let keys_are : keys_at (map seat_keys seats) s ≡ keys_under (prefix_at a.0 l (at keys)) walk.trie.rows = keys_at-map seats s seat there ∙ ap seat_keys is ∙ keys_opened state l (at keys) a.0 walk a.3 in
+      let keys_are : keys_at (map leaper_keys leapers) s ≡ keys_under (prefix_at a.0 l (at keys)) walk.trie.rows = keys_at-map leapers s leaper there ∙ ap leaper_keys is ∙ keys_opened state l (at keys) a.0 walk a.3 in
       let more : new.gaps ≡ mid.gaps ++ gathered a.0.relation a.0.columns (prefix_at a.0 l (at keys)) s ns =
       gaps ∙ ap (λ (w : Guide). mid.gaps ++ gathered w.relation w.columns walk.trie.prefix s ns) same ∙ ap (λ p. mid.gaps ++ gathered a.0.relation a.0.columns p s ns) a.3.prefix in
       let g = gathers state l (at keys) a.0 walk.trie a.3.over s ns (free_at s (keys_under (prefix_at a.0 l (at keys)) walk.trie.rows) keys_are ns are) mid new so.tight more hits in
       record {
         grows = Grows-chain old mid new so.grows g.grows;
         tight = g.tight;
-        kept = merged s mid new g.grows ns so.kept (at_seat s (OfAtom a.0) new (h.1 ∙ ap Some a.1) ns g.kept);
+        kept = merged s mid new g.grows ns so.kept (at_leaper s (OfAtom a.0) new (h.1 ∙ ap Some a.1) ns g.kept);
         under = under_chain keys old mid new so.under (under_gathered keys a.0 s ns mid new more);
         few = (let p = so.few in let q = below_more s ns in let n = ap length more ∙ length_both mid.gaps (gathered a.0.relation a.0.columns (prefix_at a.0 l (at keys)) s ns) in let m = length_map (gap_under a.0.relation a.0.columns (prefix_at a.0 l (at keys))) (filter (is_its s) ns) in omega arith);
         hits = hits ∙ so.hits;
@@ -217,16 +217,16 @@ module _ {R : Type 0} (plan : Plan) (state : State) (keys : List ℕ) (level : L
   lone_all s new key [] h = tt
   lone_all s new key (n ∷ ns) h = ((λ e some from below. true≢false (sym (or_left _ false (eq-eqb key key refl)) ∙ h.0 e key from below)), lone_all s new key ns h.1)
 
-  pub kept_lone : (s : ℕ) (old mid : Sense) (ns : List (ℕ × Gap)) (seat : Seat R) (lone : LoneView) → AreKeptBelow plan state keys level s old mid ns → AllByRecursion (IsGapOf (map seat_keys seats)) ns → slice_get seats s ≡ Some seat → seat ≡ Single lone → AreKeptBelow plan state keys level (s + 1) old mid ns
-  kept_lone s old mid ns seat lone so are there is =
+  pub kept_lone : (s : ℕ) (old mid : Sense) (ns : List (ℕ × Gap)) (leaper : Leaper R) (lone : LoneView) → AreKeptBelow plan state keys level s old mid ns → AllByRecursion (IsGapOf (map leaper_keys leapers)) ns → slice_get leapers s ≡ Some leaper → leaper ≡ Single lone → AreKeptBelow plan state keys level (s + 1) old mid ns
+  kept_lone s old mid ns leaper lone so are there is =
       let l = length keys in
-      let h = seat_at (IsSeatOf plan state l (at keys)) hs seats s seat sits there in
-      let k = key_of_alone R plan state l (at keys) h.0 lone (subst (IsSeatOf plan state l (at keys) h.0) is h.2) in
-      let keys_are : keys_at (map seat_keys seats) s ≡ lone.key ∷ [] = keys_at-map seats s seat there ∙ ap seat_keys is in
+      let h = leaper_at (IsLeaperOf plan state l (at keys)) hs leapers s leaper sits there in
+      let k = key_of_alone R plan state l (at keys) h.0 lone (subst (IsLeaperOf plan state l (at keys) h.0) is h.2) in
+      let keys_are : keys_at (map leaper_keys leapers) s ≡ lone.key ∷ [] = keys_at-map leapers s leaper there ∙ ap leaper_keys is in
       record {
         grows = so.grows;
         tight = so.tight;
-        kept = merged s mid mid (Grows-none mid) ns so.kept (at_seat s (OfKey lone.key) mid (h.1 ∙ ap Some k) ns (lone_all s mid lone.key ns (free_at s (lone.key ∷ []) keys_are ns are)));
+        kept = merged s mid mid (Grows-none mid) ns so.kept (at_leaper s (OfKey lone.key) mid (h.1 ∙ ap Some k) ns (lone_all s mid lone.key ns (free_at s (lone.key ∷ []) keys_are ns are)));
         under = so.under;
         few = (let p = so.few in let q = below_more s ns in omega arith);
         hits = so.hits;

@@ -6,7 +6,7 @@ use Rattle.std.proofs.lemmas.Bool.{and_parts, ltb-true, le-ltb, cases_order}
 use Rattle.std.proofs.lemmas.List.{map-append}
 use Rattle.std.proofs.lemmas.Grind.{flat_map-append}
 use Rattle.std.specs.Prelude.{nat_lt}
-use Rattle.lt_face.specs.Lists.{IsIn}
+use Rattle.lt_face.specs.Lists.{IsIn, AreInOrder}
 use Rattle.lt_face.specs.State.{State}
 use Rattle.lt_face.proofs.Membership.{IsIn-append_left, IsIn-append_right}
 use Rattle.lt_face.proofs.RowLemmas.{each_weaker}
@@ -16,7 +16,7 @@ use Rattle.lt_model.specs.Cells.{is_cell}
 use Rattle.lt_leap.specs.Common.{common_keys}
 use Rattle.lt_query.specs.declared.plans.Level.{Level}
 use Rattle.lt_query.specs.declared.plans.Plan.{Plan}
-use Rattle.lt_query.specs.Lists.{IsOrderedBy, IsRising}
+use Rattle.lt_query.specs.Lists.{IsRising}
 use Rattle.lt_query.specs.Plan.{levels_of, term_at, IsPlanOf}
 use Rattle.lt_query.specs.Answering.{AreTestsBound}
 use Rattle.lt_model.specs.Answers.{answers, ascending}

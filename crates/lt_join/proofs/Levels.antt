@@ -1,4 +1,4 @@
--- One level: what its seats, the gaps that their join noted and the key where it stands say of the walk.
+-- One level: what its leapers, the gaps that their join noted and the key where it stands say of the walk.
 use Rattle.std.specs.Prelude.{◌≡◌, ◌≢◌, ℕ, zero, suc, ◌+◌, ◌-◌, ◌*◌, ◌^◌, ◌<◌, ◌≤◌, Bool, true, false, nat_lt, nat_le, List, [], ◌∷◌, ◌++◌, map, filter, length, slice_get, slice_index, Some}
 use Rattle.std.specs.List.{AllByRecursion, AllZip, list_all}
 use Rattle.std.proofs.Common.{refl, sym, ap, ◌∙◌, subst, inl, inr, cond, arith, get_or}
@@ -24,18 +24,18 @@ use Rattle.lt_model.specs.Cells.{is_cell}
 use Rattle.lt_query.specs.Plan.{Keys, levels_of}
 use Rattle.lt_sense.specs.Kept.{Sense}
 use Rattle.lt_sense.specs.Sense.{IsTight}
-use Rattle.lt_join.specs.declared.seat.Seat.{Seat}
-use Rattle.lt_join.specs.declared.seat.Seat.TheVariants.{Walks, Single}
-use Rattle.lt_join.specs.Seat.{seat_keys, seat_here, seat_still}
+use Rattle.lt_join.specs.declared.leaper.Leaper.{Leaper}
+use Rattle.lt_join.specs.declared.leaper.Leaper.TheVariants.{Walks, Single}
+use Rattle.lt_join.specs.Leaper.{leaper_keys, leaper_here, leaper_still}
 use Rattle.lt_join.specs.Explored.{Fits, prefix_at}
 use Rattle.lt_leap.specs.Common.{has_key, common_keys}
 use Rattle.lt_leap.specs.Potential.{least_length, join_cost}
 use Rattle.lt_join.specs.Cost.{iterator_keys, iterators_at, LevelGains}
 use Rattle.lt_join.specs.Walked.{at, Grows, IsSkipped}
-use Rattle.lt_join.specs.Holders.{Holder, OfAtom, OfKey, IsKept, IsSeatOf, IsOpenKept, IsNotedKept, AreOpened, AreKept, IsOpen, IsJoined, atoms_at, holders_at, alone, left_of}
+use Rattle.lt_join.specs.Holders.{Holder, OfAtom, OfKey, IsKept, IsLeaperOf, IsOpenKept, IsNotedKept, AreOpened, AreKept, IsOpen, IsJoined, atoms_at, holders_at, alone, left_of}
 use Rattle.lt_join.proofs.Gaps.{has_key-true}
 use Rattle.lt_join.proofs.Under.{has_key-of, key_of_iterator, iterator_of_key, no_longer, IsIn-keys_under_from}
-use Rattle.lt_join.proofs.Seats.{IsSkipped-from_noted}
+use Rattle.lt_join.proofs.Leapers.{IsSkipped-from_noted}
 use Rattle.lt_join.proofs.Repair.{All_at, list_any_from}
 use Rattle.lt_join.proofs.Steps.{Grows-chain}
 use Rattle.lt_join.proofs.Opening.{IsKept-grows, Grows-none, zip_long}
@@ -104,8 +104,8 @@ pub record SameKeys (xs ys : List ℕ) : Type 0 where
   pub from : (y : ℕ) → IsIn y xs → IsIn y ys
   pub short : length ys ≤ length xs
 
-pub seat_same : {R : Type 0} (plan : Plan) (state : State) (l : ℕ) (keys : Keys) (holder : Holder) (seat : Seat R) → IsSeatOf plan state l keys holder seat → SameKeys (holder_keys state l keys holder) (seat_keys seat)
-seat_same plan state l keys (OfAtom guide) (Walks walk) h =
+pub leaper_same : {R : Type 0} (plan : Plan) (state : State) (l : ℕ) (keys : Keys) (holder : Holder) (leaper : Leaper R) → IsLeaperOf plan state l keys holder leaper → SameKeys (holder_keys state l keys holder) (leaper_keys leaper)
+leaper_same plan state l keys (OfAtom guide) (Walks walk) h =
     let over = h.1.over in
     let e = keys_opened state l keys guide walk h.1 in
     let up = keys_rise (prefix_at guide l keys) walk.trie.rows walk.trie.width over.is_set.rises over.is_set.each in
@@ -114,14 +114,14 @@ seat_same plan state l keys (OfAtom guide) (Walks walk) h =
       from = key_of_iterator state guide walk.trie over l keys;
       short = no_longer (keys_under (prefix_at guide l keys) walk.trie.rows) (iterator_keys state l keys guide) up (iterator_of_key state guide walk.trie over l keys);
     })
-seat_same plan state l keys (OfAtom guide) (Single lone) h = absurd h
-seat_same plan state l keys (OfKey key) (Walks walk) h = absurd h
-seat_same plan state l keys (OfKey key) (Single lone) h = rw h (record { to = λ y k. k; from = λ y k. k; short = omega arith })
+leaper_same plan state l keys (OfAtom guide) (Single lone) h = absurd h
+leaper_same plan state l keys (OfKey key) (Walks walk) h = absurd h
+leaper_same plan state l keys (OfKey key) (Single lone) h = rw h (record { to = λ y k. k; from = λ y k. k; short = omega arith })
 
-pub lists_same : {R : Type 0} (plan : Plan) (state : State) (l : ℕ) (keys : Keys) (level : Level) (seats : List (Seat R)) → AllZip (IsSeatOf plan state l keys) (holders_at plan.guides level l keys) seats → AllZip SameKeys (iterators_at state plan.guides level l keys) (map seat_keys seats)
-lists_same plan state l keys level seats sits =
+pub lists_same : {R : Type 0} (plan : Plan) (state : State) (l : ℕ) (keys : Keys) (level : Level) (leapers : List (Leaper R)) → AllZip (IsLeaperOf plan state l keys) (holders_at plan.guides level l keys) leapers → AllZip SameKeys (iterators_at state plan.guides level l keys) (map leaper_keys leapers)
+lists_same plan state l keys level leapers sits =
     rw (iterators_are state plan.guides level l keys)
-    (zip_maps (IsSeatOf plan state l keys) SameKeys (holder_keys state l keys) seat_keys (seat_same plan state l keys) (holders_at plan.guides level l keys) seats sits)
+    (zip_maps (IsLeaperOf plan state l keys) SameKeys (holder_keys state l keys) leaper_keys (leaper_same plan state l keys) (holders_at plan.guides level l keys) leapers sits)
 
 -- ---- the least list
 
@@ -150,7 +150,7 @@ cost-least xss yss h =
     let fewer = mul-le-mul_left (length yss) (let b = least-least xss yss h in let c : least_length yss + 2 ≤ least_length xss + 2 = omega arith in c) in
     subst (λ k. join_cost yss ≤ k * (least_length xss + 2)) same fewer
 
--- ---- a key that all seats have
+-- ---- a key that all leapers have
 
 all_by_place : (P : List ℕ → Type 0) (lists : List (List ℕ)) → ((i : ℕ) → i < length lists → P (keys_at lists i)) → AllByRecursion P lists
 all_by_place P [] f = tt
@@ -198,7 +198,7 @@ pub IsCell-is : (c : ℕ) → IsCell c → is_cell c ≡ true
 IsCell-is c h = and_from (nat_lt 0 c) (nat_lt c (2 ^ 120)) (lt-ltb 0 c (let a = h.0 in omega arith)) (lt-ltb c (2 ^ 120) h.1)
 
 -- a key of an atom's iterator is a cell
-pub cell_from : {R : Type 0} (plan : Plan) (state : State) (l : ℕ) (keys : Keys) (guides : List Guide) (hs : List Holder) (ss : List (Seat R)) (key : ℕ) → 0 < length guides → AllZip (IsSeatOf plan state l keys) (map OfAtom guides ++ hs) ss → AllByRecursion (λ ks. IsIn key ks) (map seat_keys ss) → is_cell key ≡ true
+pub cell_from : {R : Type 0} (plan : Plan) (state : State) (l : ℕ) (keys : Keys) (guides : List Guide) (hs : List Holder) (ss : List (Leaper R)) (key : ℕ) → 0 < length guides → AllZip (IsLeaperOf plan state l keys) (map OfAtom guides ++ hs) ss → AllByRecursion (λ ks. IsIn key ks) (map leaper_keys ss) → is_cell key ≡ true
 cell_from plan state l keys [] hs ss key lt z h = absurd (omega arith)
 cell_from plan state l keys (guide ∷ guides) hs [] key lt z h = absurd z
 cell_from plan state l keys (guide ∷ guides) hs (Single lone ∷ ss) key lt z h = absurd z.0
@@ -234,19 +234,19 @@ pub true_gaps : (lists lists' : List (List ℕ)) (start stop count : ℕ) (old g
 true_gaps lists lists' start stop count old gs none same notes =
     subst (λ (ls : List (List ℕ)). AllByRecursion (IsGapOf ls) gs) (sym same) (subst (AllByRecursion (IsGapOf lists)) (sym (gaps_are old gs notes.gaps none notes.is)) notes.true_gaps)
 
--- ---- all seats of a level
+-- ---- all leapers of a level
 
--- the seats of a level, each at its first key
-pub record AreSeated {R : Type 0} (plan : Plan) (state : State) (keys : List ℕ) (level : Level) (sense : Sense) (seats : List (Seat R)) : Type 0 where
-  pub sits : AllZip (IsSeatOf plan state (length keys) (at keys)) (holders_at plan.guides level (length keys) (at keys)) seats
-  pub first : AllByRecursion (λ seat. seat_here seat ≡ least_from (seat_keys seat) 0) seats
-  pub kept : AllZip (IsOpenKept sense (length keys) (at keys)) (holders_at plan.guides level (length keys) (at keys)) seats
+-- the leapers of a level, each at its first key
+pub record AreLeapers {R : Type 0} (plan : Plan) (state : State) (keys : List ℕ) (level : Level) (sense : Sense) (leapers : List (Leaper R)) : Type 0 where
+  pub sits : AllZip (IsLeaperOf plan state (length keys) (at keys)) (holders_at plan.guides level (length keys) (at keys)) leapers
+  pub first : AllByRecursion (λ leaper. leaper_here leaper ≡ least_from (leaper_keys leaper) 0) leapers
+  pub kept : AllZip (IsOpenKept sense (length keys) (at keys)) (holders_at plan.guides level (length keys) (at keys)) leapers
 
-lones_sit : (R : Type 0) (plan : Plan) (state : State) (l : ℕ) (keys : Keys) (f : ℕ → ℕ) (ms : List ℕ) → AllZip (IsSeatOf {R = R} plan state l keys) (map (λ m. OfKey (f m)) ms) (map (λ m. alone (f m)) ms)
+lones_sit : (R : Type 0) (plan : Plan) (state : State) (l : ℕ) (keys : Keys) (f : ℕ → ℕ) (ms : List ℕ) → AllZip (IsLeaperOf {R = R} plan state l keys) (map (λ m. OfKey (f m)) ms) (map (λ m. alone (f m)) ms)
 lones_sit R plan state l keys f [] = tt
 lones_sit R plan state l keys f (m ∷ ms) = (refl, lones_sit R plan state l keys f ms)
 
-lones_first : (R : Type 0) (f : ℕ → ℕ) (ms : List ℕ) → AllByRecursion (λ (seat : Seat R). seat_here seat ≡ least_from (seat_keys seat) 0) (map (λ m. alone (f m)) ms)
+lones_first : (R : Type 0) (f : ℕ → ℕ) (ms : List ℕ) → AllByRecursion (λ (leaper : Leaper R). leaper_here leaper ≡ least_from (leaper_keys leaper) 0) (map (λ m. alone (f m)) ms)
 lones_first R f [] = tt
 lones_first R f (m ∷ ms) = (sym (least-here (f m) [] 0 (omega arith)), lones_first R f ms)
 
@@ -255,36 +255,36 @@ lones_kept R sense l keys f [] = tt
 lones_kept R sense l keys f (m ∷ ms) = ((λ some from below. omega arith), lones_kept R sense l keys f ms)
 
 -- the keys alone after the walks
-pub AreSeated-of : (R : Type 0) (plan : Plan) (state : State) (keys : List ℕ) (level : Level) (old new : Sense) (walks seats : List (Seat R)) (begun now : ℕ) → AreOpened plan state keys plan.guides old new walks begun now
-    → seats ≡ walks ++ (map alone level.pins ++ map (λ m. alone (at keys m)) level.ties) → AreSeated plan state keys level new seats
-AreSeated-of R plan state keys level old new walks seats begun now opened is =
+pub AreLeapers-of : (R : Type 0) (plan : Plan) (state : State) (keys : List ℕ) (level : Level) (old new : Sense) (walks leapers : List (Leaper R)) (begun now : ℕ) → AreOpened plan state keys plan.guides old new walks begun now
+    → leapers ≡ walks ++ (map alone level.pins ++ map (λ m. alone (at keys m)) level.ties) → AreLeapers plan state keys level new leapers
+AreLeapers-of R plan state keys level old new walks leapers begun now opened is =
     let l = length keys in
     rw is (record {
-      sits = zip_append (IsSeatOf plan state l (at keys)) (atoms_at plan.guides l) (map OfKey level.pins ++ map (λ m. OfKey (at keys m)) level.ties) walks (map alone level.pins ++ map (λ m. alone (at keys m)) level.ties) opened.seats
-          (zip_append (IsSeatOf plan state l (at keys)) (map OfKey level.pins) (map (λ m. OfKey (at keys m)) level.ties) (map alone level.pins) (map (λ m. alone (at keys m)) level.ties) (lones_sit R plan state l (at keys) (λ k. k) level.pins) (lones_sit R plan state l (at keys) (at keys) level.ties));
-      first = all_append (λ seat. seat_here seat ≡ least_from (seat_keys seat) 0) walks (map alone level.pins ++ map (λ m. alone (at keys m)) level.ties) opened.first
-          (all_append (λ seat. seat_here seat ≡ least_from (seat_keys seat) 0) (map alone level.pins) (map (λ m. alone (at keys m)) level.ties) (lones_first R (λ k. k) level.pins) (lones_first R (at keys) level.ties));
+      sits = zip_append (IsLeaperOf plan state l (at keys)) (atoms_at plan.guides l) (map OfKey level.pins ++ map (λ m. OfKey (at keys m)) level.ties) walks (map alone level.pins ++ map (λ m. alone (at keys m)) level.ties) opened.leapers
+          (zip_append (IsLeaperOf plan state l (at keys)) (map OfKey level.pins) (map (λ m. OfKey (at keys m)) level.ties) (map alone level.pins) (map (λ m. alone (at keys m)) level.ties) (lones_sit R plan state l (at keys) (λ k. k) level.pins) (lones_sit R plan state l (at keys) (at keys) level.ties));
+      first = all_append (λ leaper. leaper_here leaper ≡ least_from (leaper_keys leaper) 0) walks (map alone level.pins ++ map (λ m. alone (at keys m)) level.ties) opened.first
+          (all_append (λ leaper. leaper_here leaper ≡ least_from (leaper_keys leaper) 0) (map alone level.pins) (map (λ m. alone (at keys m)) level.ties) (lones_first R (λ k. k) level.pins) (lones_first R (at keys) level.ties));
       kept = zip_append (IsOpenKept new l (at keys)) (atoms_at plan.guides l) (map OfKey level.pins ++ map (λ m. OfKey (at keys m)) level.ties) walks (map alone level.pins ++ map (λ m. alone (at keys m)) level.ties) opened.kept
           (zip_append (IsOpenKept new l (at keys)) (map OfKey level.pins) (map (λ m. OfKey (at keys m)) level.ties) (map alone level.pins) (map (λ m. alone (at keys m)) level.ties) (lones_kept R new l (at keys) (λ k. k) level.pins) (lones_kept R new l (at keys) (at keys) level.ties));
     })
 
 -- what an open passed is kept
-opened_past : {R : Type 0} (sense : Sense) (l : ℕ) (keys : Keys) (hs : List Holder) (seats : List (Seat R)) (p m : ℕ) → AllZip (IsOpenKept sense l keys) hs seats → p < length (map seat_here seats) → slice_index (map seat_here seats) p ≡ m → 0 < m → (h : Holder) × IsIn h hs × IsKept sense l keys 0 m h
+opened_past : {R : Type 0} (sense : Sense) (l : ℕ) (keys : Keys) (hs : List Holder) (leapers : List (Leaper R)) (p m : ℕ) → AllZip (IsOpenKept sense l keys) hs leapers → p < length (map leaper_here leapers) → slice_index (map leaper_here leapers) p ≡ m → 0 < m → (h : Holder) × IsIn h hs × IsKept sense l keys 0 m h
 opened_past sense l keys [] [] p m z lt e some = absurd (omega arith)
-opened_past sense l keys [] (s ∷ seats) p m z lt e some = absurd z
+opened_past sense l keys [] (s ∷ leapers) p m z lt e some = absurd z
 opened_past sense l keys (h ∷ hs) [] p m z lt e some = absurd z
-opened_past sense l keys (h ∷ hs) (s ∷ seats) zero m z lt e some = (h, inl refl, subst (λ k. IsKept sense l keys 0 k h) e (z.0 (omega arith)))
-opened_past sense l keys (h ∷ hs) (s ∷ seats) (suc p) m z lt e some =
-    let r = opened_past sense l keys hs seats p m z.1 (omega arith) e some in (r.0, inr r.1, r.2)
+opened_past sense l keys (h ∷ hs) (s ∷ leapers) zero m z lt e some = (h, inl refl, subst (λ k. IsKept sense l keys 0 k h) e (z.0 (omega arith)))
+opened_past sense l keys (h ∷ hs) (s ∷ leapers) (suc p) m z lt e some =
+    let r = opened_past sense l keys hs leapers p m z.1 (omega arith) e some in (r.0, inr r.1, r.2)
 
--- seats stay their holders' where only their places changed
-to_still : (R : Type 0) (plan : Plan) (state : State) (l : ℕ) (keys : Keys) (h : Holder) (v : Seat R) → IsSeatOf plan state l keys h v → IsSeatOf plan state l keys h (seat_still v)
+-- leapers stay their holders' where only their places changed
+to_still : (R : Type 0) (plan : Plan) (state : State) (l : ℕ) (keys : Keys) (h : Holder) (v : Leaper R) → IsLeaperOf plan state l keys h v → IsLeaperOf plan state l keys h (leaper_still v)
 to_still R plan state l keys (OfAtom guide) (Walks walk) k = (k.0, record { over = record { index = k.1.over.index; is_set = k.1.over.is_set; narrow = k.1.over.narrow }; prefix = k.1.prefix; level = k.1.level })
 to_still R plan state l keys (OfAtom guide) (Single lone) k = k
 to_still R plan state l keys (OfKey key) (Walks walk) k = k
 to_still R plan state l keys (OfKey key) (Single lone) k = k
 
-from_still : (R : Type 0) (plan : Plan) (state : State) (l : ℕ) (keys : Keys) (h : Holder) (v : Seat R) → IsSeatOf plan state l keys h (seat_still v) → IsSeatOf plan state l keys h v
+from_still : (R : Type 0) (plan : Plan) (state : State) (l : ℕ) (keys : Keys) (h : Holder) (v : Leaper R) → IsLeaperOf plan state l keys h (leaper_still v) → IsLeaperOf plan state l keys h v
 from_still R plan state l keys (OfAtom guide) (Walks walk) k = (k.0, record { over = record { index = k.1.over.index; is_set = k.1.over.is_set; narrow = k.1.over.narrow }; prefix = k.1.prefix; level = k.1.level })
 from_still R plan state l keys (OfAtom guide) (Single lone) k = k
 from_still R plan state l keys (OfKey key) (Walks walk) k = k
@@ -296,31 +296,31 @@ head_is x y xs ys e = cc
 tail_is : {X : Type 0} (x y : X) (xs ys : List X) → x ∷ xs ≡ y ∷ ys → xs ≡ ys
 tail_is x y xs ys e = cc
 
--- seats stay their holders' where only their places changed
-pub still_seats : (R : Type 0) (plan : Plan) (state : State) (l : ℕ) (keys : Keys) (hs : List Holder) (ss ts : List (Seat R)) → map seat_still ts ≡ map seat_still ss → AllZip (IsSeatOf plan state l keys) hs ss → AllZip (IsSeatOf plan state l keys) hs ts
-still_seats R plan state l keys [] [] [] e z = tt
-still_seats R plan state l keys [] [] (t ∷ ts) e z = cc
-still_seats R plan state l keys [] (s ∷ ss) ts e z = absurd z
-still_seats R plan state l keys (h ∷ hs) [] ts e z = absurd z
-still_seats R plan state l keys (h ∷ hs) (s ∷ ss) [] e z = cc
-still_seats R plan state l keys (h ∷ hs) (s ∷ ss) (t ∷ ts) e z = (
-  from_still R plan state l keys h t (subst (IsSeatOf plan state l keys h) (sym (head_is (seat_still t) (seat_still s) (map seat_still ts) (map seat_still ss) e)) (to_still R plan state l keys h s z.0)),
-  still_seats R plan state l keys hs ss ts (tail_is (seat_still t) (seat_still s) (map seat_still ts) (map seat_still ss) e) z.1,
+-- leapers stay their holders' where only their places changed
+pub still_leapers : (R : Type 0) (plan : Plan) (state : State) (l : ℕ) (keys : Keys) (hs : List Holder) (ss ts : List (Leaper R)) → map leaper_still ts ≡ map leaper_still ss → AllZip (IsLeaperOf plan state l keys) hs ss → AllZip (IsLeaperOf plan state l keys) hs ts
+still_leapers R plan state l keys [] [] [] e z = tt
+still_leapers R plan state l keys [] [] (t ∷ ts) e z = cc
+still_leapers R plan state l keys [] (s ∷ ss) ts e z = absurd z
+still_leapers R plan state l keys (h ∷ hs) [] ts e z = absurd z
+still_leapers R plan state l keys (h ∷ hs) (s ∷ ss) [] e z = cc
+still_leapers R plan state l keys (h ∷ hs) (s ∷ ss) (t ∷ ts) e z = (
+  from_still R plan state l keys h t (subst (IsLeaperOf plan state l keys h) (sym (head_is (leaper_still t) (leaper_still s) (map leaper_still ts) (map leaper_still ss) e)) (to_still R plan state l keys h s z.0)),
+  still_leapers R plan state l keys hs ss ts (tail_is (leaper_still t) (leaper_still s) (map leaper_still ts) (map leaper_still ss) e) z.1,
 )
 
 -- ---- where a level stands
 
 -- what the key of an open level is
-pub key_facts : (R : Type 0) (plan : Plan) (state : State) (keys : List ℕ) (level : Level) (leap : LeapView (Seat R)) (key : ℕ) → 0 < length (atoms_at plan.guides (length keys)) → IsOpen plan state keys level leap key → key ≢ end_key
+pub key_facts : (R : Type 0) (plan : Plan) (state : State) (keys : List ℕ) (level : Level) (leap : LeapView (Leaper R)) (key : ℕ) → 0 < length (atoms_at plan.guides (length keys)) → IsOpen plan state keys level leap key → key ≢ end_key
     → (is_cell key ≡ true) × Fits level (at keys) key × IsIn key (common_keys (iterators_at state plan.guides level (length keys) (at keys)))
 key_facts R plan state keys level leap key held is goes =
     let l = length keys in
-    let same = lists_same plan state l (at keys) level leap.iters is.seats in
-    let in_seats = found_in_all (map seat_keys leap.iters) (map seat_here leap.iters) leap.ring key (is.found goes) goes in
-    let in_lists = same_in_all key (iterators_at state plan.guides level l (at keys)) (map seat_keys leap.iters) same in_seats in
+    let same = lists_same plan state l (at keys) level leap.iters is.leapers in
+    let in_leapers = found_in_all (map leaper_keys leap.iters) (map leaper_here leap.iters) leap.ring key (is.found goes) goes in
+    let in_lists = same_in_all key (iterators_at state plan.guides level l (at keys)) (map leaper_keys leap.iters) same in_leapers in
     let atoms = filter (λ guide. has_key (levels_of guide) l) plan.guides in
     let some : 0 < length atoms = let e = length_map OfAtom atoms in omega arith in (
-      cell_from plan state l (at keys) atoms (map OfKey level.pins ++ map (λ m. OfKey (at keys m)) level.ties) leap.iters key some is.seats in_seats,
+      cell_from plan state l (at keys) atoms (map OfKey level.pins ++ map (λ m. OfKey (at keys m)) level.ties) leap.iters key some is.leapers in_leapers,
       fits_from state plan.guides level l (at keys) key in_lists,
       in_common key (iterators_at state plan.guides level l (at keys))
           (let e = iterators_are state plan.guides level l (at keys) in
@@ -332,7 +332,7 @@ key_facts R plan state keys level leap key held is goes =
     longer [] ys = omega arith
     longer (x ∷ xs) ys = let r = longer xs ys in omega arith
 
-pub joined : (R : Type 0) (plan : Plan) (state : State) (old new : Sense) (keys : List ℕ) (level : Level) (start given now : ℕ) (leap : LeapView (Seat R)) (key : ℕ) → 0 < length (atoms_at plan.guides (length keys)) → IsOpen plan state keys level leap key
+pub joined : (R : Type 0) (plan : Plan) (state : State) (old new : Sense) (keys : List ℕ) (level : Level) (start given now : ℕ) (leap : LeapView (Leaper R)) (key : ℕ) → 0 < length (atoms_at plan.guides (length keys)) → IsOpen plan state keys level leap key
     → Grows old new → IsTight new state → ((k : ℕ) → is_cell k ≡ true → start ≤ k → k < key → IsSkipped plan new keys level k) → now + left_of leap ≤ given → IsJoined plan state old new keys level start given now leap key
 joined R plan state old new keys level start given now leap key held is grows tight skipped cost = record {
   is_open = is;
@@ -352,56 +352,56 @@ longer_holders [] ys = omega arith
 longer_holders (x ∷ xs) ys = let r = longer_holders xs ys in omega arith
 
 -- the first moves of a level
-pub joined_begun : (R : Type 0) (plan : Plan) (state : State) (keys : List ℕ) (level : Level) (old mid new : Sense) (walks seats : List (Seat R)) (begun between now count : ℕ) (none gs : List (ℕ × Gap)) (leap : LeapView (Seat R)) (key : ℕ)
-    → 0 < length (atoms_at plan.guides (length keys)) → AreOpened plan state keys plan.guides old mid walks begun between → seats ≡ walks ++ (map alone level.pins ++ map (λ m. alone (at keys m)) level.ties)
-    → map seat_keys leap.iters ≡ map seat_keys seats → map seat_still leap.iters ≡ map seat_still seats → none ≡ []
-    → (m : ℕ) × IsGreatest (map seat_here seats) m × NotesGaps (map seat_keys seats) m leap.here (Some none) (Some gs) count
-    → now + left_of leap + length seats ≤ between + join_cost (map seat_keys seats)
-    → AreKept plan state keys level mid new gs → key ≡ leap.here → (leap.here ≢ end_key → IsFound (map seat_keys leap.iters) (map seat_here leap.iters) leap.ring leap.here)
+pub joined_begun : (R : Type 0) (plan : Plan) (state : State) (keys : List ℕ) (level : Level) (old mid new : Sense) (walks leapers : List (Leaper R)) (begun between now count : ℕ) (none gs : List (ℕ × Gap)) (leap : LeapView (Leaper R)) (key : ℕ)
+    → 0 < length (atoms_at plan.guides (length keys)) → AreOpened plan state keys plan.guides old mid walks begun between → leapers ≡ walks ++ (map alone level.pins ++ map (λ m. alone (at keys m)) level.ties)
+    → map leaper_keys leap.iters ≡ map leaper_keys leapers → map leaper_still leap.iters ≡ map leaper_still leapers → none ≡ []
+    → (m : ℕ) × IsGreatest (map leaper_here leapers) m × NotesGaps (map leaper_keys leapers) m leap.here (Some none) (Some gs) count
+    → now + left_of leap + length leapers ≤ between + join_cost (map leaper_keys leapers)
+    → AreKept plan state keys level mid new gs → key ≡ leap.here → (leap.here ≢ end_key → IsFound (map leaper_keys leap.iters) (map leaper_here leap.iters) leap.ring leap.here)
     → IsJoined plan state old new keys level 0 (begun + join_cost (iterators_at state plan.guides level (length keys) (at keys))) now leap key
-joined_begun R plan state keys level old mid new walks seats begun between now count none gs leap key held opened seats_are same_keys still empty noted left kept key_is found =
+joined_begun R plan state keys level old mid new walks leapers begun between now count none gs leap key held opened leapers_are same_keys still empty noted left kept key_is found =
     let l = length keys in
     let hs = holders_at plan.guides level l (at keys) in
     let lists = iterators_at state plan.guides level l (at keys) in
-    let real = map seat_keys leap.iters in
-    let seated = AreSeated-of R plan state keys level old mid walks seats begun between opened seats_are in
-    let sits = still_seats R plan state l (at keys) hs seats leap.iters still seated.sits in
+    let real = map leaper_keys leap.iters in
+    let leaping = AreLeapers-of R plan state keys level old mid walks leapers begun between opened leapers_are in
+    let sits = still_leapers R plan state l (at keys) hs leapers leap.iters still leaping.sits in
     let same = lists_same plan state l (at keys) level leap.iters sits in
-    let is : IsOpen plan state keys level leap key = record { seats = sits; here = λ e. sym key_is; found = λ e. subst (IsFound real (map seat_here leap.iters) leap.ring) (sym key_is) (found (λ f. e (key_is ∙ f))) } in
-    let n_seats = zip_long (IsSeatOf plan state l (at keys)) hs seats seated.sits in
-    let n_walks = zip_long (IsSeatOf plan state l (at keys)) (atoms_at plan.guides l) walks opened.seats in
+    let is : IsOpen plan state keys level leap key = record { leapers = sits; here = λ e. sym key_is; found = λ e. subst (IsFound real (map leaper_here leap.iters) leap.ring) (sym key_is) (found (λ f. e (key_is ∙ f))) } in
+    let n_leapers = zip_long (IsLeaperOf plan state l (at keys)) hs leapers leaping.sits in
+    let n_walks = zip_long (IsLeaperOf plan state l (at keys)) (atoms_at plan.guides l) walks opened.leapers in
     let n_more = longer_holders (atoms_at plan.guides l) (map OfKey level.pins ++ map (λ m. OfKey (at keys m)) level.ties) in
-    let least : join_cost (map seat_keys seats) ≤ join_cost lists = cost-least lists (map seat_keys seats) (subst (AllZip SameKeys lists) same_keys same) in
+    let least : join_cost (map leaper_keys leapers) ≤ join_cost lists = cost-least lists (map leaper_keys leapers) (subst (AllZip SameKeys lists) same_keys same) in
     let cost : now + left_of leap ≤ begun + join_cost lists = (let m = opened.moves in omega arith) in
     joined R plan state old new keys level 0 (begun + join_cost lists) now leap key held is (Grows-chain old mid new opened.grows kept.grows) kept.tight
     (λ k cell from below. elim (cases_lt k noted.0) [
       | inl early ↦
-          let past = opened_past mid l (at keys) hs seats noted.1.place noted.0 seated.kept noted.1.within noted.1.is (omega arith) in
+          let past = opened_past mid l (at keys) hs leapers noted.1.place noted.0 leaping.kept noted.1.within noted.1.is (omega arith) in
           IsSkipped-from_noted plan new keys level 0 noted.0 k past.0 past.1 (IsKept-grows mid new kept.grows l (at keys) 0 noted.0 past.0 past.2) (omega arith) early
-      | inr late ↦ skipped_by_notes plan state keys level mid new (map seat_keys seats) noted.0 leap.here count none gs empty noted.2 kept k late (omega arith)
+      | inr late ↦ skipped_by_notes plan state keys level mid new (map leaper_keys leapers) noted.0 leap.here count none gs empty noted.2 kept k late (omega arith)
     ]) cost
 
 -- the moves to the next key of a level
-pub joined_next : (R : Type 0) (plan : Plan) (state : State) (keys : List ℕ) (level : Level) (mid new : Sense) (begun now count : ℕ) (none gs : List (ℕ × Gap)) (leap leap' : LeapView (Seat R)) (key key' : ℕ)
+pub joined_next : (R : Type 0) (plan : Plan) (state : State) (keys : List ℕ) (level : Level) (mid new : Sense) (begun now count : ℕ) (none gs : List (ℕ × Gap)) (leap leap' : LeapView (Leaper R)) (key key' : ℕ)
     → 0 < length (atoms_at plan.guides (length keys)) → IsOpen plan state keys level leap key → key ≢ end_key
-    → map seat_keys leap'.iters ≡ map seat_keys leap.iters → map seat_still leap'.iters ≡ map seat_still leap.iters → none ≡ []
-    → leap'.here ≡ least_from (common_keys (map seat_keys leap.iters)) (leap.here + 1)
-    → NotesGaps (map seat_keys leap.iters) (leap.here + 1) leap'.here (Some none) (Some gs) count
+    → map leaper_keys leap'.iters ≡ map leaper_keys leap.iters → map leaper_still leap'.iters ≡ map leaper_still leap.iters → none ≡ []
+    → leap'.here ≡ least_from (common_keys (map leaper_keys leap.iters)) (leap.here + 1)
+    → NotesGaps (map leaper_keys leap.iters) (leap.here + 1) leap'.here (Some none) (Some gs) count
     → now + left_of leap' ≤ begun + left_of leap
-    → AreKept plan state keys level mid new gs → key' ≡ leap'.here → (leap'.here ≢ end_key → IsFound (map seat_keys leap'.iters) (map seat_here leap'.iters) leap'.ring leap'.here)
+    → AreKept plan state keys level mid new gs → key' ≡ leap'.here → (leap'.here ≢ end_key → IsFound (map leaper_keys leap'.iters) (map leaper_here leap'.iters) leap'.ring leap'.here)
     → IsJoined plan state mid new keys level (key + 1) (begun + left_of leap) now leap' key' × (key < key')
 joined_next R plan state keys level mid new begun now count none gs leap leap' key key' held is goes same_keys still empty here noted left kept key_is found =
     let l = length keys in
     let hs = holders_at plan.guides level l (at keys) in
     let lists = iterators_at state plan.guides level l (at keys) in
-    let real = map seat_keys leap'.iters in
+    let real = map leaper_keys leap'.iters in
     let was = is.here goes in
     let low = (is.found goes).low in
-    let sits = still_seats R plan state l (at keys) hs leap.iters leap'.iters still is.seats in
-    let is' : IsOpen plan state keys level leap' key' = record { seats = sits; here = λ e. sym key_is; found = λ e. subst (IsFound real (map seat_here leap'.iters) leap'.ring) (sym key_is) (found (λ f. e (key_is ∙ f))) } in
-    let up = least_above (common_keys (map seat_keys leap.iters)) (leap.here + 1) (omega arith) in (
+    let sits = still_leapers R plan state l (at keys) hs leap.iters leap'.iters still is.leapers in
+    let is' : IsOpen plan state keys level leap' key' = record { leapers = sits; here = λ e. sym key_is; found = λ e. subst (IsFound real (map leaper_here leap'.iters) leap'.ring) (sym key_is) (found (λ f. e (key_is ∙ f))) } in
+    let up = least_above (common_keys (map leaper_keys leap.iters)) (leap.here + 1) (omega arith) in (
       joined R plan state mid new keys level (key + 1) (begun + left_of leap) now leap' key' held is' kept.grows kept.tight
-          (λ k cell from below. skipped_by_notes plan state keys level mid new (map seat_keys leap.iters) (leap.here + 1) leap'.here count none gs empty noted kept k (omega arith) (omega arith)) left,
+          (λ k cell from below. skipped_by_notes plan state keys level mid new (map leaper_keys leap.iters) (leap.here + 1) leap'.here count none gs empty noted kept k (omega arith) (omega arith)) left,
       (let e = here in omega arith),
     )
 
@@ -417,13 +417,13 @@ unfit level keys a b some f g =
     first (m ∷ ms) h lt p q = sym p.0 ∙ q.0
 
 -- a level with a pin or a tie ends with its find
-pub joined_ended : (R : Type 0) (plan : Plan) (state : State) (keys : List ℕ) (level : Level) (sense : Sense) (now : ℕ) (leap : LeapView (Seat R)) (key : ℕ)
+pub joined_ended : (R : Type 0) (plan : Plan) (state : State) (keys : List ℕ) (level : Level) (sense : Sense) (now : ℕ) (leap : LeapView (Leaper R)) (key : ℕ)
     → 0 < length (atoms_at plan.guides (length keys)) → IsOpen plan state keys level leap key → key ≢ end_key → 0 < length level.pins + length level.ties → IsTight sense state
     → IsJoined plan state sense sense keys level (key + 1) (now + left_of leap) now leap end_key × (key < end_key)
 joined_ended R plan state keys level sense now leap key held is goes some tight =
     let low = (is.found goes).low in (
       joined R plan state sense sense keys level (key + 1) (now + left_of leap) now leap end_key held
-          (record { seats = is.seats; here = λ e. absurd (e refl); found = λ e. absurd (e refl) }) (Grows-none sense) tight
+          (record { leapers = is.leapers; here = λ e. absurd (e refl); found = λ e. absurd (e refl) }) (Grows-none sense) tight
           (λ k cell from below. inr (λ fits. let e = unfit level (at keys) key k some (key_facts R plan state keys level leap key held is goes).1 fits in omega arith)) (omega arith),
       omega arith,
     )
@@ -431,12 +431,12 @@ joined_ended R plan state keys level sense now leap key held is goes some tight 
 -- ---- what a level's moves may add
 
 -- the first moves
-pub gains_begun : (R : Type 0) (plan : Plan) (state : State) (keys : List ℕ) (level : Level) (old mid new : Sense) (walks : List (Seat R)) (begun between now : ℕ) (lists : List (List ℕ)) (start stop : ℕ) (none gs : List (ℕ × Gap)) (key : ℕ)
+pub gains_begun : (R : Type 0) (plan : Plan) (state : State) (keys : List ℕ) (level : Level) (old mid new : Sense) (walks : List (Leaper R)) (begun between now : ℕ) (lists : List (List ℕ)) (start stop : ℕ) (none gs : List (ℕ × Gap)) (key : ℕ)
     → AreOpened plan state keys plan.guides old mid walks begun between → none ≡ [] → NotesGaps lists start stop (Some none) (Some gs) (now - between) → between ≤ now → AreKept plan state keys level mid new gs
     → LevelGains (length (atoms_at plan.guides (length keys))) old new begun now key
 gains_begun R plan state keys level old mid new walks begun between now lists start stop none gs key opened empty noted rises kept =
     let e = ap length (gaps_are none gs noted.gaps empty noted.is) in
-    let n = zip_long (IsSeatOf plan state (length keys) (at keys)) (atoms_at plan.guides (length keys)) walks opened.seats in
+    let n = zip_long (IsLeaperOf plan state (length keys) (at keys)) (atoms_at plan.guides (length keys)) walks opened.leapers in
     record {
       gaps = (let a = opened.few in let b = kept.few in let c = noted.few in let d = opened.moves in omega arith);
       hits = kept.hits ∙ opened.hits;
@@ -445,13 +445,13 @@ gains_begun R plan state keys level old mid new walks begun between now lists st
     }
 
 -- the moves to the next key
-pub gains_next : (R : Type 0) (plan : Plan) (state : State) (keys : List ℕ) (level : Level) (mid new : Sense) (begun now : ℕ) (lists : List (List ℕ)) (start stop : ℕ) (none gs : List (ℕ × Gap)) (leap leap' : LeapView (Seat R)) (key key' : ℕ)
+pub gains_next : (R : Type 0) (plan : Plan) (state : State) (keys : List ℕ) (level : Level) (mid new : Sense) (begun now : ℕ) (lists : List (List ℕ)) (start stop : ℕ) (none gs : List (ℕ × Gap)) (leap leap' : LeapView (Leaper R)) (key key' : ℕ)
     → IsOpen plan state keys level leap key → none ≡ [] → NotesGaps lists start stop (Some none) (Some gs) (now - begun) → begun ≤ now → AreKept plan state keys level mid new gs → key' ≡ leap'.here
     → (leap'.here ≢ end_key → begun + length leap.iters ≤ now) → LevelGains (length (atoms_at plan.guides (length keys))) mid new begun now key'
 gains_next R plan state keys level mid new begun now lists start stop none gs leap leap' key key' is empty noted rises kept key_is at_least =
     let l = length keys in
     let e = ap length (gaps_are none gs noted.gaps empty noted.is) in
-    let n = zip_long (IsSeatOf plan state l (at keys)) (holders_at plan.guides level l (at keys)) leap.iters is.seats in
+    let n = zip_long (IsLeaperOf plan state l (at keys)) (holders_at plan.guides level l (at keys)) leap.iters is.leapers in
     let more = longer_holders (atoms_at plan.guides l) (map OfKey level.pins ++ map (λ m. OfKey (at keys m)) level.ties) in
     record {
       gaps = (let b = kept.few in let c = noted.few in omega arith);
@@ -464,7 +464,7 @@ gains_next R plan state keys level mid new begun now lists start stop none gs le
 pub gains_ended : (atoms : ℕ) (sense : Sense) (now : ℕ) → LevelGains atoms sense sense now now end_key
 gains_ended atoms sense now = record { gaps = omega arith; hits = refl; rises = omega arith; paid = λ at_key. absurd (omega arith) }
 
--- ---- how many seats there are
+-- ---- how many leapers there are
 
 few_atoms : (guides : List Guide) (l : ℕ) → length (atoms_at guides l) ≤ length guides
 few_atoms [] l = omega arith
@@ -476,11 +476,11 @@ pub length_append : {X : Type 0} (xs ys : List X) → length (xs ++ ys) ≡ leng
 length_append [] ys = omega arith
 length_append (x ∷ xs) ys = let r = length_append xs ys in omega arith
 
-pub seats_count : (R : Type 0) (plan : Plan) (state : State) (keys : List ℕ) (level : Level) (sense : Sense) (seats : List (Seat R)) → AreSeated plan state keys level sense seats
-    → (length (atoms_at plan.guides (length keys)) ≤ length seats) × (length seats ≤ length plan.guides + (length level.pins + length level.ties))
-seats_count R plan state keys level sense seats seated =
+pub leapers_count : (R : Type 0) (plan : Plan) (state : State) (keys : List ℕ) (level : Level) (sense : Sense) (leapers : List (Leaper R)) → AreLeapers plan state keys level sense leapers
+    → (length (atoms_at plan.guides (length keys)) ≤ length leapers) × (length leapers ≤ length plan.guides + (length level.pins + length level.ties))
+leapers_count R plan state keys level sense leapers leaping =
     let l = length keys in
-    let n = zip_long (IsSeatOf plan state l (at keys)) (holders_at plan.guides level l (at keys)) seats seated.sits in
+    let n = zip_long (IsLeaperOf plan state l (at keys)) (holders_at plan.guides level l (at keys)) leapers leaping.sits in
     let a = length_append (atoms_at plan.guides l) (map OfKey level.pins ++ map (λ m. OfKey (at keys m)) level.ties) in
     let b = length_append (map OfKey level.pins) (map (λ m. OfKey (at keys m)) level.ties) in
     let d = length_map OfKey level.pins in

@@ -4,7 +4,7 @@ pub mod Kept
 pub mod Leaves
 pub mod Repair
 mod Samples
-pub mod Seats
+pub mod Leapers
 pub mod Steps
 pub mod Truth
 pub mod Walks

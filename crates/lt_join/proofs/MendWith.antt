@@ -2,7 +2,7 @@
 use Rattle.std.specs.Prelude.{◌≡◌, ℕ, ◌<◌, List, [], ◌∷◌}
 use Rattle.std.specs.List.{AllByRecursion}
 use Rattle.std.proofs.Common.{sym, subst}
-use Rattle.lt_face.specs.Lists.{IsIn}
+use Rattle.lt_face.specs.Lists.{IsIn, AreInOrder}
 use Rattle.lt_face.specs.State.{State}
 use Rattle.lt_model.specs.declared.normal.Term.{Term}
 use Rattle.lt_model.specs.declared.normal.Body.{Body}
@@ -12,7 +12,6 @@ use Rattle.lt_query.specs.declared.plans.Plan.{Plan}
 use Rattle.lt_sense.specs.Kept.{Sense}
 use Rattle.lt_join.specs.declared.slicing.Slice.{Slice}
 use Rattle.lt_sense.specs.Cut.{cut}
-use Rattle.lt_sense.specs.Ordered.{AreInOrder}
 use Rattle.lt_join.specs.Mended.{AreSlicesOn, HaveTouched, AreMended, AreFrom}
 use Rattle.lt_join.specs.Sliced.{slice_keys, IsSliceOf}
 use Rattle.lt_join.proofs.MendLaws.{mended_are_slices}

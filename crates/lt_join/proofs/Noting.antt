@@ -16,15 +16,15 @@ use Rattle.lt_query.specs.Plan.{Keys}
 use Rattle.lt_sense.specs.declared.covering.KeptGap.{KeptGap}
 use Rattle.lt_sense.specs.Kept.{Sense}
 use Rattle.lt_sense.specs.Sense.{IsTight}
-use Rattle.lt_join.specs.declared.seat.Seat.{Seat}
-use Rattle.lt_join.specs.declared.seat.Walk.{Walk}
+use Rattle.lt_join.specs.declared.leaper.Leaper.{Leaper}
+use Rattle.lt_join.specs.declared.leaper.Walk.{Walk}
 use Rattle.lt_join.specs.Lone.{LoneView}
-use Rattle.lt_join.specs.declared.seat.Seat.TheVariants.{Walks, Single}
-use Rattle.lt_join.specs.Seat.{seat_keys}
+use Rattle.lt_join.specs.declared.leaper.Leaper.TheVariants.{Walks, Single}
+use Rattle.lt_join.specs.Leaper.{leaper_keys}
 use Rattle.lt_join.specs.Explored.{prefix_at}
 use Rattle.lt_leap.specs.Common.{has_key}
 use Rattle.lt_join.specs.Walked.{at, Grows}
-use Rattle.lt_join.specs.Holders.{Holder, OfAtom, OfKey, IsOver, IsOpenedOf, IsSeatOf, IsNotedKept, AreKept, holders_at}
+use Rattle.lt_join.specs.Holders.{Holder, OfAtom, OfKey, IsOver, IsOpenedOf, IsLeaperOf, IsNotedKept, AreKept, holders_at}
 use Rattle.lt_join.proofs.Steps.{Grows-chain}
 use Rattle.lt_join.proofs.Opening.{AddsGap, one_gap, gap_added, Grows-none, IsKept-grows, All_more, under_none, under_added}
 
@@ -35,20 +35,20 @@ length_more : {X : Type 0} (xs : List X) (x : X) → length (xs ++ x ∷ []) ≡
 length_more [] x = refl
 length_more (y ∷ xs) x = let e = length_more xs x in omega arith
 
--- a seat has its holder
-pub seat_at : {X Y : Type 0} (R : X → Y → Type 0) (hs : List X) (ss : List Y) (i : ℕ) (s : Y) → AllZip R hs ss → slice_get ss i ≡ Some s → (h : X) × (slice_get hs i ≡ Some h) × R h s
-seat_at R [] [] i s z e = cc
-seat_at R [] (y ∷ ss) i s z e = absurd z
-seat_at R (x ∷ hs) [] i s z e = absurd z
-seat_at R (x ∷ hs) (y ∷ ss) zero s z e = (x, refl, subst (R x) (some_is y s e) z.0)
-seat_at R (x ∷ hs) (y ∷ ss) (suc i) s z e = seat_at R hs ss i s z.1 e
+-- a leaper has its holder
+pub leaper_at : {X Y : Type 0} (R : X → Y → Type 0) (hs : List X) (ss : List Y) (i : ℕ) (s : Y) → AllZip R hs ss → slice_get ss i ≡ Some s → (h : X) × (slice_get hs i ≡ Some h) × R h s
+leaper_at R [] [] i s z e = cc
+leaper_at R [] (y ∷ ss) i s z e = absurd z
+leaper_at R (x ∷ hs) [] i s z e = absurd z
+leaper_at R (x ∷ hs) (y ∷ ss) zero s z e = (x, refl, subst (R x) (some_is y s e) z.0)
+leaper_at R (x ∷ hs) (y ∷ ss) (suc i) s z e = leaper_at R hs ss i s z.1 e
 
 -- a walk's holder is an atom
-pub atom_of : {R : Type 0} (plan : Plan) (state : State) (l : ℕ) (keys : Keys) (holder : Holder) (walk : Walk R) → IsSeatOf plan state l keys holder (Walks walk) → (guide : Guide) × (holder ≡ OfAtom guide) × (slice_get plan.guides walk.guide ≡ Some guide) × IsOpenedOf state l keys guide walk.trie
+pub atom_of : {R : Type 0} (plan : Plan) (state : State) (l : ℕ) (keys : Keys) (holder : Holder) (walk : Walk R) → IsLeaperOf plan state l keys holder (Walks walk) → (guide : Guide) × (holder ≡ OfAtom guide) × (slice_get plan.guides walk.guide ≡ Some guide) × IsOpenedOf state l keys guide walk.trie
 atom_of plan state l keys (OfAtom guide) walk h = (guide, refl, h.0, h.1)
 atom_of plan state l keys (OfKey key) walk h = absurd h
 
-pub key_of_alone : (R : Type 0) (plan : Plan) (state : State) (l : ℕ) (keys : Keys) (holder : Holder) (lone : LoneView) → IsSeatOf {R = R} plan state l keys holder (Single lone) → holder ≡ OfKey lone.key
+pub key_of_alone : (R : Type 0) (plan : Plan) (state : State) (l : ℕ) (keys : Keys) (holder : Holder) (lone : LoneView) → IsLeaperOf {R = R} plan state l keys holder (Single lone) → holder ≡ OfKey lone.key
 key_of_alone R plan state l keys (OfAtom guide) lone h = absurd h
 key_of_alone R plan state l keys (OfKey key) lone h = ap OfKey (sym h)
 
@@ -72,30 +72,30 @@ pub over_narrow : (state : State) (guide : Guide) (t : TrieView) → IsOver stat
 over_narrow state guide t over = let wide = over.index.wide in let narrow = over.narrow in omega (arith, wide, narrow)
 
 -- a walk's atom is one of the plan's
-pub walk_within : {R : Type 0} (plan : Plan) (state : State) (l : ℕ) (keys : Keys) (hs : List Holder) (ss : List (Seat R)) (i : ℕ) (s : Seat R) (walk : Walk R) → AllZip (IsSeatOf plan state l keys) hs ss → slice_get ss i ≡ Some s → s ≡ Walks walk → walk.guide < length plan.guides
+pub walk_within : {R : Type 0} (plan : Plan) (state : State) (l : ℕ) (keys : Keys) (hs : List Holder) (ss : List (Leaper R)) (i : ℕ) (s : Leaper R) (walk : Walk R) → AllZip (IsLeaperOf plan state l keys) hs ss → slice_get ss i ≡ Some s → s ≡ Walks walk → walk.guide < length plan.guides
 walk_within plan state l keys hs ss i s walk z e is =
-    let f = seat_at (IsSeatOf plan state l keys) hs ss i s z e in
-    let a = atom_of plan state l keys f.0 walk (subst (IsSeatOf plan state l keys f.0) is f.2) in
+    let f = leaper_at (IsLeaperOf plan state l keys) hs ss i s z e in
+    let a = atom_of plan state l keys f.0 walk (subst (IsLeaperOf plan state l keys f.0) is f.2) in
     get_below plan.guides walk.guide a.0 a.2
 
 -- and its order has no more columns than a row has cells
-pub walk_narrow : {R : Type 0} (plan : Plan) (state : State) (l : ℕ) (keys : Keys) (hs : List Holder) (ss : List (Seat R)) (i : ℕ) (s : Seat R) (walk : Walk R) (guide : Guide) → AllZip (IsSeatOf plan state l keys) hs ss → slice_get ss i ≡ Some s → s ≡ Walks walk → guide ≡ get_or plan.guides walk.guide guide → length guide.columns ≤ 8
+pub walk_narrow : {R : Type 0} (plan : Plan) (state : State) (l : ℕ) (keys : Keys) (hs : List Holder) (ss : List (Leaper R)) (i : ℕ) (s : Leaper R) (walk : Walk R) (guide : Guide) → AllZip (IsLeaperOf plan state l keys) hs ss → slice_get ss i ≡ Some s → s ≡ Walks walk → guide ≡ get_or plan.guides walk.guide guide → length guide.columns ≤ 8
 walk_narrow plan state l keys hs ss i s walk guide z e is at =
-    let f = seat_at (IsSeatOf plan state l keys) hs ss i s z e in
-    let a = atom_of plan state l keys f.0 walk (subst (IsSeatOf plan state l keys f.0) is f.2) in
+    let f = leaper_at (IsLeaperOf plan state l keys) hs ss i s z e in
+    let a = atom_of plan state l keys f.0 walk (subst (IsLeaperOf plan state l keys f.0) is f.2) in
     let same : guide ≡ a.0 = get_same plan.guides walk.guide a.0 guide a.2 at in
     subst (λ (g : Guide). length g.columns ≤ 8) (sym same) (over_narrow state a.0 walk.trie a.3.over)
 
-pub keys_at-map : {R : Type 0} (ss : List (Seat R)) (i : ℕ) (s : Seat R) → slice_get ss i ≡ Some s → keys_at (map seat_keys ss) i ≡ seat_keys s
+pub keys_at-map : {R : Type 0} (ss : List (Leaper R)) (i : ℕ) (s : Leaper R) → slice_get ss i ≡ Some s → keys_at (map leaper_keys ss) i ≡ leaper_keys s
 keys_at-map [] i s e = cc
-keys_at-map (x ∷ ss) zero s e = ap seat_keys (some_is x s e)
+keys_at-map (x ∷ ss) zero s e = ap leaper_keys (some_is x s e)
 keys_at-map (x ∷ ss) (suc i) s e = keys_at-map ss i s e
 
-pub keys_opened : {R : Type 0} (state : State) (l : ℕ) (keys : Keys) (guide : Guide) (walk : Walk R) → IsOpenedOf state l keys guide walk.trie → seat_keys (Walks walk) ≡ keys_under (prefix_at guide l keys) walk.trie.rows
+pub keys_opened : {R : Type 0} (state : State) (l : ℕ) (keys : Keys) (guide : Guide) (walk : Walk R) → IsOpenedOf state l keys guide walk.trie → leaper_keys (Walks walk) ≡ keys_under (prefix_at guide l keys) walk.trie.rows
 keys_opened state l keys guide walk is =
     rw (ne_eqb walk.trie.level 0 (λ h. let e = is.level in omega arith)) (ap (λ p. keys_under p walk.trie.rows) is.prefix)
 
-module _ {R : Type 0} (plan : Plan) (state : State) (keys : List ℕ) (level : Level) (seats : List (Seat R)) (sits : AllZip (IsSeatOf plan state (length keys) (at keys)) (holders_at plan.guides level (length keys) (at keys)) seats) where
+module _ {R : Type 0} (plan : Plan) (state : State) (keys : List ℕ) (level : Level) (leapers : List (Leaper R)) (sits : AllZip (IsLeaperOf plan state (length keys) (at keys)) (holders_at plan.guides level (length keys) (at keys)) leapers) where
   abbrev hs : List Holder
   hs = holders_at plan.guides level (length keys) (at keys)
 
@@ -107,14 +107,14 @@ module _ {R : Type 0} (plan : Plan) (state : State) (keys : List ℕ) (level : L
   still_kept mid new grows (g ∷ gs) h =
       ((λ lt. let k = h.0 lt in (k.0, k.1, IsKept-grows mid new grows (length keys) (at keys) g.1.lo g.1.hi k.0 k.2)), still_kept mid new grows gs h.1)
 
-  pub kept_walk : (old mid new : Sense) (gs : List (ℕ × Gap)) (g : ℕ × Gap) (s : Seat R) (walk : Walk R) (guide : Guide) (gap : KeptGap) → AreKept plan state keys level old mid gs → slice_get seats g.0 ≡ Some s → s ≡ Walks walk → guide ≡ get_or plan.guides walk.guide guide → IsGapOf (map seat_keys seats) g
+  pub kept_walk : (old mid new : Sense) (gs : List (ℕ × Gap)) (g : ℕ × Gap) (s : Leaper R) (walk : Walk R) (guide : Guide) (gap : KeptGap) → AreKept plan state keys level old mid gs → slice_get leapers g.0 ≡ Some s → s ≡ Walks walk → guide ≡ get_or plan.guides walk.guide guide → IsGapOf (map leaper_keys leapers) g
       → gap.relation ≡ guide.relation → gap.columns ≡ guide.columns → gap.prefix ≡ walk.trie.prefix → gap.lo ≡ g.1.lo → gap.hi ≡ g.1.hi → AddsGap mid new gap → AreKept plan state keys level old new (gs ++ g ∷ [])
   kept_walk old mid new gs g s walk guide gap kept there is guide_is free relation columns prefix lo hi adds =
       let l = length keys in
-      let f = seat_at (IsSeatOf plan state l (at keys)) hs seats g.0 s sits there in
-      let a = atom_of plan state l (at keys) f.0 walk (subst (IsSeatOf plan state l (at keys) f.0) is f.2) in
+      let f = leaper_at (IsLeaperOf plan state l (at keys)) hs leapers g.0 s sits there in
+      let a = atom_of plan state l (at keys) f.0 walk (subst (IsLeaperOf plan state l (at keys) f.0) is f.2) in
       let same : guide ≡ a.0 = get_same plan.guides walk.guide a.0 guide a.2 guide_is in
-      let keys_are : keys_at (map seat_keys seats) g.0 ≡ keys_under (prefix_at a.0 l (at keys)) walk.trie.rows = keys_at-map seats g.0 s there ∙ ap seat_keys is ∙ keys_opened state l (at keys) a.0 walk a.3 in
+      let keys_are : keys_at (map leaper_keys leapers) g.0 ≡ keys_under (prefix_at a.0 l (at keys)) walk.trie.rows = keys_at-map leapers g.0 s there ∙ ap leaper_keys is ∙ keys_opened state l (at keys) a.0 walk a.3 in
       let added = gap_added state mid new l (at keys) a.0 gap walk.trie (relation ∙ ap (λ (w : Guide). w.relation) same) (columns ∙ ap (λ (w : Guide). w.columns) same) (prefix ∙ a.3.prefix) a.3.over
       (λ y from below. ap (λ ks. has_key ks y) (sym keys_are) ∙ free.1 y (omega arith) (omega arith)) kept.tight adds in
       record {
@@ -127,12 +127,12 @@ module _ {R : Type 0} (plan : Plan) (state : State) (keys : List ℕ) (level : L
         hits = adds.hits ∙ kept.hits;
       }
 
-  pub kept_alone : (old mid : Sense) (gs : List (ℕ × Gap)) (g : ℕ × Gap) (s : Seat R) (lone : LoneView) → AreKept plan state keys level old mid gs → slice_get seats g.0 ≡ Some s → s ≡ Single lone → IsGapOf (map seat_keys seats) g → AreKept plan state keys level old mid (gs ++ g ∷ [])
+  pub kept_alone : (old mid : Sense) (gs : List (ℕ × Gap)) (g : ℕ × Gap) (s : Leaper R) (lone : LoneView) → AreKept plan state keys level old mid gs → slice_get leapers g.0 ≡ Some s → s ≡ Single lone → IsGapOf (map leaper_keys leapers) g → AreKept plan state keys level old mid (gs ++ g ∷ [])
   kept_alone old mid gs g s lone kept there is free =
       let l = length keys in
-      let f = seat_at (IsSeatOf plan state l (at keys)) hs seats g.0 s sits there in
-      let h = key_of_alone R plan state l (at keys) f.0 lone (subst (IsSeatOf plan state l (at keys) f.0) is f.2) in
-      let keys_are : keys_at (map seat_keys seats) g.0 ≡ lone.key ∷ [] = keys_at-map seats g.0 s there ∙ ap seat_keys is in
+      let f = leaper_at (IsLeaperOf plan state l (at keys)) hs leapers g.0 s sits there in
+      let h = key_of_alone R plan state l (at keys) f.0 lone (subst (IsLeaperOf plan state l (at keys) f.0) is f.2) in
+      let keys_are : keys_at (map leaper_keys leapers) g.0 ≡ lone.key ∷ [] = keys_at-map leapers g.0 s there ∙ ap leaper_keys is in
       let here : has_key (lone.key ∷ []) lone.key ≡ true = or_left _ false (eq-eqb lone.key lone.key refl) in
       record {
         grows = kept.grows;

@@ -17,13 +17,13 @@ use Rattle.lt_query.specs.Plan.{Keys, levels_of}
 use Rattle.lt_sense.specs.declared.covering.KeptGap.{KeptGap}
 use Rattle.lt_sense.specs.Kept.{Sense}
 use Rattle.lt_sense.specs.Sense.{IsTight, lies_in}
-use Rattle.lt_join.specs.declared.seat.Seat.{Seat}
-use Rattle.lt_join.specs.declared.seat.Seat.TheVariants.{Walks}
-use Rattle.lt_join.specs.Seat.{seat_keys, seat_here}
+use Rattle.lt_join.specs.declared.leaper.Leaper.{Leaper}
+use Rattle.lt_join.specs.declared.leaper.Leaper.TheVariants.{Walks}
+use Rattle.lt_join.specs.Leaper.{leaper_keys, leaper_here}
 use Rattle.lt_join.specs.Explored.{prefix_at, before}
 use Rattle.lt_leap.specs.Common.{has_key}
 use Rattle.lt_join.specs.Walked.{at, Grows}
-use Rattle.lt_join.specs.Holders.{Holder, OfAtom, OfKey, IsWalkable, IsKept, IsOver, IsTrieOf, IsOpenedOf, IsSeatOf, IsOpenKept, atoms_at, AreUnder, AreOpened, path_of}
+use Rattle.lt_join.specs.Holders.{Holder, OfAtom, OfKey, IsWalkable, IsKept, IsOver, IsTrieOf, IsOpenedOf, IsLeaperOf, IsOpenKept, atoms_at, AreUnder, AreOpened, path_of}
 use Rattle.lt_join.proofs.Gaps.{tight_gap}
 use Rattle.lt_join.proofs.Steps.{Grows-chain}
 use Rattle.lt_join.proofs.Under.{has_key-of, key_of_iterator}
@@ -141,16 +141,16 @@ under_added keys guide old mid new gap prefix adds so other there =
 -- ---- the iterators of a level
 
 pub opened_none : {R : Type 0} (plan : Plan) (state : State) (keys : List ℕ) (s : Sense) (m : ℕ) → IsTight s state → AreOpened {R = R} plan state keys [] s s [] m m
-opened_none plan state keys s m tight = record { grows = Grows-none s; tight = tight; seats = tt; first = tt; kept = tt; moves = omega arith; under = under_none keys s; few = omega arith; hits = refl }
+opened_none plan state keys s m tight = record { grows = Grows-none s; tight = tight; leapers = tt; first = tt; kept = tt; moves = omega arith; under = under_none keys s; few = omega arith; hits = refl }
 
-pub opened_skip : {R : Type 0} (plan : Plan) (state : State) (keys : List ℕ) (guides : List Guide) (guide : Guide) (old new : Sense) (seats : List (Seat R)) (begun now : ℕ) → has_key (levels_of guide) (length keys) ≡ false
-    → AreOpened plan state keys guides old new seats begun now → AreOpened plan state keys (guides ++ guide ∷ []) old new seats begun now
-opened_skip plan state keys guides guide old new seats begun now holds opened =
+pub opened_skip : {R : Type 0} (plan : Plan) (state : State) (keys : List ℕ) (guides : List Guide) (guide : Guide) (old new : Sense) (leapers : List (Leaper R)) (begun now : ℕ) → has_key (levels_of guide) (length keys) ≡ false
+    → AreOpened plan state keys guides old new leapers begun now → AreOpened plan state keys (guides ++ guide ∷ []) old new leapers begun now
+opened_skip plan state keys guides guide old new leapers begun now holds opened =
     let same = atoms_skip guides guide (length keys) holds in
     record {
       grows = opened.grows;
       tight = opened.tight;
-      seats = rw same (opened.seats);
+      leapers = rw same (opened.leapers);
       first = opened.first;
       kept = rw same (opened.kept);
       moves = opened.moves;
@@ -177,11 +177,11 @@ IsOpenedOf-down state l keys guide t u is down = record {
 keys_deep : (t : TrieView) (n : ℕ) → t.level ≡ n + 1 → keys_of t ≡ keys_under t.prefix t.rows
 keys_deep t n e = rw (ne_eqb t.level 0 (λ h. omega arith)) refl
 
-pub opened_more : {R : Type 0} (plan : Plan) (state : State) (keys : List ℕ) (guides : List Guide) (guide : Guide) (i : ℕ) (old mid new : Sense) (seats : List (Seat R)) (begun now : ℕ) (t u : TrieView) (gap : KeptGap)
-    → has_key (levels_of guide) (length keys) ≡ true → slice_get plan.guides i ≡ Some guide → AreOpened plan state keys guides old mid seats begun now → IsTrieOf state (length keys) (at keys) guide t → GoesDown t u
+pub opened_more : {R : Type 0} (plan : Plan) (state : State) (keys : List ℕ) (guides : List Guide) (guide : Guide) (i : ℕ) (old mid new : Sense) (leapers : List (Leaper R)) (begun now : ℕ) (t u : TrieView) (gap : KeptGap)
+    → has_key (levels_of guide) (length keys) ≡ true → slice_get plan.guides i ≡ Some guide → AreOpened plan state keys guides old mid leapers begun now → IsTrieOf state (length keys) (at keys) guide t → GoesDown t u
     → gap.relation ≡ guide.relation → gap.columns ≡ guide.columns → gap.prefix ≡ u.prefix → gap.lo ≡ 0 → gap.hi ≡ u.here → AddsGap mid new gap
-    → AreOpened plan state keys (guides ++ guide ∷ []) old new (seats ++ Walks (record { guide = i; trie = u }) ∷ []) begun (now + 1)
-opened_more plan state keys guides guide i old mid new seats begun now t u gap holds there opened is down relation columns prefix lo hi adds =
+    → AreOpened plan state keys (guides ++ guide ∷ []) old new (leapers ++ Walks (record { guide = i; trie = u }) ∷ []) begun (now + 1)
+opened_more plan state keys guides guide i old mid new leapers begun now t u gap holds there opened is down relation columns prefix lo hi adds =
     let l = length keys in
     let at_first = IsOpenedOf-down state l (at keys) guide t u is down in
     let rise = keys_rise (prefix_at guide l (at keys)) u.rows u.width at_first.over.is_set.rises at_first.over.is_set.each in
@@ -192,15 +192,15 @@ opened_more plan state keys guides guide i old mid new seats begun now t u gap h
     record {
       grows = Grows-chain old mid new opened.grows added.grows;
       tight = added.tight;
-      seats = rw same (AllZip-more (IsSeatOf plan state l (at keys)) (atoms_at guides l) seats (OfAtom guide) (Walks (record { guide = i; trie = u })) opened.seats (there, at_first));
-      first = All_more (λ seat. seat_here seat ≡ least_from (seat_keys seat) 0) seats (Walks (record { guide = i; trie = u })) opened.first
+      leapers = rw same (AllZip-more (IsLeaperOf plan state l (at keys)) (atoms_at guides l) leapers (OfAtom guide) (Walks (record { guide = i; trie = u })) opened.leapers (there, at_first));
+      first = All_more (λ leaper. leaper_here leaper ≡ least_from (leaper_keys leaper) 0) leapers (Walks (record { guide = i; trie = u })) opened.first
           (rw (keys_deep u (length (prefix_at guide l (at keys))) at_first.level) (down.here));
-      kept = rw same (AllZip-more (IsOpenKept new l (at keys)) (atoms_at guides l) seats (OfAtom guide) (Walks (record { guide = i; trie = u }))
-          (AllZip-weaker (IsOpenKept mid l (at keys)) (IsOpenKept new l (at keys)) (λ h s k lt. IsKept-grows mid new added.grows l (at keys) 0 (seat_here s) h (k lt)) (atoms_at guides l) seats opened.kept)
+      kept = rw same (AllZip-more (IsOpenKept new l (at keys)) (atoms_at guides l) leapers (OfAtom guide) (Walks (record { guide = i; trie = u }))
+          (AllZip-weaker (IsOpenKept mid l (at keys)) (IsOpenKept new l (at keys)) (λ h s k lt. IsKept-grows mid new added.grows l (at keys) 0 (leaper_here s) h (k lt)) (atoms_at guides l) leapers opened.kept)
           (λ lt. let k = added.kept (omega arith) in (k.0, k.1, k.2, k.3, k.4, k.5 ∙ lo, k.6 ∙ hi)));
-      moves = (let m = opened.moves in let e = long_more seats (Walks (record { guide = i; trie = u })) in omega arith);
+      moves = (let m = opened.moves in let e = long_more leapers (Walks (record { guide = i; trie = u })) in omega arith);
       under = under_added keys guide old mid new gap (prefix ∙ at_first.prefix) adds opened.under;
-      few = (let f = opened.few in let g = one_gap mid new gap adds in let e = long_more seats (Walks (record { guide = i; trie = u })) in omega arith);
+      few = (let f = opened.few in let g = one_gap mid new gap adds in let e = long_more leapers (Walks (record { guide = i; trie = u })) in omega arith);
       hits = adds.hits ∙ opened.hits;
     }
 

@@ -22,10 +22,10 @@ use Rattle.lt_query.specs.Lists.{IsRising, below}
 use Rattle.lt_sense.specs.declared.covering.KeptGap.{KeptGap}
 use Rattle.lt_sense.specs.Kept.{Sense}
 use Rattle.lt_sense.specs.Sense.{IsTight}
-use Rattle.lt_join.specs.declared.seat.Seat.{Seat}
-use Rattle.lt_join.specs.declared.seat.Seat.TheVariants.{Walks, Single}
+use Rattle.lt_join.specs.declared.leaper.Leaper.{Leaper}
+use Rattle.lt_join.specs.declared.leaper.Leaper.TheVariants.{Walks, Single}
 use Rattle.lt_join.specs.LookUp.{LookUpView}
-use Rattle.lt_join.specs.Seat.{seat_keys, seat_here}
+use Rattle.lt_join.specs.Leaper.{leaper_keys, leaper_here}
 use Rattle.lt_join.specs.Explored.{prefix_at}
 use Rattle.lt_leap.specs.Common.{has_key}
 use Rattle.lt_leap.specs.Ring.{IsFound}
@@ -49,7 +49,7 @@ abbrev pub holders_at : List Guide → Level → ℕ → Keys → List Holder
 holders_at guides level l keys =
     map OfAtom (filter (λ guide. has_key (levels_of guide) l) guides) ++ (map OfKey level.pins ++ map (λ m. OfKey (keys m)) level.ties)
 
--- what a noted gap of a seat says of the sense, or of its one key
+-- what a noted gap of a leaper says of the sense, or of its one key
 abbrev pub IsKept : Sense → ℕ → Keys → ℕ → ℕ → Holder → Type 0
 IsKept sense l keys lo hi (OfAtom guide) =
     (gap : KeptGap) × IsIn gap sense.gaps × (gap.relation ≡ guide.relation) × (gap.columns ≡ guide.columns) × (gap.prefix ≡ prefix_at guide l keys) × (gap.lo ≡ lo) × (gap.hi ≡ hi)
@@ -79,16 +79,16 @@ pub record IsOpenedOf (state : State) (l : ℕ) (keys : Keys) (guide : Guide) (t
   pub prefix : t.prefix ≡ prefix_at guide l keys
   pub level : t.level ≡ length (prefix_at guide l keys) + 1
 
--- the seat is the holder's
-abbrev pub IsSeatOf : {R : Type 0} → Plan → State → ℕ → Keys → Holder → Seat R → Type 0
-IsSeatOf plan state l keys (OfAtom guide) (Walks walk) = (slice_get plan.guides walk.guide ≡ Some guide) × IsOpenedOf state l keys guide walk.trie
-IsSeatOf plan state l keys (OfAtom guide) (Single alone) = ⊥
-IsSeatOf plan state l keys (OfKey key) (Walks walk) = ⊥
-IsSeatOf plan state l keys (OfKey key) (Single alone) = alone.key ≡ key
+-- the leaper is the holder's
+abbrev pub IsLeaperOf : {R : Type 0} → Plan → State → ℕ → Keys → Holder → Leaper R → Type 0
+IsLeaperOf plan state l keys (OfAtom guide) (Walks walk) = (slice_get plan.guides walk.guide ≡ Some guide) × IsOpenedOf state l keys guide walk.trie
+IsLeaperOf plan state l keys (OfAtom guide) (Single alone) = ⊥
+IsLeaperOf plan state l keys (OfKey key) (Walks walk) = ⊥
+IsLeaperOf plan state l keys (OfKey key) (Single alone) = alone.key ≡ key
 
--- what the move of a seat to its first key left is kept
-abbrev pub IsOpenKept : {R : Type 0} → Sense → ℕ → Keys → Holder → Seat R → Type 0
-IsOpenKept sense l keys holder seat = 0 < seat_here seat → IsKept sense l keys 0 (seat_here seat) holder
+-- what the move of a leaper to its first key left is kept
+abbrev pub IsOpenKept : {R : Type 0} → Sense → ℕ → Keys → Holder → Leaper R → Type 0
+IsOpenKept sense l keys holder leaper = 0 < leaper_here leaper → IsKept sense l keys 0 (leaper_here leaper) holder
 
 abbrev pub atoms_at : List Guide → ℕ → List Holder
 atoms_at guides l = map OfAtom (filter (λ guide. has_key (levels_of guide) l) guides)
@@ -98,11 +98,11 @@ abbrev pub AreUnder : List ℕ → Sense → Sense → Type 0
 AreUnder keys old new = (gap : KeptGap) → IsIn gap new.gaps → IsIn gap old.gaps ⊎ ((guide : Guide) × (gap.prefix ≡ prefix_at guide (length keys) (at keys)))
 
 -- the iterators of these atoms that hold the level below the keys are open, each at its first key
-pub record AreOpened {R : Type 0} (plan : Plan) (state : State) (keys : List ℕ) (guides : List Guide) (old new : Sense) (opened : List (Seat R)) (begun now : ℕ) : Type 0 where
+pub record AreOpened {R : Type 0} (plan : Plan) (state : State) (keys : List ℕ) (guides : List Guide) (old new : Sense) (opened : List (Leaper R)) (begun now : ℕ) : Type 0 where
   pub grows : Grows old new
   pub tight : IsTight new state
-  pub seats : AllZip (IsSeatOf plan state (length keys) (at keys)) (atoms_at guides (length keys)) opened
-  pub first : AllByRecursion (λ seat. seat_here seat ≡ least_from (seat_keys seat) 0) opened
+  pub leapers : AllZip (IsLeaperOf plan state (length keys) (at keys)) (atoms_at guides (length keys)) opened
+  pub first : AllByRecursion (λ leaper. leaper_here leaper ≡ least_from (leaper_keys leaper) 0) opened
   pub kept : AllZip (IsOpenKept new (length keys) (at keys)) (atoms_at guides (length keys)) opened
   pub moves : now ≡ begun + length opened
   pub under : AreUnder keys old new
@@ -111,19 +111,19 @@ pub record AreOpened {R : Type 0} (plan : Plan) (state : State) (keys : List ℕ
 
 -- ---- a level that is open
 
--- the seat of a key alone
-abbrev pub alone : {R : Type 0} → ℕ → Seat R
+-- the leaper of a key alone
+abbrev pub alone : {R : Type 0} → ℕ → Leaper R
 alone key = Single (record { key = key; here = key })
 
 -- so many moves can still come
-abbrev pub left_of : {R : Type 0} → LeapView (Seat R) → ℕ
-left_of leap = potential seat_keys seat_here leap
+abbrev pub left_of : {R : Type 0} → LeapView (Leaper R) → ℕ
+left_of leap = potential leaper_keys leaper_here leap
 
 -- the level stands at the key, or at its end
-pub record IsOpen {R : Type 0} (plan : Plan) (state : State) (keys : List ℕ) (level : Level) (leap : LeapView (Seat R)) (key : ℕ) : Type 0 where
-  pub seats : AllZip (IsSeatOf plan state (length keys) (at keys)) (holders_at plan.guides level (length keys) (at keys)) leap.iters
+pub record IsOpen {R : Type 0} (plan : Plan) (state : State) (keys : List ℕ) (level : Level) (leap : LeapView (Leaper R)) (key : ℕ) : Type 0 where
+  pub leapers : AllZip (IsLeaperOf plan state (length keys) (at keys)) (holders_at plan.guides level (length keys) (at keys)) leap.iters
   pub here : key ≢ end_key → leap.here ≡ key
-  pub found : key ≢ end_key → IsFound (map seat_keys leap.iters) (map seat_here leap.iters) leap.ring key
+  pub found : key ≢ end_key → IsFound (map leaper_keys leap.iters) (map leaper_here leap.iters) leap.ring key
 
 -- a gap that was noted is kept, if it isn't empty
 abbrev pub IsNotedKept : Sense → ℕ → Keys → List Holder → ℕ × Gap → Type 0
@@ -139,7 +139,7 @@ pub record AreKept (plan : Plan) (state : State) (keys : List ℕ) (level : Leve
   pub hits : new.hits ≡ old.hits
 
 -- after moves of a level's join: it is open at the key, what it went past is skipped, and the moves are within what was given
-pub record IsJoined {R : Type 0} (plan : Plan) (state : State) (old new : Sense) (keys : List ℕ) (level : Level) (start given now : ℕ) (leap : LeapView (Seat R)) (key : ℕ) : Type 0 where
+pub record IsJoined {R : Type 0} (plan : Plan) (state : State) (old new : Sense) (keys : List ℕ) (level : Level) (start given now : ℕ) (leap : LeapView (Leaper R)) (key : ℕ) : Type 0 where
   pub is_open : IsOpen plan state keys level leap key
   pub stands : StandsAt plan state old new keys level start key
   pub cost : CostsAt plan state keys level given now (left_of leap) key

@@ -10,7 +10,7 @@ ghost use Rattle.lt_join.specs.Walked.{at};
 ghost use Rattle.lt_join.specs.Holders.{IsUsable, IsOpen, IsJoined, left_of, IsWalkable, IsTrieOf, AreUnder, AreOpened, atoms_at, alone};
 
 use crate::keeping::keep_gaps;
-use crate::seat::{LoneKey, Seat, Walk};
+use crate::leaper::{Leaper, LoneKey, Walk};
 use lt_face::indexes::Indexes;
 use lt_face::items::Items;
 use lt_face::key::{END, Key};
@@ -39,18 +39,18 @@ pub(crate) fn open_walks<'a, I: Indexes, S: Senses, L>(
     keys: &Items<Key>,
     sense: &mut Sensed<S>,
     moves: &mut Moves<L>,
-) -> Result<Vec<Seat<'a, I::Rows>>, NoMemory>
+) -> Result<Vec<Leaper<'a, I::Rows>>, NoMemory>
     requires walkable { AllByRecursion IsWalkable plan.now.guides }
     requires iters { AllZip (IsTrieOf (I.state _tables.now) (length keys.now) (at keys.now)) plan.now.guides iters.now }
     requires tight { IsTight sense.old (I.state _tables.now) }
-    ensures opened { IfOk result (λ seats. AreOpened plan.now (I.state _tables.now) keys.now plan.now.guides sense.old sense.new seats.items moves.old moves.new) }
+    ensures opened { IfOk result (λ leapers. AreOpened plan.now (I.state _tables.now) keys.now plan.now.guides sense.old sense.new leapers.items moves.old moves.new) }
     // also where memory is refused
     ensures within { moves.new ≤ moves.old + length (atoms_at plan.now.guides (length keys.now)) }
     ensures moves { moves.old ≤ moves.new }
 {
     let depth = keys.len();
     let guides = plan.guides.as_slice();
-    let mut seats = Vec::new(alloc);
+    let mut leapers = Vec::new(alloc);
     for i in 0..iters.len() {
         let guide = &guides[i];
         if holds(guide, depth) {
@@ -63,37 +63,37 @@ pub(crate) fn open_walks<'a, I: Indexes, S: Senses, L>(
                 gap.lo,
                 gap.hi,
             )?;
-            seats.push(Seat::Walks(Walk { guide: i, trie }))?;
+            leapers.push(Leaper::Walks(Walk { guide: i, trie }))?;
         }
     }
-    Ok(seats)
+    Ok(leapers)
 }
 
-/// Seats a key alone for each pin and for each tie.
+/// Leapers a key alone for each pin and for each tie.
 pub(crate) fn add_keys<'a, R: RowReads>(
-    seats: &mut Vec<Seat<'a, R>>,
+    leapers: &mut Vec<Leaper<'a, R>>,
     level: &Level,
     keys: &Items<Key>,
 ) -> Result<(), NoMemory>
     requires pins { AllByRecursion (λ pin. pin < 2 ^ 120) level.now.pins }
     requires ties { AllByRecursion (λ m. m < length keys.now) level.now.ties }
     requires keys { AllByRecursion (λ k. k < 2 ^ 120) keys.now }
-    ensures { OnOk result (seats.new.items ≡ seats.old.items ++ (map alone level.now.pins ++ map (λ m. alone (at keys.now m)) level.now.ties)) }
+    ensures { OnOk result (leapers.new.items ≡ leapers.old.items ++ (map alone level.now.pins ++ map (λ m. alone (at keys.now m)) level.now.ties)) }
 {
     for pin in level.pins.as_slice() {
-        seats.push(Seat::Single(LoneKey::at(*pin)))?;
+        leapers.push(Leaper::Single(LoneKey::at(*pin)))?;
     }
     for tie in level.ties.as_slice() {
         let key = keys.as_slice()[*tie];
-        seats.push(Seat::Single(LoneKey::at(key)))?;
+        leapers.push(Leaper::Single(LoneKey::at(key)))?;
     }
     Ok(())
 }
 
-/// A level that was opened, and the key where it stands: one that all its seats have, or `END`.
+/// A level that was opened, and the key where it stands: one that all its leapers have, or `END`.
 #[derive(Drop)]
 pub(crate) struct Joined<'a, R: RowReads> {
-    pub(crate) leap: Leap<Seat<'a, R>>,
+    pub(crate) leap: Leap<Leaper<'a, R>>,
     pub(crate) key: Key,
 }
 
@@ -121,10 +121,10 @@ pub(crate) fn open_level<'a, I: Indexes, S: Senses, L>(
     ensures within { moves.new ≤ moves.old + join_cost (iterators_at (I.state tables.now) plan.now.guides level.now (length keys.now) (at keys.now)) }
     ensures moves { moves.old ≤ moves.new }
 {
-    let mut seats = open_walks(alloc, tables, iters, plan, keys, sense, moves)?;
-    add_keys(&mut seats, level, keys)?;
+    let mut leapers = open_walks(alloc, tables, iters, plan, keys, sense, moves)?;
+    add_keys(&mut leapers, level, keys)?;
     noted.clear();
-    let leap = Leap::init(alloc, seats, noted, moves)?;
+    let leap = Leap::init(alloc, leapers, noted, moves)?;
     keep_gaps(tables, &leap, noted, plan, level, keys, sense)?;
     let key = leap.key();
     Ok(Joined { leap, key })

@@ -7,6 +7,7 @@ pub mod conditions;
 mod covering;
 mod keeping;
 mod leaf;
+mod leaper;
 mod level;
 mod looking_up;
 mod mending;
@@ -17,13 +18,13 @@ mod mending_plan;
 mod mending_read;
 mod mending_shared;
 mod mending_touched;
-mod seat;
 mod slicing;
 pub mod values;
 mod walk;
 
 pub use answer::{answers, answers_alone, answers_unsealed, some, some_alone, some_unsealed};
 pub use covering::agreeing_states_answer_alike;
+pub use leaper::{Leaper, LoneKey, Walk};
 use lt_face::items::RowList;
 use lt_sense::{Sensed, Senses};
 pub use mending::{mended_slices_are_slices, slices_stay};
@@ -32,7 +33,6 @@ pub use mending_plan::pinned_plans_are_plans;
 pub use mending_read::{rows_of_slices, spot_in};
 pub use mending_shared::{SharedSlice, SharedSlices};
 pub use mending_touched::touched_keys;
-pub use seat::{LoneKey, Seat, Walk};
 pub use slicing::{Slice, slices, slices_make_the_whole, slices_unsealed};
 
 /// What a walk has found so far: what it sensed, and rows that are answers.

@@ -11,9 +11,9 @@ ghost use Rattle.lt_join.specs.Holders.{IsPrepared, IsWalkable, IsTrieOf, IsOpen
 
 use crate::Found;
 use crate::leaf::leaf_answer;
+use crate::leaper::Leaper;
 use crate::level::{Joined, holds, next_key, open_level};
 use crate::looking_up::{LookUp, lacks_rows};
-use crate::seat::Seat;
 use lt_face::indexes::Indexes;
 use lt_face::items::Items;
 use lt_face::key::{END, Key};
@@ -42,14 +42,14 @@ pub(crate) fn enter<'a, I: Indexes>(
 {
     let depth = keys.len();
     let guides = plan.guides.as_slice();
-    let mut seat = 0;
+    let mut leaper = 0;
     for i in 0..guides.len() {
         if holds(&guides[i], depth) {
-            match joined.leap.iter(seat) {
-                Seat::Walks(walk) => iters[i].enter(&walk.trie),
-                Seat::Single(_) => {}
+            match joined.leap.iter(leaper) {
+                Leaper::Walks(walk) => iters[i].enter(&walk.trie),
+                Leaper::Single(_) => {}
             }
-            seat += 1;
+            leaper += 1;
         }
     }
 }

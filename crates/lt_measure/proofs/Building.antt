@@ -5,6 +5,7 @@ use Rattle.std.specs.declared.cmp.Ordering.TheVariants.{Less, Equal}
 use Rattle.std.specs.Ordering.{nat_cmp}
 use Rattle.std.proofs.lemmas.Bool.Decides.{nat_tests}
 use Rattle.lt_face.specs.Rows.{row_cmp, IsRow, IsAscending}
+use Rattle.lt_face.proofs.AboveLast.{each-append, ascending-append}
 use Rattle.lt_face.proofs.RowLemmas.{rows_total, each_weaker}
 use Rattle.lt_measure.specs.Built.{IsBuilt}
 
@@ -13,14 +14,6 @@ cmp_equal a = grind (arith, nat_tests)
 
 cmp_less : (a b : ℕ) → a < b → nat_cmp a b ≡ Less
 cmp_less a b h = grind (arith, nat_tests)
-
-each-append : {X : Type 0} (P : X → Type 0) (xs : List X) (x : X) → AllByRecursion P xs → P x → AllByRecursion P (xs ++ x ∷ [])
-each-append P [] x all one = (one, tt)
-each-append P (y ∷ ys) x all one = (all.0, each-append P ys x all.1 one)
-
-ascending-append : (rows : List (List ℕ)) (row : List ℕ) → IsAscending rows → AllByRecursion (λ r. row_cmp r row ≡ Less) rows → IsAscending (rows ++ row ∷ [])
-ascending-append [] row up below = (tt, tt)
-ascending-append (r ∷ rs) row up below = (each-append (λ s. row_cmp r s ≡ Less) rs row up.0 below.0, ascending-append rs row up.1 below.1)
 
 in_key : (a b : ℕ) → row_cmp ((a + 1) ∷ (b + 1) ∷ []) ((a + 1) ∷ (b + 1 + 1) ∷ []) ≡ Less
 in_key a b = rw (cmp_equal (a + 1), cmp_less (b + 1) (b + 1 + 1) (omega arith)) refl

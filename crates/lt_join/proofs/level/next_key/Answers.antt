@@ -2,7 +2,7 @@ use Rattle.std.proofs.Common.{◌≢◌, ◌+◌, ◌<◌, length, arith}
 use Rattle.lt_face.specs.Keys.{end_key}
 use Rattle.lt_join.specs.Walked.{at}
 use Rattle.lt_join.specs.Holders.{atoms_at, holders_at}
-use Rattle.lt_join.proofs.Levels.{still_seats, joined_next, joined_ended, gains_next, gains_ended}
+use Rattle.lt_join.proofs.Levels.{still_leapers, joined_next, joined_ended, gains_next, gains_ended}
 use Rattle.lt_join.proofs.Opening.{under_none}
 use Rattle.lt_join.proofs.level.next_key.Goals as goal
 use Rattle.lt_join.proofs.level.next_key.Goals.{then-len-gt0-via-then-len-gt0, then-len-gt0-via-else-len-gt0+then-len-gt0-2}
@@ -14,9 +14,9 @@ returns-then-len-gt0-clause-stands g c =
     elim c.then-len-gt0.branch [ then-len-gt0-via-then-len-gt0 w ↦ (let a = w.if-len-gt0.true in let b = c.len.ensures in omega arith) | then-len-gt0-via-else-len-gt0+then-len-gt0-2 w ↦ (let a = w.if-len-gt0-2.true in let b = w.len-else-len-gt0.ensures in omega arith) ] in
     (joined_ended _ c.args.plan.now (g.I.Indexes.state c.args.tables.now) c.args.keys.now c.args.level.now c.args.sense.now c.args.moves.now c.args.joined.now.leap c.args.joined.now.key c.requires.usable.held c.requires.is_open goes some c.requires.tight).0
 
-pub keep_gaps-requires-clause-seats : goal.keep_gaps-requires-clause-seats
-keep_gaps-requires-clause-seats g c =
-    still_seats _ c.args.plan.now (g.I.Indexes.state c.args.tables.now) (length c.args.keys.now) (at c.args.keys.now) (holders_at c.args.plan.now.guides c.args.level.now (length c.args.keys.now) (at c.args.keys.now)) c.args.joined.now.leap.iters c.next.new.self.iters c.in_ok-next.ensures.still c.requires.is_open.seats
+pub keep_gaps-requires-clause-leapers : goal.keep_gaps-requires-clause-leapers
+keep_gaps-requires-clause-leapers g c =
+    still_leapers _ c.args.plan.now (g.I.Indexes.state c.args.tables.now) (length c.args.keys.now) (at c.args.keys.now) (holders_at c.args.plan.now.guides c.args.level.now (length c.args.keys.now) (at c.args.keys.now)) c.args.joined.now.leap.iters c.next.new.self.iters c.in_ok-next.ensures.still c.requires.is_open.leapers
 
 pub returns-clause-stands : goal.returns-clause-stands
 returns-clause-stands g c =

@@ -51,25 +51,25 @@ loop-i-preserved g c =
           let is = zip_at _ _ _ c.loop-i.i guide w.index-iters-i.result c.requires.iters (omega arith) guide_is w.index-iters-i.is in
           let t = w.copy-trie.result in
           let down = goes_down t w.open_level-gap.new.self w.open_level-gap.ensures.rows w.open_level-gap.ensures.width w.open_level-gap.ensures.level w.open_level-gap.ensures.root w.open_level-gap.ensures.deeper w.open_level-gap.ensures.here in
-          rw (w.sense-is, w.moves-is, w.seats-is, w.open_level-gap.ensures.moves, w.in_ok-push.ensures.items)
-          (opened_more c.args.plan.now _ c.args.keys.now _ guide c.loop-i.i c.args.sense.now c.loop-i.sense w.add_gap.new.self c.loop-i.seats.items c.args.moves.now c.loop-i.moves t w.open_level-gap.new.self
+          rw (w.sense-is, w.moves-is, w.leapers-is, w.open_level-gap.ensures.moves, w.in_ok-push.ensures.items)
+          (opened_more c.args.plan.now _ c.args.keys.now _ guide c.loop-i.i c.args.sense.now c.loop-i.sense w.add_gap.new.self c.loop-i.leapers.items c.args.moves.now c.loop-i.moves t w.open_level-gap.new.self
           (record { relation = guide.relation; columns = guide.columns; prefix = w.prefix.result.now; lo = w.open_level-gap.result.lo; hi = w.open_level-gap.result.hi })
           (same ∙ w.if-holds.true) there c.loop-i.invariant (rw w.copy-trie.ensures is) down refl refl w.prefix.ensures w.open_level-gap.ensures.lo w.open_level-gap.ensures.hi
           (record { kept = w.in_ok-add_gap.ensures.kept; empty = w.in_ok-add_gap.ensures.empty; hits = w.in_ok-add_gap.ensures.hits }))
-      | else-holds w ↦ rw (w.sense-is, w.moves-is, w.seats-is) (opened_skip c.args.plan.now _ c.args.keys.now _ guide c.args.sense.now c.loop-i.sense c.loop-i.seats.items c.args.moves.now c.loop-i.moves (same ∙ w.if-holds.false) c.loop-i.invariant)
+      | else-holds w ↦ rw (w.sense-is, w.moves-is, w.leapers-is) (opened_skip c.args.plan.now _ c.args.keys.now _ guide c.args.sense.now c.loop-i.sense c.loop-i.leapers.items c.args.moves.now c.loop-i.moves (same ∙ w.if-holds.false) c.loop-i.invariant)
     ])
 
 pub returns-clause-opened : goal.returns-clause-opened
 returns-clause-opened g c =
     let n = zip_long _ _ _ c.requires.iters in
-    subst (λ gs. AreOpened c.args.plan.now (g.I.Indexes.state c.args._tables.now) c.args.keys.now gs c.args.sense.now c.loop-i.sense c.loop-i.seats.items c.args.moves.now c.loop-i.moves)
+    subst (λ gs. AreOpened c.args.plan.now (g.I.Indexes.state c.args._tables.now) c.args.keys.now gs c.args.sense.now c.loop-i.sense c.loop-i.leapers.items c.args.moves.now c.loop-i.moves)
     (take_all c.args.plan.now.guides c.loop-i.i (omega arith)) c.loop-i.invariant
 
 pub returns-clause-within : goal.returns-clause-within
-returns-clause-within g c = (opened_within _ c.args.plan.now (g.I.Indexes.state c.args._tables.now) c.args.keys.now c.args.plan.now.guides c.loop-i.i c.args.sense.now c.loop-i.sense c.loop-i.seats.items c.args.moves.now c.loop-i.moves c.loop-i.invariant).1
+returns-clause-within g c = (opened_within _ c.args.plan.now (g.I.Indexes.state c.args._tables.now) c.args.keys.now c.args.plan.now.guides c.loop-i.i c.args.sense.now c.loop-i.sense c.loop-i.leapers.items c.args.moves.now c.loop-i.moves c.loop-i.invariant).1
 
 pub returns-clause-moves : goal.returns-clause-moves
-returns-clause-moves g c = (opened_within _ c.args.plan.now (g.I.Indexes.state c.args._tables.now) c.args.keys.now c.args.plan.now.guides c.loop-i.i c.args.sense.now c.loop-i.sense c.loop-i.seats.items c.args.moves.now c.loop-i.moves c.loop-i.invariant).0
+returns-clause-moves g c = (opened_within _ c.args.plan.now (g.I.Indexes.state c.args._tables.now) c.args.keys.now c.args.plan.now.guides c.loop-i.i c.args.sense.now c.loop-i.sense c.loop-i.leapers.items c.args.moves.now c.loop-i.moves c.loop-i.invariant).0
 
 pub returns-in_err-add_gap-clause-within : goal.returns-in_err-add_gap-clause-within
 returns-in_err-add_gap-clause-within g c =
@@ -78,7 +78,7 @@ returns-in_err-add_gap-clause-within g c =
     let guide_is = rw c.as_slice-guides.ensures at c.index-guides-i.is in
     let walkable = all_get IsWalkable _ c.loop-i.i guide c.requires.walkable (omega arith) guide_is in
     let held : has_key (levels_of guide) (length c.args.keys.now) ≡ true = holds_same guide (length c.args.keys.now) walkable ∙ ap (has_key guide.places) (sym c.len-depth.ensures) ∙ sym c.holds.ensures ∙ c.if-holds.true in
-    let more = opened_more_within _ c.args.plan.now (g.I.Indexes.state c.args._tables.now) c.args.keys.now c.args.plan.now.guides c.loop-i.i guide c.args.sense.now c.loop-i.sense c.loop-i.seats.items c.args.moves.now c.loop-i.moves (omega arith) guide_is held c.loop-i.invariant in
+    let more = opened_more_within _ c.args.plan.now (g.I.Indexes.state c.args._tables.now) c.args.keys.now c.args.plan.now.guides c.loop-i.i guide c.args.sense.now c.loop-i.sense c.loop-i.leapers.items c.args.moves.now c.loop-i.moves (omega arith) guide_is held c.loop-i.invariant in
     omega (arith, more.1, c.open_level-gap.ensures.moves)
 
 pub returns-in_err-push-clause-within : goal.returns-in_err-push-clause-within
@@ -88,5 +88,5 @@ returns-in_err-push-clause-within g c =
     let guide_is = rw c.as_slice-guides.ensures at c.index-guides-i.is in
     let walkable = all_get IsWalkable _ c.loop-i.i guide c.requires.walkable (omega arith) guide_is in
     let held : has_key (levels_of guide) (length c.args.keys.now) ≡ true = holds_same guide (length c.args.keys.now) walkable ∙ ap (has_key guide.places) (sym c.len-depth.ensures) ∙ sym c.holds.ensures ∙ c.if-holds.true in
-    let more = opened_more_within _ c.args.plan.now (g.I.Indexes.state c.args._tables.now) c.args.keys.now c.args.plan.now.guides c.loop-i.i guide c.args.sense.now c.loop-i.sense c.loop-i.seats.items c.args.moves.now c.loop-i.moves (omega arith) guide_is held c.loop-i.invariant in
+    let more = opened_more_within _ c.args.plan.now (g.I.Indexes.state c.args._tables.now) c.args.keys.now c.args.plan.now.guides c.loop-i.i guide c.args.sense.now c.loop-i.sense c.loop-i.leapers.items c.args.moves.now c.loop-i.moves (omega arith) guide_is held c.loop-i.invariant in
     omega (arith, more.1, c.open_level-gap.ensures.moves)

@@ -6,14 +6,14 @@ use Rattle.lt_leap.specs.Common.{has_key}
 use Rattle.lt_join.specs.Walked.{at}
 use Rattle.lt_join.specs.Holders.{IsWalkable, IsTrieOf, atoms_at, OfAtom}
 use Rattle.lt_join.proofs.Opening.{take_more, all_get, holds_same, atoms_more, atoms_skip}
-use Rattle.lt_join.proofs.Deeper.{TrieOf-same, seat_deeper, seat_opened, no_lone, seat_within, long_more}
+use Rattle.lt_join.proofs.Deeper.{TrieOf-same, leaper_deeper, leaper_opened, no_lone, leaper_within, long_more}
 use Rattle.lt_join.proofs.Entering.{parted_none, parted_all, parted_long, parted_at, parted_set, parted_keep, opened_below}
 use Rattle.lt_join.proofs.walk.enter.Goals as goal
 use Rattle.lt_join.proofs.walk.enter.Goals.{then-holds, in-Walks, in-Single, else-holds}
 
 pub loop-i-init : goal.loop-i-init
 loop-i-init g c = record {
-  seat = search rules;
+  leaper = search rules;
   within = omega arith;
   iters = parted_none _ _ c.args.plan.now.guides c.args.iters.now.items c.requires.iters;
 }
@@ -37,14 +37,14 @@ loop-i-preserved g c =
     rw more (elim c.if-holds.branch [
       | then-holds w ↦
           let held : has_key (levels_of guide) (length keys) ≡ true = same ∙ w.if-holds.true in
-          let there = rw inv.seat at w.iter.ensures.item in
+          let there = rw inv.leaper at w.iter.ensures.item in
           let counted = atoms_more (take c.loop-i.i plan.guides) guide (length keys) held in
           elim w.match-iter.branch [
             | in-Walks w' ↦
-                let is = seat_deeper plan state keys c.args._level.now c.args.joined.now.leap key c.requires.is_open goes c.loop-i.i guide w.iter.result.now w'.in-Walks.walk (omega arith) guide_is held walkable.rising there w'.in-Walks.is in
+                let is = leaper_deeper plan state keys c.args._level.now c.args.joined.now.leap key c.requires.is_open goes c.loop-i.i guide w.iter.result.now w'.in-Walks.walk (omega arith) guide_is held walkable.rising there w'.in-Walks.is in
                 record {
-                  seat = rw (w.seat-is, counted) (let e = inv.seat in let f = long_more (atoms_at (take c.loop-i.i plan.guides) (length keys)) (OfAtom guide) in omega arith);
-                  within = rw w.seat-is (let e = inv.within in omega arith);
+                  leaper = rw (w.leaper-is, counted) (let e = inv.leaper in let f = long_more (atoms_at (take c.loop-i.i plan.guides) (length keys)) (OfAtom guide) in omega arith);
+                  within = rw w.leaper-is (let e = inv.within in omega arith);
                   iters = rw (w.iters-is, w'.iters-is) (parted_set Q P c.loop-i.i plan.guides c.loop-i.iters.items guide w'.enter.new.self (omega arith) inv.iters guide_is (rw w'.enter.ensures is));
                 }
             | in-Single w' ↦ absurd (no_lone plan state keys c.args._level.now c.args.joined.now.leap key c.requires.is_open goes c.loop-i.i guide w.iter.result.now w'.in-Single.field-0 (omega arith) guide_is held there w'.in-Single.is)
@@ -53,8 +53,8 @@ loop-i-preserved g c =
           let free : has_key (levels_of guide) (length keys) ≡ false = same ∙ w.if-holds.false in
           let counted = atoms_skip (take c.loop-i.i plan.guides) guide (length keys) free in
           record {
-            seat = rw (w.seat-is, counted) inv.seat;
-            within = rw w.seat-is (let e = inv.within in omega arith);
+            leaper = rw (w.leaper-is, counted) inv.leaper;
+            within = rw w.leaper-is (let e = inv.within in omega arith);
             iters = rw w.iters-is (parted_keep Q P c.loop-i.i plan.guides c.loop-i.iters.items guide (omega arith) inv.iters guide_is (λ t. TrieOf-same state (length keys) (at keys) guide t key free));
           }
     ])
@@ -77,7 +77,7 @@ iter-requires g c =
     let held : has_key (levels_of guide) (length keys) ≡ true = holds_same guide (length keys) walkable ∙ ap (has_key guide.places) (sym c.len-depth.ensures) ∙ sym c.holds.ensures ∙ c.if-holds.true in
     let goes : key ≢ end_key = λ e. omega (arith, c.requires.at_key) in
     let inv = c.loop-i.invariant in
-    rw inv.seat (seat_within plan state keys c.args._level.now c.args.joined.now.leap key c.requires.is_open goes c.loop-i.i guide (omega arith) guide_is held)
+    rw inv.leaper (leaper_within plan state keys c.args._level.now c.args.joined.now.leap key c.requires.is_open goes c.loop-i.i guide (omega arith) guide_is held)
 
 pub index_mut-requires : goal.index_mut-requires
 index_mut-requires g c =
@@ -98,11 +98,11 @@ enter-requires-clause-level g c =
     let held : has_key (levels_of guide) (length keys) ≡ true = holds_same guide (length keys) walkable ∙ ap (has_key guide.places) (sym c.len-depth.ensures) ∙ sym c.holds.ensures ∙ c.if-holds.true in
     let goes : key ≢ end_key = λ e. omega (arith, c.requires.at_key) in
     let inv = c.loop-i.invariant in
-    let there = rw inv.seat at c.iter.ensures.item in
+    let there = rw inv.leaper at c.iter.ensures.item in
     let Q = IsTrieOf state (length keys + 1) (with_key (at keys) (length keys) key) in
     let P = IsTrieOf state (length keys) (at keys) in
     let is = parted_at Q P c.loop-i.i plan.guides c.loop-i.iters.items guide c.index_mut.result.now (omega arith) inv.iters guide_is c.index_mut.ensures.value in
-    let opened = seat_opened plan state keys c.args._level.now c.args.joined.now.leap key c.requires.is_open goes c.loop-i.i guide c.iter.result.now c.in-Walks.walk (omega arith) guide_is held there c.in-Walks.is in
+    let opened = leaper_opened plan state keys c.args._level.now c.args.joined.now.leap key c.requires.is_open goes c.loop-i.i guide c.iter.result.now c.in-Walks.walk (omega arith) guide_is held there c.in-Walks.is in
     (opened_below state (length keys) (at keys) guide c.index_mut.result.now c.in-Walks.walk.trie is opened).level
 
 pub enter-requires-clause-root : goal.enter-requires-clause-root
@@ -118,11 +118,11 @@ enter-requires-clause-root g c =
     let held : has_key (levels_of guide) (length keys) ≡ true = holds_same guide (length keys) walkable ∙ ap (has_key guide.places) (sym c.len-depth.ensures) ∙ sym c.holds.ensures ∙ c.if-holds.true in
     let goes : key ≢ end_key = λ e. omega (arith, c.requires.at_key) in
     let inv = c.loop-i.invariant in
-    let there = rw inv.seat at c.iter.ensures.item in
+    let there = rw inv.leaper at c.iter.ensures.item in
     let Q = IsTrieOf state (length keys + 1) (with_key (at keys) (length keys) key) in
     let P = IsTrieOf state (length keys) (at keys) in
     let is = parted_at Q P c.loop-i.i plan.guides c.loop-i.iters.items guide c.index_mut.result.now (omega arith) inv.iters guide_is c.index_mut.ensures.value in
-    let opened = seat_opened plan state keys c.args._level.now c.args.joined.now.leap key c.requires.is_open goes c.loop-i.i guide c.iter.result.now c.in-Walks.walk (omega arith) guide_is held there c.in-Walks.is in
+    let opened = leaper_opened plan state keys c.args._level.now c.args.joined.now.leap key c.requires.is_open goes c.loop-i.i guide c.iter.result.now c.in-Walks.walk (omega arith) guide_is held there c.in-Walks.is in
     (opened_below state (length keys) (at keys) guide c.index_mut.result.now c.in-Walks.walk.trie is opened).root
 
 pub enter-requires-clause-deeper : goal.enter-requires-clause-deeper
@@ -138,9 +138,9 @@ enter-requires-clause-deeper g c =
     let held : has_key (levels_of guide) (length keys) ≡ true = holds_same guide (length keys) walkable ∙ ap (has_key guide.places) (sym c.len-depth.ensures) ∙ sym c.holds.ensures ∙ c.if-holds.true in
     let goes : key ≢ end_key = λ e. omega (arith, c.requires.at_key) in
     let inv = c.loop-i.invariant in
-    let there = rw inv.seat at c.iter.ensures.item in
+    let there = rw inv.leaper at c.iter.ensures.item in
     let Q = IsTrieOf state (length keys + 1) (with_key (at keys) (length keys) key) in
     let P = IsTrieOf state (length keys) (at keys) in
     let is = parted_at Q P c.loop-i.i plan.guides c.loop-i.iters.items guide c.index_mut.result.now (omega arith) inv.iters guide_is c.index_mut.ensures.value in
-    let opened = seat_opened plan state keys c.args._level.now c.args.joined.now.leap key c.requires.is_open goes c.loop-i.i guide c.iter.result.now c.in-Walks.walk (omega arith) guide_is held there c.in-Walks.is in
+    let opened = leaper_opened plan state keys c.args._level.now c.args.joined.now.leap key c.requires.is_open goes c.loop-i.i guide c.iter.result.now c.in-Walks.walk (omega arith) guide_is held there c.in-Walks.is in
     (opened_below state (length keys) (at keys) guide c.index_mut.result.now c.in-Walks.walk.trie is opened).deeper

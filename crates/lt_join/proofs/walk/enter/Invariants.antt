@@ -7,7 +7,7 @@ use Rattle.lt_join.proofs.walk.enter.Given as goal
 
 abbrev pub invariant-loop-i : goal.invariant-loop-i
 invariant-loop-i g l = record {
-  seat : l.seat ≡ length (atoms_at (take l.i l.plan.guides) (length l.keys));
-  within : l.seat ≤ l.i;
+  leaper : l.leaper ≡ length (atoms_at (take l.i l.plan.guides) (length l.keys));
+  within : l.leaper ≤ l.i;
   iters : AreParted (IsTrieOf (g.I.Indexes.state l._tables) (length l.keys + 1) (with_key (at l.keys) (length l.keys) l.joined.key)) (IsTrieOf (g.I.Indexes.state l._tables) (length l.keys) (at l.keys)) l.i l.plan.guides l.iters.items;
 }

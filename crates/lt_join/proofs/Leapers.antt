@@ -29,7 +29,7 @@ Any_of P x [] h p = absurd h
 Any_of P x (y ∷ xs) h p = elim h [ inl e ↦ inl (subst P (sym e) p) | inr r ↦ inr (Any_of P x xs r p) ]
 
 -- a key in a noted gap is skipped
-pub IsSkipped-from_noted : (plan : Plan) (sense : Sense) (keys : List ℕ) (level : Level) (lo hi k : ℕ) (seat : Holder) → IsIn seat (holders_at plan.guides level (length keys) (at keys)) → IsKept sense (length keys) (at keys) lo hi seat → lo ≤ k → k < hi → IsSkipped plan sense keys level k
+pub IsSkipped-from_noted : (plan : Plan) (sense : Sense) (keys : List ℕ) (level : Level) (lo hi k : ℕ) (leaper : Holder) → IsIn leaper (holders_at plan.guides level (length keys) (at keys)) → IsKept sense (length keys) (at keys) lo hi leaper → lo ≤ k → k < hi → IsSkipped plan sense keys level k
 IsSkipped-from_noted plan sense keys level lo hi k (OfAtom guide) sits kept from below =
     elim (IsIn-append_cases (OfAtom guide) (map OfAtom (filter (λ guide. has_key (levels_of guide) (length keys)) plan.guides)) (map OfKey level.pins ++ map (λ m. OfKey (at keys m)) level.ties) sits) [
       | inl h ↦

@@ -1,5 +1,5 @@
 use Rattle.std.proofs.Common.{rules}
-use Rattle.lt_join.proofs.seat.LoneKey.go_to.Goals as goal
+use Rattle.lt_join.proofs.leaper.LoneKey.go_to.Goals as goal
 
 pub returns-clause-here : goal.returns-clause-here
 returns-clause-here g c = search rules
