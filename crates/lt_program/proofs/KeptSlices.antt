@@ -38,8 +38,8 @@ use Rattle.lt_join.specs.MendedPlan.{mending_cost}
 use Rattle.lt_join.specs.Sliced.{slice_keys, united, sliced_rows, IsSliceOf, AreRooted, AreRootGaps}
 use Rattle.lt_join.proofs.MendLaws.{certified_of, tight_of, answers_of}
 use Rattle.lt_join.proofs.Repair.{GapIsTight}
-use Rattle.lt_program.specs.declared.part.Outcome.{Outcome}
-use Rattle.lt_program.specs.declared.part.Outcome.TheVariants.{Both}
+use Rattle.lt_program.specs.declared.part.Found.{Found}
+use Rattle.lt_program.specs.declared.part.Found.TheVariants.{Both}
 use Rattle.lt_program.specs.declared.part.Part.{Part}
 use Rattle.lt_program.specs.Planned.{IsPlanned, ArePicked}
 use Rattle.lt_program.specs.Tally.{HasIndexesOf, IsPartOn, IsKeptAs, IsMendedPart, CertifiesKeys, VouchesFor, keyed_on, outcome_on, has_level, is_sliced, slice_terms}
@@ -157,7 +157,7 @@ module _ (base state : State) (stmt : Stmt) (root : Sense) (slices : List Slice)
   rows_by rows is =
       is ∙ sym (answers_of (slice_terms stmt) (body_of stmt) (stated_plan (body_of stmt)) state root slices (IsPlanOf-stated (body_of stmt)) with_level ((body_fits base stmt fits).is_bound, (body_fits base stmt fits).are_absents_bound) (terms_picked base stmt wide fits sliced).bound are)
 
-  pub part_by_is : (outcome : Outcome) → outcome ≡ outcome_on stmt state → IsPartOn stmt state (record { outcome = outcome; sense = root; slices = slices })
+  pub part_by_is : (outcome : Found) → outcome ≡ outcome_on stmt state → IsPartOn stmt state (record { outcome = outcome; sense = root; slices = slices })
   part_by_is outcome is = record {
     outcome = is;
     vouches = vouches_by (united root slices) stmt state sliced (certified_of (slice_terms stmt) (body_of stmt) (stated_plan (body_of stmt)) state root slices (IsPlanOf-stated (body_of stmt)) with_level are);

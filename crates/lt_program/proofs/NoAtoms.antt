@@ -15,8 +15,8 @@ use Rattle.lt_sense.specs.Kept.{Sense}
 use Rattle.lt_join.specs.Certify.{IsMet, IsMissed, Certifies}
 use Rattle.lt_join.specs.Cost.{bound}
 use Rattle.lt_program.specs.declared.part.Part.{Part}
-use Rattle.lt_program.specs.declared.part.Outcome.{Outcome}
-use Rattle.lt_program.specs.declared.part.Outcome.TheVariants.{Rows, Both, Truth}
+use Rattle.lt_program.specs.declared.part.Found.{Found}
+use Rattle.lt_program.specs.declared.part.Found.TheVariants.{Rows, Both, Truth}
 use Rattle.lt_program.specs.Tally.{looked_up, outcome_on, CertifiesKeys, VouchesFor, IsPartOn, sense_of, keys_cost, statement_cost}
 use Rattle.lt_program.proofs.Alike.{answers_alike, some_alike, effect_alike}
 use Rattle.lt_program.proofs.Bare.{IsBare, IsUnread, bare_is}
@@ -38,7 +38,7 @@ module _ (s t : State) where
   effect_same stmt e = effect_alike s t stmt (unread_alike s t stmt e)
 
   -- no row is displaced only where all columns are key columns
-  plain_same : (head : Atom) (keys : ℕ) (a b c d : Outcome) → (if is_plain head keys then [] else head ∷ []) ≡ [] → a ≡ b → (if is_plain head keys then a else c) ≡ (if is_plain head keys then b else d)
+  plain_same : (head : Atom) (keys : ℕ) (a b c d : Found) → (if is_plain head keys then [] else head ∷ []) ≡ [] → a ≡ b → (if is_plain head keys then a else c) ≡ (if is_plain head keys then b else d)
   plain_same head keys a b c d e same = elim (is_plain head keys) as (λ p. cond p [] (head ∷ []) ≡ [] → cond p a c ≡ cond p b d) [ true ↦ λ none. same | false ↦ λ none. absurd (cc) ] e
 
   pub outcome_same : (stmt : Stmt) → IsUnread stmt → outcome_on stmt s ≡ outcome_on stmt t

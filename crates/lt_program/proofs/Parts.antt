@@ -16,7 +16,7 @@ use Rattle.lt_sense.specs.Kept.{Sense}
 use Rattle.lt_sense.specs.Sense.{IsTight}
 use Rattle.lt_join.specs.Certify.{Certifies}
 use Rattle.lt_program.specs.Displacing.{HaveOneWidth}
-use Rattle.lt_program.specs.declared.part.Outcome.TheVariants.{Rows, Both, Keyed}
+use Rattle.lt_program.specs.declared.part.Found.TheVariants.{Rows, Both, Keyed}
 use Rattle.lt_program.specs.declared.part.Part.{Part}
 use Rattle.lt_program.specs.Tally.{IsPartOn, CertifiesKeys, looked_up, keyed_on, keys_cost, is_sliced, sense_of}
 use Rattle.lt_program.proofs.FittingRuns.{head_rows}

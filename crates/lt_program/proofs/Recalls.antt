@@ -16,8 +16,8 @@ use Rattle.lt_model.specs.Effect.{Effect, Writes, Requires, Clashes, marks_on, i
 use Rattle.lt_model.specs.Marks.{Marks, and_then, laid}
 use Rattle.lt_base.specs.Tables.{state_of}
 use Rattle.lt_program.specs.declared.course.Course.{Course}
-use Rattle.lt_program.specs.declared.part.Outcome.{Outcome}
-use Rattle.lt_program.specs.declared.part.Outcome.TheVariants.{Rows, Both, Keyed}
+use Rattle.lt_program.specs.declared.part.Found.{Found}
+use Rattle.lt_program.specs.declared.part.Found.TheVariants.{Rows, Both, Keyed}
 use Rattle.lt_program.specs.declared.part.Part.{Part}
 use Rattle.lt_program.specs.Kept.{IsOrdered, first_rows, second_rows, displaced_rows, clashes_in, written_by, refused_by, marks_past, effect_by}
 use Rattle.lt_program.specs.Tally.{TallyView, IsPartOn, IsRun, Grows, looked_up, keyed_on, outcome_on, is_refused, next, run_of_first, state_before}
@@ -84,7 +84,7 @@ second_even (Replace gone come keys body) state =
 second_even (Require some body) state = none_even
 second_even (Print terms kinds body) state = none_even
 
-pub outcome_ordered : (stmt : Stmt) (state : State) (outcome : Outcome) → outcome ≡ outcome_on stmt state → IsOrdered outcome
+pub outcome_ordered : (stmt : Stmt) (state : State) (outcome : Found) → outcome ≡ outcome_on stmt state → IsOrdered outcome
 outcome_ordered stmt state outcome is =
     subst IsOrdered (sym is) (record { first = first_rise stmt state; second = second_rise stmt state; displaced = displaced_rise stmt state; even = second_even stmt state })
 
@@ -133,7 +133,7 @@ effect_on (Require true body) state = rw twice_not refl
 effect_on (Require false body) state = refl
 effect_on (Print terms kinds body) state = refl
 
-pub effect_told : (stmt : Stmt) (state : State) (outcome : Outcome) → outcome ≡ outcome_on stmt state → effect_by stmt outcome ≡ effect stmt state
+pub effect_told : (stmt : Stmt) (state : State) (outcome : Found) → outcome ≡ outcome_on stmt state → effect_by stmt outcome ≡ effect stmt state
 effect_told stmt state outcome is = ap (effect_by stmt) is ∙ effect_on stmt state
 
 pub effect_recalled : (stmt : Stmt) (state : State) (part : Part) → IsPartOn stmt state part → effect_by stmt part.outcome ≡ effect stmt state
@@ -160,7 +160,7 @@ refused_coming : (number : ℕ) (b : Bool) (marks : Marks) (prints : List Printe
 refused_coming number true marks prints before = refl
 refused_coming number false marks prints before = refl
 
-next_marks : (number : ℕ) (stmt : Stmt) (outcome : Outcome) (reply : Reply) (before : Marks) → is_refused reply ≡ false → (next number (effect_by stmt outcome) (reply, before)).1 ≡ marks_past stmt outcome before
+next_marks : (number : ℕ) (stmt : Stmt) (outcome : Found) (reply : Reply) (before : Marks) → is_refused reply ≡ false → (next number (effect_by stmt outcome) (reply, before)).1 ≡ marks_past stmt outcome before
 next_marks number stmt outcome (Refused j) before going = cc
 next_marks number (Insert head keys body) outcome (Done prints) before going = marks_coming number (clashes_in keys outcome) (written_by (Insert head keys body) outcome) prints before
 next_marks number (Delete head body) outcome (Done prints) before going = refl
@@ -172,7 +172,7 @@ next_marks number (Require some body) outcome (Done prints) before going = by (r
     by false = refl
 next_marks number (Print terms kinds body) outcome (Done prints) before going = refl
 
-next_refused : (number : ℕ) (stmt : Stmt) (outcome : Outcome) (reply : Reply) (before : Marks) → is_refused reply ≡ false → is_refused (next number (effect_by stmt outcome) (reply, before)).0 ≡ refused_by stmt outcome
+next_refused : (number : ℕ) (stmt : Stmt) (outcome : Found) (reply : Reply) (before : Marks) → is_refused reply ≡ false → is_refused (next number (effect_by stmt outcome) (reply, before)).0 ≡ refused_by stmt outcome
 next_refused number stmt outcome (Refused j) before going = cc
 next_refused number (Insert head keys body) outcome (Done prints) before going = refused_coming number (clashes_in keys outcome) (written_by (Insert head keys body) outcome) prints before
 next_refused number (Delete head body) outcome (Done prints) before going = refl

@@ -18,7 +18,7 @@ use Rattle.lt_join.specs.Certify.{Certifies}
 use Rattle.lt_join.proofs.Kept.{some_answer_kept}
 use Rattle.lt_join.proofs.MendLaws.{stay_slices}
 use Rattle.lt_join.proofs.Repair.{answers_same, Certifies-moved, IsTight-moved}
-use Rattle.lt_program.specs.declared.part.Outcome.TheVariants.{Rows, Both, Keyed, Truth}
+use Rattle.lt_program.specs.declared.part.Found.TheVariants.{Rows, Both, Keyed, Truth}
 use Rattle.lt_program.specs.declared.part.Part.{Part}
 use Rattle.lt_program.specs.Tally.{IsPartOn, IsKeptAs, CertifiesKeys, looked_up, keyed_on, sense_of, slice_terms}
 

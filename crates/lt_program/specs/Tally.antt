@@ -30,8 +30,8 @@ use Rattle.lt_join.specs.MendedPlan.{mending_cost}
 use Rattle.lt_join.specs.Sliced.{united}
 use Rattle.lt_program.specs.declared.course.Course.{Course}
 use Rattle.lt_program.specs.declared.course.Laid.{Laid}
-use Rattle.lt_program.specs.declared.part.Outcome.{Outcome}
-use Rattle.lt_program.specs.declared.part.Outcome.TheVariants.{Rows, Both, Keyed, Truth}
+use Rattle.lt_program.specs.declared.part.Found.{Found}
+use Rattle.lt_program.specs.declared.part.Found.TheVariants.{Rows, Both, Keyed, Truth}
 use Rattle.lt_program.specs.declared.part.Part.{Part}
 
 -- ---- one statement
@@ -41,11 +41,11 @@ abbrev pub looked_up : Atom → ℕ → List Row → List Row
 looked_up head keys rows = if is_plain head keys then [] else (if has_clash keys rows then [] else rows)
 
 -- rows that come into a relation with value columns, those that go before them, and those that they displace
-abbrev pub keyed_on : Atom → ℕ → List Row → List Row → State → Outcome
+abbrev pub keyed_on : Atom → ℕ → List Row → List Row → State → Found
 keyed_on head keys gone come state = Keyed gone come (displaced head.relation keys state (looked_up head keys come))
 
 -- what the evaluation of a statement on a state gives
-abbrev pub outcome_on : Stmt → State → Outcome
+abbrev pub outcome_on : Stmt → State → Found
 outcome_on (Insert head keys body) state = if is_plain head keys then Rows (answers head.terms body state) else keyed_on head keys [] (answers head.terms body state) state
 outcome_on (Delete head body) state = Rows (answers head.terms body state)
 outcome_on (Replace gone come keys body) state =

@@ -20,7 +20,7 @@ use crate::effect::Effect;
 use crate::evaluation::{keyed, planned};
 use crate::heads::{split_answers, terms_of_both};
 use crate::kept::effect_by;
-use crate::part::{Outcome, Part};
+use crate::part::{Found, Part};
 use crate::slicing::{have_room, is_plain};
 use lt_base::Database;
 use lt_face::items::{Items, RowList};
@@ -112,7 +112,7 @@ fn keyed_alone<L>(
     gone: RowList,
     come: RowList,
     moves: &mut Moves<L>,
-) -> Result<Outcome, NoMemory>
+) -> Result<Found, NoMemory>
     requires keyed { is_plain_in head.now keys ≡ false }
     requires keys { AreKeysOf head.now keys }
     requires wide { IsWide (state_of tables.now) head.now.relation (length head.now.terms) }
@@ -149,7 +149,7 @@ fn inserted_alone<L>(
     body: &Body,
     plan: &Plan,
     moves: &mut Moves<L>,
-) -> Result<Outcome, NoMemory>
+) -> Result<Found, NoMemory>
     requires plan { IsPlanned body.now plan.now }
     requires wide { AreWide (state_of tables.now) }
     requires indexes { HasIndexesOf tables.now body.now }
@@ -163,7 +163,7 @@ fn inserted_alone<L>(
     tables.look_over();
     let come = rows_alone(alloc, tables, body, plan, &head.terms, moves)?;
     if is_plain(head, keys) {
-        return Ok(Outcome::Rows(come));
+        return Ok(Found::Rows(come));
     }
     let outcome = keyed_alone(alloc, tables, head, keys, Items::new(alloc), come, moves)?;
     Ok(outcome)
@@ -179,7 +179,7 @@ fn replaced_alone<L>(
     body: &Body,
     plan: &Plan,
     moves: &mut Moves<L>,
-) -> Result<Outcome, NoMemory>
+) -> Result<Found, NoMemory>
     requires plan { IsPlanned body.now plan.now }
     requires wide { AreWide (state_of tables.now) }
     requires indexes { HasIndexesOf tables.now body.now }
@@ -195,7 +195,7 @@ fn replaced_alone<L>(
     let both = both_alone(alloc, tables, body, plan, &gone.terms, &come.terms, moves)?;
     let (first, second) = both;
     if is_plain(come, keys) {
-        return Ok(Outcome::Both(first, second));
+        return Ok(Found::Both(first, second));
     }
     let outcome = keyed_alone(alloc, tables, come, keys, first, second, moves)?;
     Ok(outcome)
@@ -208,7 +208,7 @@ fn outcome_alone<L>(
     stmt: &Stmt,
     plan: &Plan,
     moves: &mut Moves<L>,
-) -> Result<Outcome, NoMemory>
+) -> Result<Found, NoMemory>
     requires plan { IsPlanned (body_in stmt.now) plan.now }
     requires wide { AreWide (state_of tables.now) }
     requires indexes { HasIndexesOf tables.now (body_in stmt.now) }
@@ -224,7 +224,7 @@ fn outcome_alone<L>(
         }
         Stmt::Delete { head, body } => {
             let rows = rows_alone(alloc, tables, body, plan, &head.terms, moves)?;
-            Ok(Outcome::Rows(rows))
+            Ok(Found::Rows(rows))
         }
         Stmt::Replace {
             gone,
@@ -237,7 +237,7 @@ fn outcome_alone<L>(
         }
         Stmt::Require { some: _, body } => {
             let truth = truth_alone(alloc, tables, body, plan, moves)?;
-            Ok(Outcome::Truth(truth))
+            Ok(Found::Truth(truth))
         }
         Stmt::Print {
             terms,
@@ -245,7 +245,7 @@ fn outcome_alone<L>(
             body,
         } => {
             let rows = rows_alone(alloc, tables, body, plan, terms, moves)?;
-            Ok(Outcome::Rows(rows))
+            Ok(Found::Rows(rows))
         }
     }
 }

@@ -12,7 +12,7 @@ use std::alloc::Global;
 pub fn copied(alloc: Global, rows: &[Row]) -> Result<RowList, NoMemory>
     ensures { IfOk result (λ copy. copy ≡ rows.now) }
 {
-    let mut copy = Items::new(alloc);
+    let mut copy = Items::from_vec(Vec::with_capacity(alloc, rows.len())?);
     for row in rows {
         copy.push(row.copy_row())?;
     }

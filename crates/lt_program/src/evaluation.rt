@@ -26,7 +26,7 @@ use crate::displacing::{clash, displaced_by_all};
 use crate::effect::Effect;
 use crate::heads::{Pair, found, found_both};
 use crate::kept::effect_by;
-use crate::part::{Outcome, Part};
+use crate::part::{Found, Part};
 use crate::slicing::{is_plain, is_sliced, join_slices, mend_slices};
 use lt_base::Database;
 use lt_face::items::{Items, RowList};
@@ -70,7 +70,7 @@ fn told<L>(
 }
 
 /// A part without slices.
-fn part_whole(alloc: Global, outcome: Outcome, sense: Sense) -> Part
+fn part_whole(alloc: Global, outcome: Found, sense: Sense) -> Part
     ensures outcome { result.outcome ≡ outcome }
     ensures sense { sense_of result ≡ sense }
     ensures slices { result.slices ≡ [] }
@@ -95,7 +95,7 @@ fn answered<L>(
     requires indexes { HasIndexesOf tables.now body.now }
     requires fits { IsBodyOf (state_of tables.now) body.now }
     requires terms { ArePicked body.now terms.now }
-    ensures outcome { IfOk result (λ part. part.outcome ≡ Outcome.Rows (answers_of terms.now body.now (state_of tables.now))) }
+    ensures outcome { IfOk result (λ part. part.outcome ≡ Found.Rows (answers_of terms.now body.now (state_of tables.now))) }
     ensures certified { IfOk result (λ part. Certifies (sense_of part) body.now (state_of tables.now)) }
     ensures tight { IfOk result (λ part. IsTight (sense_of part) (state_of tables.now)) }
     ensures slices { IfOk result (λ part. part.slices ≡ []) }
@@ -104,7 +104,7 @@ fn answered<L>(
 {
     let found = found(alloc, tables, body, plan, terms, moves)?;
     let (rows, sense) = found;
-    Ok(part_whole(alloc, Outcome::Rows(rows), sense))
+    Ok(part_whole(alloc, Found::Rows(rows), sense))
 }
 
 /// The answers of the head whose rows go, and of the one whose rows come, by a join for each.
@@ -122,7 +122,7 @@ fn replaced<L>(
     requires fits { IsBodyOf (state_of tables.now) body.now }
     requires gone { ArePicked body.now gone.now }
     requires come { ArePicked body.now come.now }
-    ensures outcome { IfOk result (λ part. part.outcome ≡ Outcome.Both (answers_of gone.now body.now (state_of tables.now)) (answers_of come.now body.now (state_of tables.now))) }
+    ensures outcome { IfOk result (λ part. part.outcome ≡ Found.Both (answers_of gone.now body.now (state_of tables.now)) (answers_of come.now body.now (state_of tables.now))) }
     ensures certified { IfOk result (λ part. Certifies (sense_of part) body.now (state_of tables.now)) }
     ensures tight { IfOk result (λ part. IsTight (sense_of part) (state_of tables.now)) }
     ensures slices { IfOk result (λ part. part.slices ≡ []) }
@@ -135,7 +135,7 @@ fn replaced<L>(
         second,
         sense,
     } = pair;
-    Ok(part_whole(alloc, Outcome::Both(first, second), sense))
+    Ok(part_whole(alloc, Found::Both(first, second), sense))
 }
 
 /// The part of a statement whose rows come into a relation with value columns, of the rows that go and those that come.
@@ -165,7 +165,7 @@ pub(crate) fn keyed<L>(
     let count = keys as usize;
     if clash(&come, count) {
         let none = Items::new(alloc);
-        return Ok(part_whole(alloc, Outcome::Keyed(gone, come, none), sense));
+        return Ok(part_whole(alloc, Found::Keyed(gone, come, none), sense));
     }
     let displaced = displaced_by_all(
         alloc,
@@ -177,7 +177,7 @@ pub(crate) fn keyed<L>(
         &mut sense,
         moves,
     )?;
-    Ok(part_whole(alloc, Outcome::Keyed(gone, come, displaced), sense))
+    Ok(part_whole(alloc, Found::Keyed(gone, come, displaced), sense))
 }
 
 /// The answers of the head of an `insert` into a relation with value columns, and the rows that they displace.
@@ -270,7 +270,7 @@ fn required<L>(
     requires plan { IsPlanned body.now plan.now }
     requires indexes { HasIndexesOf tables.now body.now }
     requires fits { IsBodyOf (state_of tables.now) body.now }
-    ensures outcome { IfOk result (λ part. part.outcome ≡ Outcome.Truth (some_answer body.now (state_of tables.now))) }
+    ensures outcome { IfOk result (λ part. part.outcome ≡ Found.Truth (some_answer body.now (state_of tables.now))) }
     ensures vouched { IfOk result (λ part. Vouches (sense_of part) body.now (state_of tables.now)) }
     ensures tight { IfOk result (λ part. IsTight (sense_of part) (state_of tables.now)) }
     ensures slices { IfOk result (λ part. part.slices ≡ []) }
@@ -279,7 +279,7 @@ fn required<L>(
 {
     let told = told(alloc, tables, body, plan, moves)?;
     let (truth, sense) = told;
-    Ok(part_whole(alloc, Outcome::Truth(truth), sense))
+    Ok(part_whole(alloc, Found::Truth(truth), sense))
 }
 
 /// The part of a statement that isn't kept by slices.

@@ -9,7 +9,7 @@ ghost use Rattle.lt_program.specs.Kept.{IsOrdered, first_rows, second_rows, disp
 use crate::copying::copied;
 use crate::displacing::clash;
 use crate::effect::{Effect, marked};
-use crate::part::Outcome;
+use crate::part::Found;
 use lt_delta::Marks;
 use lt_face::items::{Items, RowList};
 use lt_face::memory::NoMemory;
@@ -22,25 +22,25 @@ fn marked_first(
     alloc: Global,
     relation: u32,
     plus: bool,
-    outcome: &Outcome,
+    outcome: &Found,
 ) -> Result<Marks, NoMemory>
     requires { IsAscending (first_rows outcome.now) }
     ensures { IfOk result (λ marks. marks ≡ marks_on_rows relation plus (first_rows outcome.now)) }
 {
     match outcome {
-        Outcome::Rows(rows) => {
+        Found::Rows(rows) => {
             let marks = marked(alloc, relation, plus, rows)?;
             Ok(marks)
         }
-        Outcome::Both(gone, _) => {
+        Found::Both(gone, _) => {
             let marks = marked(alloc, relation, plus, gone)?;
             Ok(marks)
         }
-        Outcome::Keyed(gone, _, _) => {
+        Found::Keyed(gone, _, _) => {
             let marks = marked(alloc, relation, plus, gone)?;
             Ok(marks)
         }
-        Outcome::Truth(_) => {
+        Found::Truth(_) => {
             let none = Marks::empty(alloc)?;
             Ok(none)
         }
@@ -52,25 +52,25 @@ fn marked_second(
     alloc: Global,
     relation: u32,
     plus: bool,
-    outcome: &Outcome,
+    outcome: &Found,
 ) -> Result<Marks, NoMemory>
     requires { IsAscending (second_rows outcome.now) }
     ensures { IfOk result (λ marks. marks ≡ marks_on_rows relation plus (second_rows outcome.now)) }
 {
     match outcome {
-        Outcome::Rows(_) => {
+        Found::Rows(_) => {
             let none = Marks::empty(alloc)?;
             Ok(none)
         }
-        Outcome::Both(_, come) => {
+        Found::Both(_, come) => {
             let marks = marked(alloc, relation, plus, come)?;
             Ok(marks)
         }
-        Outcome::Keyed(_, come, _) => {
+        Found::Keyed(_, come, _) => {
             let marks = marked(alloc, relation, plus, come)?;
             Ok(marks)
         }
-        Outcome::Truth(_) => {
+        Found::Truth(_) => {
             let none = Marks::empty(alloc)?;
             Ok(none)
         }
@@ -78,24 +78,24 @@ fn marked_second(
 }
 
 /// A mark for each displaced row.
-fn marked_displaced(alloc: Global, relation: u32, outcome: &Outcome) -> Result<Marks, NoMemory>
+fn marked_displaced(alloc: Global, relation: u32, outcome: &Found) -> Result<Marks, NoMemory>
     requires { IsAscending (displaced_rows outcome.now) }
     ensures { IfOk result (λ marks. marks ≡ marks_on_rows relation false (displaced_rows outcome.now)) }
 {
     match outcome {
-        Outcome::Rows(_) => {
+        Found::Rows(_) => {
             let none = Marks::empty(alloc)?;
             Ok(none)
         }
-        Outcome::Both(_, _) => {
+        Found::Both(_, _) => {
             let none = Marks::empty(alloc)?;
             Ok(none)
         }
-        Outcome::Keyed(_, _, displaced) => {
+        Found::Keyed(_, _, displaced) => {
             let marks = marked(alloc, relation, false, displaced)?;
             Ok(marks)
         }
-        Outcome::Truth(_) => {
+        Found::Truth(_) => {
             let none = Marks::empty(alloc)?;
             Ok(none)
         }
@@ -103,78 +103,78 @@ fn marked_displaced(alloc: Global, relation: u32, outcome: &Outcome) -> Result<M
 }
 
 /// The marks of the displaced rows, and then those of the rows that come.
-fn marked_coming(alloc: Global, relation: u32, outcome: &Outcome) -> Result<Marks, NoMemory>
+fn marked_coming(alloc: Global, relation: u32, outcome: &Found) -> Result<Marks, NoMemory>
     requires second { IsAscending (second_rows outcome.now) }
     requires displaced { IsAscending (displaced_rows outcome.now) }
     ensures { IfOk result (λ marks. marks ≡ displacing relation (displaced_rows outcome.now) (second_rows outcome.now)) }
 {
-    let minus = marked_displaced(alloc, relation, outcome)?;
-    let plus = marked_second(alloc, relation, true, outcome)?;
-    let marks = Marks::and_then(&minus, &plus)?;
+    let gone = marked_displaced(alloc, relation, outcome)?;
+    let come = marked_second(alloc, relation, true, outcome)?;
+    let marks = Marks::and_then(&gone, &come)?;
     Ok(marks)
 }
 
 /// Whether rows came into a relation with value columns.
-fn is_keyed(outcome: &Outcome) -> bool
+fn is_keyed(outcome: &Found) -> bool
     ensures { result ≡ is_keyed_in outcome.now }
 {
     match outcome {
-        Outcome::Keyed(_, _, _) => true,
-        Outcome::Rows(_) => false,
-        Outcome::Both(_, _) => false,
-        Outcome::Truth(_) => false,
+        Found::Keyed(_, _, _) => true,
+        Found::Rows(_) => false,
+        Found::Both(_, _) => false,
+        Found::Truth(_) => false,
     }
 }
 
 /// Whether two of the rows that come have one key.
-fn clashes(keys: u32, outcome: &Outcome) -> bool
+fn clashes(keys: u32, outcome: &Found) -> bool
     requires second { IsAscending (second_rows outcome.now) }
     requires even { HaveOneWidth (second_rows outcome.now) }
     ensures { result ≡ clashes_in keys outcome.now }
 {
     match outcome {
-        Outcome::Keyed(_, come, _) => clash(come, keys as usize),
-        Outcome::Rows(_) => false,
-        Outcome::Both(_, _) => false,
-        Outcome::Truth(_) => false,
+        Found::Keyed(_, come, _) => clash(come, keys as usize),
+        Found::Rows(_) => false,
+        Found::Both(_, _) => false,
+        Found::Truth(_) => false,
     }
 }
 
 /// The answers of a `print`.
-fn shown(alloc: Global, outcome: &Outcome) -> Result<RowList, NoMemory>
+fn shown(alloc: Global, outcome: &Found) -> Result<RowList, NoMemory>
     ensures { IfOk result (λ rows. rows ≡ first_rows outcome.now) }
 {
     match outcome {
-        Outcome::Rows(rows) => {
+        Found::Rows(rows) => {
             let rows = copied(alloc, rows.as_slice())?;
             Ok(rows)
         }
-        Outcome::Both(gone, _) => {
+        Found::Both(gone, _) => {
             let rows = copied(alloc, gone.as_slice())?;
             Ok(rows)
         }
-        Outcome::Keyed(gone, _, _) => {
+        Found::Keyed(gone, _, _) => {
             let rows = copied(alloc, gone.as_slice())?;
             Ok(rows)
         }
-        Outcome::Truth(_) => Ok(Items::new(alloc)),
+        Found::Truth(_) => Ok(Items::new(alloc)),
     }
 }
 
 /// Whether the conditions of a `require` can be met.
-fn is_met(outcome: &Outcome) -> bool
+fn is_met(outcome: &Found) -> bool
     ensures { result ≡ truth_in outcome.now }
 {
     match outcome {
-        Outcome::Rows(_) => false,
-        Outcome::Both(_, _) => false,
-        Outcome::Keyed(_, _, _) => false,
-        Outcome::Truth(truth) => *truth,
+        Found::Rows(_) => false,
+        Found::Both(_, _) => false,
+        Found::Keyed(_, _, _) => false,
+        Found::Truth(truth) => *truth,
     }
 }
 
 /// The marks of an `insert`.
-fn inserted(alloc: Global, relation: u32, outcome: &Outcome) -> Result<Marks, NoMemory>
+fn inserted(alloc: Global, relation: u32, outcome: &Found) -> Result<Marks, NoMemory>
     requires { IsOrdered outcome.now }
     ensures { IfOk result (λ marks. marks ≡ inserted_by relation outcome.now) }
 {
@@ -187,7 +187,7 @@ fn inserted(alloc: Global, relation: u32, outcome: &Outcome) -> Result<Marks, No
 }
 
 /// The marks of the second head of a `replace`.
-fn replaced(alloc: Global, relation: u32, outcome: &Outcome) -> Result<Marks, NoMemory>
+fn replaced(alloc: Global, relation: u32, outcome: &Found) -> Result<Marks, NoMemory>
     requires { IsOrdered outcome.now }
     ensures { IfOk result (λ marks. marks ≡ replaced_by relation outcome.now) }
 {
@@ -200,7 +200,7 @@ fn replaced(alloc: Global, relation: u32, outcome: &Outcome) -> Result<Marks, No
 }
 
 /// The marks that the statement writes.
-fn written_by(alloc: Global, stmt: &Stmt, outcome: &Outcome) -> Result<Marks, NoMemory>
+fn written_by(alloc: Global, stmt: &Stmt, outcome: &Found) -> Result<Marks, NoMemory>
     requires { IsOrdered outcome.now }
     ensures { IfOk result (λ marks. marks ≡ writes stmt.now outcome.now) }
 {
@@ -223,9 +223,9 @@ fn written_by(alloc: Global, stmt: &Stmt, outcome: &Outcome) -> Result<Marks, No
             keys: _,
             body: _,
         } => {
-            let minus = marked_first(alloc, gone.relation, false, outcome)?;
-            let plus = replaced(alloc, come.relation, outcome)?;
-            let marks = Marks::and_then(&minus, &plus)?;
+            let gone = marked_first(alloc, gone.relation, false, outcome)?;
+            let come = replaced(alloc, come.relation, outcome)?;
+            let marks = Marks::and_then(&gone, &come)?;
             Ok(marks)
         }
         Stmt::Require { some: _, body: _ } => {
@@ -244,7 +244,7 @@ fn written_by(alloc: Global, stmt: &Stmt, outcome: &Outcome) -> Result<Marks, No
 }
 
 /// Whether the statement is a requirement that isn't met, or two of its rows have one key.
-fn refused_by(stmt: &Stmt, outcome: &Outcome) -> bool
+fn refused_by(stmt: &Stmt, outcome: &Found) -> bool
     requires { IsOrdered outcome.now }
     ensures { result ≡ refuses stmt.now outcome.now }
 {
@@ -280,7 +280,7 @@ fn refused_by(stmt: &Stmt, outcome: &Outcome) -> bool
 pub(crate) fn marks_past(
     alloc: Global,
     stmt: &Stmt,
-    outcome: &Outcome,
+    outcome: &Found,
     before: &Marks,
 ) -> Result<Marks, NoMemory>
     requires { IsOrdered outcome.now }
@@ -296,7 +296,7 @@ pub(crate) fn marks_past(
 }
 
 /// The effect of a statement whose rows come into a relation.
-fn coming(alloc: Global, stmt: &Stmt, outcome: &Outcome) -> Result<Effect, NoMemory>
+fn coming(alloc: Global, stmt: &Stmt, outcome: &Found) -> Result<Effect, NoMemory>
     requires { IsOrdered outcome.now }
     ensures { IfOk result (λ e. view e ≡ coming_by stmt.now outcome.now) }
 {
@@ -308,7 +308,7 @@ fn coming(alloc: Global, stmt: &Stmt, outcome: &Outcome) -> Result<Effect, NoMem
 }
 
 /// The effect of the statement.
-pub(crate) fn effect_by(alloc: Global, stmt: &Stmt, outcome: &Outcome) -> Result<Effect, NoMemory>
+pub(crate) fn effect_by(alloc: Global, stmt: &Stmt, outcome: &Found) -> Result<Effect, NoMemory>
     requires { IsOrdered outcome.now }
     ensures { IfOk result (λ e. view e ≡ does stmt.now outcome.now) }
 {

@@ -24,6 +24,6 @@ pub use going::{Ran, run_alone};
 pub use indexing::indexed;
 pub use lt_delta::{Mark, MarkList, Marks};
 pub use lt_model::reply::{Printed, Prints, Reply};
-pub use part::{Outcome, Part, SharedPart};
+pub use part::{Found, Part, SharedPart};
 pub use reading::{reads, reads_marked};
 pub use tally::{Tally, run};

@@ -11,7 +11,7 @@ use std::sync::Arc;
 
 /// What the evaluation of a statement gives.
 #[derive(Drop)]
-pub enum Outcome {
+pub enum Found {
     /// The answers of the head of an `insert` or a `delete`, or of a `print`.
     Rows(RowList),
     /// The answers of the two heads of a `replace`: of the one whose rows go, and of the one whose rows come.
@@ -27,7 +27,7 @@ pub enum Outcome {
 /// The outcome of a statement, and what it was sensitive to.
 #[derive(Drop)]
 pub struct Part {
-    pub outcome: Outcome,
+    pub outcome: Found,
     /// Of a statement kept by slices the root gaps alone.
     pub sense: Sense,
     /// The slices of a statement kept by slices, ascending by their keys; of any other none.

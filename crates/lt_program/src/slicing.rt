@@ -18,7 +18,7 @@ ghost use Rattle.lt_program.specs.Planned.{IsPlanned};
 ghost use Rattle.lt_program.specs.Tally.{HasIndexesOf, IsPartOn, IsMendedPart, has_level as has_level_in, is_sliced as is_sliced_in, slice_terms as slice_terms_of, outcome_on};
 
 use crate::heads::{split_answers, terms_of_both};
-use crate::part::{Outcome, Part};
+use crate::part::{Found, Part};
 use lt_base::Database;
 use lt_face::items::{Items, RowList};
 use lt_face::key::Key;
@@ -122,7 +122,7 @@ fn slice_terms(alloc: Global, stmt: &Stmt) -> Result<TermList, NoMemory>
 }
 
 /// The outcome of a statement kept by slices, of the answers of its slices' terms.
-fn outcome_by(alloc: Global, stmt: &Stmt, rows: RowList) -> Result<Outcome, NoMemory>
+fn outcome_by(alloc: Global, stmt: &Stmt, rows: RowList) -> Result<Found, NoMemory>
     requires sliced { is_sliced_in stmt.now ≡ true }
     ensures { IfOk result (λ outcome. (state : State) → rows ≡ answers_of (slice_terms_of stmt.now) (body_in stmt.now) state → outcome ≡ outcome_on stmt.now state) }
 {
@@ -131,8 +131,8 @@ fn outcome_by(alloc: Global, stmt: &Stmt, rows: RowList) -> Result<Outcome, NoMe
             head: _,
             keys: _,
             body: _,
-        } => Ok(Outcome::Rows(rows)),
-        Stmt::Delete { head: _, body: _ } => Ok(Outcome::Rows(rows)),
+        } => Ok(Found::Rows(rows)),
+        Stmt::Delete { head: _, body: _ } => Ok(Found::Rows(rows)),
         Stmt::Replace {
             gone,
             come: _,
@@ -141,14 +141,14 @@ fn outcome_by(alloc: Global, stmt: &Stmt, rows: RowList) -> Result<Outcome, NoMe
         } => {
             let both = split_answers(alloc, &rows, gone.terms.len())?;
             let (first, second) = both;
-            Ok(Outcome::Both(first, second))
+            Ok(Found::Both(first, second))
         }
-        Stmt::Require { some: _, body: _ } => Ok(Outcome::Rows(rows)),
+        Stmt::Require { some: _, body: _ } => Ok(Found::Rows(rows)),
         Stmt::Print {
             terms: _,
             kinds: _,
             body: _,
-        } => Ok(Outcome::Rows(rows)),
+        } => Ok(Found::Rows(rows)),
     }
 }
 

@@ -78,10 +78,10 @@ fn displacing(
     ensures marks { IfOk result (λ marks. marks ≡ displacing_in head.now.relation (displaced head.now.relation keys (bare relations.now) rows.now) rows.now) }
     ensures cells { IfOk result HaveCells }
 {
-    let gone = displaced_rows(alloc, relations, head, keys, rows)?;
-    let minus = marks_on(alloc, head.relation, false, &gone)?;
-    let plus = marks_on(alloc, head.relation, true, rows)?;
-    let marks = Marks::and_then(&minus, &plus)?;
+    let old_rows = displaced_rows(alloc, relations, head, keys, rows)?;
+    let gone = marks_on(alloc, head.relation, false, &old_rows)?;
+    let come = marks_on(alloc, head.relation, true, rows)?;
+    let marks = Marks::and_then(&gone, &come)?;
     Ok(marks)
 }
 

@@ -16,7 +16,7 @@ use Rattle.lt_join.specs.MendedPlan.{mending_cost}
 use Rattle.lt_sense.specs.declared.covering.KeptGap.{KeptGap}
 use Rattle.lt_join.specs.declared.slicing.Slice.{Slice}
 use Rattle.lt_sense.specs.Cut.{cut}
-use Rattle.lt_program.specs.declared.part.Outcome.TheVariants.{Rows}
+use Rattle.lt_program.specs.declared.part.Found.TheVariants.{Rows}
 use Rattle.lt_program.specs.declared.part.Part.{Part}
 use Rattle.lt_program.specs.Tally.{is_sliced, outcome_on, sense_of, cost_on, mending_on}
 use Rattle.lt_restate.specs.Changes.{is_disturbed, touched_on}

@@ -7,4 +7,4 @@ use Rattle.lt_program.specs.Effect.{HaveCells}
 use Rattle.lt_reference.proofs.effects.displacing.Goals as goal
 
 pub returns-clause-cells : goal.returns-clause-cells
-returns-clause-cells c = subst HaveCells (sym c.in_ok-marks.ensures) (each_after (λ (m : Mark). AllByRecursion IsCell m.row) _ _ c.in_ok-minus.ensures.cells c.in_ok-plus.ensures.cells)
+returns-clause-cells c = subst HaveCells (sym c.in_ok-marks.ensures) (each_after (λ (m : Mark). AllByRecursion IsCell m.row) _ _ c.in_ok-gone.ensures.cells c.in_ok-come.ensures.cells)
