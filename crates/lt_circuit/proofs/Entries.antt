@@ -8,6 +8,8 @@ use Rattle.lt_circuit.specs.declared.entry.Entry.{Entry}
 use Rattle.lt_circuit.specs.declared.entry.Event.{Event as Kind}
 use Rattle.lt_circuit.specs.declared.entry.Event.TheVariants.{Claim, Finish, Abandon}
 use Rattle.lt_circuit.specs.Entry.{event_of, event_on, kind_code, entry_code, coded_event}
+use Rattle.lt_circuit.specs.declared.line.LineEntry.{LineEntry}
+use Rattle.lt_circuit.specs.Line.{line_entry_code, line_event}
 use Rattle.lt_circuit.specs.Shape.{worker_of}
 
 kind_small : (k : Kind) → kind_code k < 3
@@ -33,3 +35,7 @@ worker_told worker code = by_kind (code % 3 == 0) (code % 3 == 1)
     by_kind true b = refl
     by_kind false true = refl
     by_kind false false = refl
+
+-- and so does that of a line's entry
+pub line_event_told : (e : LineEntry) → coded_event e.worker (line_entry_code e) ≡ line_event e
+line_event_told e = told e.event e.worker e.job (line_entry_code e) (kind_back e.job (kind_code e.event) (kind_small e.event)) (number_back e.job (kind_code e.event) (kind_small e.event))

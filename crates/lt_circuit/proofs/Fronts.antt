@@ -8,7 +8,7 @@ use Rattle.lt_net.specs.Kept.{IsKept}
 use Rattle.lt_net.specs.Line.{IsFront, IsPast}
 use Rattle.lt_net.specs.Net.{Claim, Net, State, is_held}
 use Rattle.lt_net.specs.Row.{claim_or, lifted, row_claim, HasNoOther}
-use Rattle.lt_net.proofs.Rows.{row_claim_one}
+use Rattle.lt_net.proofs.RowClaims.{row_claim_one}
 use Rattle.lt_net.proofs.Shape.{lt_tells}
 use Rattle.lt_circuit.specs.declared.cells.Held.{Held}
 use Rattle.lt_circuit.specs.Board.{claim_from, standing, state_of}

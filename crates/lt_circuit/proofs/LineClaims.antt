@@ -5,7 +5,7 @@ use Rattle.std.proofs.lemmas.Bool.Decides.{eqb_tells}
 use Rattle.lt_net.specs.Net.{Claim}
 use Rattle.lt_net.specs.Row.{lifted, HasNoOther}
 use Rattle.lt_net.proofs.Kept.{at_update}
-use Rattle.lt_net.proofs.Rows.{row_claim_one}
+use Rattle.lt_net.proofs.RowClaims.{row_claim_one}
 use Rattle.lt_circuit.specs.declared.cells.Held.{Held}
 use Rattle.lt_circuit.specs.Board.{claim_from, standing}
 use Rattle.lt_circuit.specs.Segment.{SegmentView}

@@ -12,7 +12,7 @@ use Rattle.lt_net.specs.Row.{lifted, HasNoOther}
 use Rattle.lt_net.specs.Tree.{leaves_in, tree_of}
 use Rattle.lt_net.proofs.Inside.{leaves_are, replay_end, replay_more}
 use Rattle.lt_net.proofs.Kept.{update_same}
-use Rattle.lt_net.proofs.Rows.{row_claim_free}
+use Rattle.lt_net.proofs.RowClaims.{row_claim_free}
 use Rattle.lt_net.proofs.Shape.{eq_true, lt_true}
 use Rattle.lt_circuit.specs.declared.cells.Held.{Held}
 use Rattle.lt_circuit.specs.declared.line.LineEntry.{LineEntry}

@@ -8,7 +8,7 @@ use Rattle.lt_net.specs.Line.{hands_on, line_inputs, line_job, placed}
 use Rattle.lt_net.specs.Net.{Cell, Correction, Effect, first_of, read}
 use Rattle.lt_net.specs.Tree.{inputs_of, tree_of}
 use Rattle.lt_net.proofs.Inside.{correct_inner, correct_reads}
-use Rattle.lt_net.proofs.Lines.{pass_at}
+use Rattle.lt_net.proofs.Placed.{pass_at}
 use Rattle.lt_circuit.specs.Board.{state_of}
 use Rattle.lt_circuit.specs.Line.{number_code, number_segment, number_within}
 use Rattle.lt_circuit.specs.Row.{parts, row_of, segment_at, sizes}

@@ -15,7 +15,7 @@ use Rattle.std.proofs.lemmas.List.{length-map}
 use Rattle.lt_net.proofs.Fitting.{AllFit}
 use Rattle.lt_net.proofs.Kept.{reached_bare}
 use Rattle.lt_net.proofs.Lines.{below_serial, line_fits, line_kept}
-use Rattle.lt_net.proofs.Rows.{row_claim_free, row_claim_none}
+use Rattle.lt_net.proofs.RowClaims.{row_claim_free, row_claim_none}
 use Rattle.lt_circuit.specs.declared.line.LineEntry.{LineEntry}
 use Rattle.lt_circuit.specs.declared.task.Prior.{Prior}
 use Rattle.lt_circuit.specs.Board.{claim_from, standing, table}

@@ -9,7 +9,7 @@ use Rattle.lt_net.specs.Line.{LineJob, Own, Pass, hands_on, line_code, line_inpu
 use Rattle.lt_net.specs.Net.{Cell, Correction, Effect, read}
 use Rattle.lt_net.specs.Tree.{inputs_of, tree_of}
 use Rattle.lt_net.proofs.Inside.{correct_inside, leaf_inside, merge_inside}
-use Rattle.lt_net.proofs.Lines.{code_back, own_back, read_placed}
+use Rattle.lt_net.proofs.Placed.{code_back, own_back, read_placed}
 use Rattle.lt_circuit.specs.Job.{arity}
 use Rattle.lt_circuit.specs.Line.{number_code, number_segment, number_within, numbered}
 use Rattle.lt_circuit.specs.LineJob.{line_arity}

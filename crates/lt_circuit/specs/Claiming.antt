@@ -27,20 +27,20 @@ pub record IsClaimed {W T : Type 0} (does : ℕ → List Mark → List Mark) (ol
   pub prior : task_prior job.task ≡ prior_of (name_of_job job) old.tallies
   pub tallies : new.tallies ≡ tallies_left (name_of_job job) old.tallies
 
-abbrev pub IsAnswer : {W T : Type 0} → (ℕ → List Mark → List Mark) → CircuitView W T → CircuitView W T → ℕ → Claim W T → Type 0
+abbrev pub IsAnswer : {W T : Type 0} → (ℕ → List Mark → List Mark) → CircuitView W T → CircuitView W T → ℕ → Claim (JobView W T) → Type 0
 IsAnswer does old new worker (Job job) = IsClaimed does old new worker job
 IsAnswer does old new worker (Busy n) = (new ≡ old) × ((j : ℕ) → (state old).status j ≢ Pending) × (n ≡ standing old.board.claims) × (0 < n)
 IsAnswer does old new worker Settled = (new ≡ old) × IsSettled (state old)
 IsAnswer does old new worker NoMemory = new ≡ old
 
 -- the code of a job that was given is a `u32`
-abbrev pub IsCoded : {W T : Type 0} → Claim W T → Type 0
+abbrev pub IsCoded : {W T : Type 0} → Claim (JobView W T) → Type 0
 IsCoded (Job job) = (claim_of_job job).job < 2 ^ 32
 IsCoded (Busy n) = Unit {0}
 IsCoded Settled = Unit {0}
 IsCoded NoMemory = Unit {0}
 
-abbrev pub IsThis : {W T : Type 0} → (ℕ → List Mark → List Mark) → CircuitView W T → CircuitView W T → (worker code : ℕ) → This W T → Type 0
+abbrev pub IsThis : {W T : Type 0} → (ℕ → List Mark → List Mark) → CircuitView W T → CircuitView W T → (worker code : ℕ) → This (JobView W T) → Type 0
 IsThis does old new worker code (ThisJob job) = IsClaimed does old new worker job × ((claim_of_job job).job ≡ code)
 IsThis does old new worker code NotPending = (new ≡ old) × ((state old).status code ≢ Pending)
 IsThis does old new worker code NoMemoryForThis = new ≡ old

@@ -4,10 +4,10 @@ use Rattle.lt_model.specs.declared.mark.Mark.{Mark}
 use Rattle.lt_net.specs.declared.job.JobState.TheVariants.{Pending}
 use Rattle.lt_net.specs.Net.{IsSettled, claimed}
 use Rattle.lt_net.specs.Line.{line_net}
-use Rattle.lt_circuit.specs.declared.claim.LineClaim.{LineClaim}
-use Rattle.lt_circuit.specs.declared.claim.LineClaim.TheVariants.{Job, Busy, Settled, NoMemory}
-use Rattle.lt_circuit.specs.declared.claim.LineThis.{LineThis}
-use Rattle.lt_circuit.specs.declared.claim.LineThis.TheVariants.{Job as ThisJob, NotPending, NoMemory as NoMemoryForThis}
+use Rattle.lt_circuit.specs.declared.claim.Claim.{Claim}
+use Rattle.lt_circuit.specs.declared.claim.Claim.TheVariants.{Job, Busy, Settled, NoMemory}
+use Rattle.lt_circuit.specs.declared.claim.This.{This}
+use Rattle.lt_circuit.specs.declared.claim.This.TheVariants.{Job as ThisJob, NotPending, NoMemory as NoMemoryForThis}
 use Rattle.lt_circuit.specs.declared.entry.Event.TheVariants.{Claim as ClaimEvent}
 use Rattle.lt_circuit.specs.Row.{sizes, standing_in}
 use Rattle.lt_circuit.specs.Line.{LineView, line_state}
@@ -27,20 +27,20 @@ pub record IsLineClaimed {W T : Type 0} (does : ℕ → List Mark → List Mark)
   pub prior : line_task_prior job.task ≡ line_prior_of job.task old.tallies
   pub tallies : new.tallies ≡ line_left job.task old.tallies
 
-abbrev pub IsLineAnswer : {W T : Type 0} → (ℕ → List Mark → List Mark) → LineView W T → LineView W T → ℕ → LineClaim W T → Type 0
+abbrev pub IsLineAnswer : {W T : Type 0} → (ℕ → List Mark → List Mark) → LineView W T → LineView W T → ℕ → Claim (LineJobView W T) → Type 0
 IsLineAnswer does old new worker (Job job) = IsLineClaimed does old new worker job
 IsLineAnswer does old new worker (Busy n) = (new ≡ old) × ((j : ℕ) → (line_state old).status j ≢ Pending) × (n ≡ standing_in old.row) × (0 < n)
 IsLineAnswer does old new worker Settled = (new ≡ old) × IsSettled (line_state old)
 IsLineAnswer does old new worker NoMemory = new ≡ old
 
 -- the code of a job that was given is a `u32`
-abbrev pub IsLineCoded : {W T : Type 0} → LineClaim W T → Type 0
+abbrev pub IsLineCoded : {W T : Type 0} → Claim (LineJobView W T) → Type 0
 IsLineCoded (Job job) = (claim_of_line_job job).job < 2 ^ 32
 IsLineCoded (Busy n) = Unit {0}
 IsLineCoded Settled = Unit {0}
 IsLineCoded NoMemory = Unit {0}
 
-abbrev pub IsLineThis : {W T : Type 0} → (ℕ → List Mark → List Mark) → LineView W T → LineView W T → (worker code : ℕ) → LineThis W T → Type 0
+abbrev pub IsLineThis : {W T : Type 0} → (ℕ → List Mark → List Mark) → LineView W T → LineView W T → (worker code : ℕ) → This (LineJobView W T) → Type 0
 IsLineThis does old new worker code (ThisJob job) = IsLineClaimed does old new worker job × ((claim_of_line_job job).job ≡ code)
 IsLineThis does old new worker code NotPending = (new ≡ old) × ((line_state old).status code ≢ Pending)
 IsLineThis does old new worker code NoMemoryForThis = new ≡ old

@@ -1,5 +1,5 @@
 -- What a contract sees of a job of a line that a worker holds.
-use Rattle.std.specs.Prelude.{◌≡◌, ℕ, ◌+◌, ◌*◌, List, [], ◌∷◌, Option, None}
+use Rattle.std.specs.Prelude.{◌≡◌, ℕ, ◌+◌, ◌*◌, List, [], ◌∷◌, Option, Some, None}
 use Rattle.lt_model.specs.declared.mark.Mark.{Mark}
 use Rattle.lt_model.specs.Marks.{and_then}
 use Rattle.lt_net.specs.Net.{Claim, first_of, second_of}
@@ -11,7 +11,7 @@ use Rattle.lt_circuit.specs.declared.line_job.LineTask.TheVariants.{Tree, Pass}
 use Rattle.lt_circuit.specs.declared.line_job.LineDone.{LineDone}
 use Rattle.lt_circuit.specs.declared.line_job.LineDone.TheVariants.{Tree as TreeDone, Pass as PassDone}
 use Rattle.lt_circuit.specs.Board.{inputs_list}
-use Rattle.lt_circuit.specs.Job.{arity, task_from, task_name, task_inputs, task_prior, prior_correction, prior_of, tallies_left, tallies_back, tallies_done, done_name, done_inputs, done_prior, Gave, IsTask, IsOutput}
+use Rattle.lt_circuit.specs.Job.{arity, task_from, task_name, task_inputs, task_prior, task_bound, prior_correction, prior_of, tallies_left, tallies_back, tallies_done, done_name, done_inputs, done_prior, Gave, IsTask, IsOutput}
 use Rattle.lt_circuit.specs.Line.{number_code, numbered}
 
 -- the claim that the task is of
@@ -56,6 +56,11 @@ line_left_by (PassName s) tallies = tallies
 pub record LineJobView (W T : Type 0) : Type 0 where
   pub work : W
   pub task : LineTask T
+
+-- how many moves the task takes at most, where it is told: a leaf's as its work tells, the others' none
+abbrev pub line_task_bound : {T : Type 0} → (Option T → ℕ → List Mark → Option ℕ) → LineTask T → Option ℕ
+line_task_bound bound (Tree task) = task_bound bound task
+line_task_bound bound (Pass segment correction effect) = Some 0
 
 -- the claim that the job is of
 abbrev pub claim_of_line_job : {W T : Type 0} → LineJobView W T → Claim

@@ -52,7 +52,7 @@ impl<W: LeafWork> Circuit<W> {
     }
 
     /// Claims a job that is Pending, if any.
-    pub fn claim(&mut self, worker: u32) -> Claim<W>
+    pub fn claim(&mut self, worker: u32) -> Claim<Job<W>>
         requires worker { worker < most_workers }
         requires free { (state self.old).claim worker ≡ None }
         ensures answer { IsAnswer (W.does self.old.work) self.old self.new worker result }
@@ -75,7 +75,7 @@ impl<W: LeafWork> Circuit<W> {
     }
 
     /// Claims the job of this code, if it is Pending.
-    pub fn claim_this(&mut self, worker: u32, code: u32) -> This<W>
+    pub fn claim_this(&mut self, worker: u32, code: u32) -> This<Job<W>>
         requires worker { worker < most_workers }
         requires free { (state self.old).claim worker ≡ None }
         ensures { IsThis (W.does self.old.work) self.old self.new worker code result }

@@ -33,12 +33,13 @@ impl<W: LeafWork> Job<W> {
         self.task.name()
     }
 
+    /// Whether it is a leaf's.
+    pub fn is_leaf(&self) -> bool {
+        self.task.is_leaf()
+    }
+
     /// Whether it is a leaf's that never ran, and on which no leaf before it has a bearing.
     pub fn is_free(&self) -> bool {
-        match &self.task {
-            Task::Leaf { leaf, prior, .. } => prior.is_none() && self.work.is_free(*leaf),
-            Task::Merge { .. } => false,
-            Task::Correct { .. } => false,
-        }
+        self.task.is_free(&*self.work)
     }
 }

@@ -27,7 +27,7 @@ pub mod tree;
 mod work;
 
 pub use circuit::Circuit;
-pub use claim::{Claim, LineClaim, LineThis, This};
+pub use claim::{Claim, This};
 pub use ends::Spent;
 pub use entry::{Entry, Event};
 pub use job::Job;

@@ -144,3 +144,4 @@ mod alone;
 mod below;
 mod claims;
 mod ends;
+mod free;

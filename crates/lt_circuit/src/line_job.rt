@@ -1,22 +1,24 @@
 //! A job of a line that a worker holds, and what it gives.
 #![tactic(auto)]
 
-ghost use Rattle.std.specs.Prelude.{◌≡◌, ◌≢◌, ◌+◌, ◌*◌, ◌/◌, ◌%◌, ◌<◌, ◌≤◌, ◌^◌, ℕ, IfOk, IfErr, length};
+ghost use Rattle.std.specs.Prelude.{◌≡◌, ◌≢◌, ◌+◌, ◌*◌, ◌/◌, ◌%◌, ◌<◌, ◌≤◌, ◌^◌, ℕ, IfOk, IfErr, IfSome, length};
 ghost use Rattle.std.specs.Arc.{arc_value};
 ghost use Rattle.lt_net.specs.declared.job.JobName.TheVariants.{Leaf};
 ghost use Rattle.lt_circuit.specs.declared.task.Task.{Task as TaskType};
-ghost use Rattle.lt_circuit.specs.declared.line_job.LineTask.TheVariants.{Tree as TreeTask};
+ghost use Rattle.lt_model.specs.Marks.{and_then};
+ghost use Rattle.lt_circuit.specs.declared.line_job.LineTask.TheVariants.{Tree as TreeTask, Pass as PassTask};
+ghost use Rattle.lt_circuit.specs.declared.line_job.LineDone.TheVariants.{Pass as PassDone};
 ghost use Rattle.lt_net.specs.Codes.{code_of, job_of};
 ghost use Rattle.lt_net.specs.Line.{line_job};
 ghost use Rattle.lt_circuit.specs.Board.{inputs_list};
 ghost use Rattle.lt_circuit.specs.Job.{task_name};
 ghost use Rattle.lt_circuit.specs.Line.{number_code, numbered};
-ghost use Rattle.lt_circuit.specs.LineJob.{LineJobView, LineOutputView, IsLineOutput, IsLineTask, claim_of_line_job, claim_of_line_output, line_arity, line_back, line_done_claim, line_left_by, line_task_claim, line_task_from};
+ghost use Rattle.lt_circuit.specs.LineJob.{LineJobView, LineOutputView, IsLineOutput, IsLineTask, claim_of_line_job, claim_of_line_output, line_arity, line_back, line_done_claim, line_left_by, line_task_bound, line_task_claim, line_task_from};
 
 use crate::cells::Inputs;
 use crate::job::Job;
 use crate::output::Output;
-use crate::task::{Done, Prior, Task, give_back, take_task};
+use crate::task::{Done, Prior, Task, give_back, take_task, tie_of, weight_of};
 use crate::work::LeafWork;
 use lt_delta::Marks;
 use lt_face::{Moves, NoMemory};
@@ -134,6 +136,22 @@ impl<T> LineTask<T> {
             LineTask::Pass { segment, .. } => CODES * *segment + PASS,
         }
     }
+
+    /// Whether it is a leaf's.
+    fn is_leaf(&self) -> bool {
+        match self {
+            LineTask::Tree(task) => task.is_leaf(),
+            LineTask::Pass { .. } => false,
+        }
+    }
+
+    /// Whether it is a leaf's of this work that never ran, and on which no leaf before it has a bearing.
+    fn is_free<W: LeafWork>(&self, work: &W) -> bool {
+        match self {
+            LineTask::Tree(task) => task.is_free(work),
+            LineTask::Pass { .. } => false,
+        }
+    }
 }
 
 impl<T> LineDone<T> {
@@ -188,12 +206,24 @@ impl<W: LeafWork> LineJob<W> {
         self.task.code()
     }
 
-    /// Does the job. Where memory is refused the job is given back. Where a leaf's first run is thought to be its last, its tally
+    /// Whether it is a leaf's.
+    pub fn is_leaf(&self) -> bool {
+        self.task.is_leaf()
+    }
+
+    /// Whether it is a leaf's that never ran, and on which no leaf before it has a bearing.
+    pub fn is_free(&self) -> bool {
+        self.task.is_free(&*self.work)
+    }
+
+    /// Does the job. Where memory is refused the job is given back. A leaf's job keeps the bound of its work on moves, with
+    /// the tally that was captured as prior; the others make none. Where a leaf's first run is thought to be its last, its tally
     /// need not help a later one.
     pub fn work<L>(self, is_last: bool, moves: &mut Moves<L>) -> Result<LineOutput<W>, LineJob<W>>
         ensures work { IfOk result (λ output. output.work ≡ self.work) }
         ensures claim { IfOk result (λ output. claim_of_line_output output ≡ claim_of_line_job self) }
         ensures err { IfErr result (λ job. job ≡ self) }
+        ensures moves { IfSome (line_task_bound (W.bound self.work) self.task) (λ most. moves.new ≤ moves.old + most) }
         ensures rises { moves.old ≤ moves.new }
     {
         let LineJob { work, task } = self;
@@ -217,25 +247,56 @@ impl<W: LeafWork> LineJob<W> {
                 segment,
                 correction,
                 effect,
-            } => match Marks::stacked(&correction, &effect) {
-                Ok(next) => {
-                    let did = LineDone::Pass {
-                        segment,
-                        correction,
-                        effect,
-                        next,
-                    };
-                    Ok(LineOutput { work, did })
-                }
-                Err(_refused) => {
-                    let task = LineTask::Pass {
-                        segment,
-                        correction,
-                        effect,
-                    };
-                    Err(LineJob { work, task })
-                }
+            } => match pass_on(segment, correction, effect) {
+                Ok(did) => Ok(LineOutput { work, did }),
+                Err(task) => Err(LineJob { work, task }),
             },
+        }
+    }
+}
+
+/// What the Pass of a segment does: the root's correction, then its effect.
+fn pass_on<T>(segment: u32, correction: Marks, effect: Marks) -> Result<LineDone<T>, LineTask<T>>
+    ensures ok { IfOk result (λ did. did ≡ PassDone segment correction effect (and_then correction effect)) }
+    ensures err { IfErr result (λ task. task ≡ PassTask segment correction effect) }
+{
+    match Marks::stacked(&correction, &effect) {
+        Ok(next) => Ok(LineDone::Pass {
+            segment,
+            correction,
+            effect,
+            next,
+        }),
+        Err(_refused) => Err(LineTask::Pass {
+            segment,
+            correction,
+            effect,
+        }),
+    }
+}
+
+impl<W: LeafWork> LineOutput<W> {
+    /// How dear a leaf's run was, or None of another job.
+    pub fn weight(&self) -> Option<usize> {
+        match &self.did {
+            LineDone::Tree(did) => weight_of(&*self.work, did),
+            LineDone::Pass { .. } => None,
+        }
+    }
+
+    /// Whether most of what the leaf did hangs on its correction, or None of a free leaf and of another job.
+    pub fn is_tied(&self) -> Option<bool> {
+        match &self.did {
+            LineDone::Tree(did) => tie_of(&*self.work, did),
+            LineDone::Pass { .. } => None,
+        }
+    }
+
+    /// Whether it is a leaf's that had run before.
+    pub fn is_again(&self) -> bool {
+        match &self.did {
+            LineDone::Tree(did) => did.is_again(),
+            LineDone::Pass { .. } => false,
         }
     }
 }

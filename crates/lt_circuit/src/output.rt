@@ -2,7 +2,7 @@
 ghost use Rattle.std.specs.Arc.{arc_value};
 ghost use Rattle.lt_circuit.specs.Job.{OutputView, IsOutput};
 
-use crate::task::Done;
+use crate::task::{Done, tie_of, weight_of};
 use crate::work::LeafWork;
 use std::alloc::Global;
 use std::marker::Model;
@@ -26,33 +26,16 @@ impl<W: LeafWork> Model for Output<W> {
 impl<W: LeafWork> Output<W> {
     /// How dear a leaf's run was, or None of an inner job.
     pub fn weight(&self) -> Option<usize> {
-        match &self.did {
-            Done::Leaf { tally, .. } => Some(self.work.weight(&tally.tally)),
-            Done::Merge { .. } => None,
-            Done::Correct { .. } => None,
-        }
+        weight_of(&*self.work, &self.did)
     }
 
     /// Whether most of what the leaf did hangs on its correction, or None of a free leaf and of an inner job.
     pub fn is_tied(&self) -> Option<bool> {
-        match &self.did {
-            Done::Leaf { leaf, tally, .. } => {
-                if self.work.is_free(*leaf) {
-                    return None;
-                }
-                Some(self.work.is_tied(*leaf, &tally.tally))
-            }
-            Done::Merge { .. } => None,
-            Done::Correct { .. } => None,
-        }
+        tie_of(&*self.work, &self.did)
     }
 
     /// Whether it is a leaf's that had run before.
     pub fn is_again(&self) -> bool {
-        match &self.did {
-            Done::Leaf { prior, .. } => prior.is_some(),
-            Done::Merge { .. } => false,
-            Done::Correct { .. } => false,
-        }
+        self.did.is_again()
     }
 }

@@ -1,8 +1,12 @@
 //! Doing a job.
-ghost use Rattle.std.specs.Prelude.{◌≡◌, ◌+◌, ◌≤◌, List, IfOk, IfErr, IfSome};
+ghost use Rattle.std.specs.Prelude.{◌≡◌, ◌+◌, ◌≤◌, ◌∷◌, [], List, IfOk, IfErr, IfSome};
 ghost use Rattle.std.specs.Option.{option_map};
+ghost use Rattle.lt_model.specs.Marks.{and_then};
 ghost use Rattle.lt_model.specs.declared.mark.Mark.{Mark};
-ghost use Rattle.lt_circuit.specs.Job.{claim_of_job, claim_of_output, name_of_job, name_of_output, task_bound};
+ghost use Rattle.lt_net.specs.declared.job.JobName.TheVariants.{Leaf};
+ghost use Rattle.lt_circuit.specs.Job.{IsOutput, IsPrior, claim_of_job, claim_of_output, done_inputs, done_name, done_prior, name_of_job, name_of_output, prior_correction, task_bound};
+ghost use Rattle.lt_circuit.specs.declared.task.Done.TheVariants.{Merge as MergeDone, Correct as CorrectDone};
+ghost use Rattle.lt_circuit.specs.declared.task.Task.TheVariants.{Leaf as LeafTask, Merge as MergeTask, Correct as CorrectTask};
 
 use crate::job::Job;
 use crate::output::Output;
@@ -45,8 +49,8 @@ fn tally_of<W: LeafWork, L>(
     }
 }
 
-/// Runs a leaf.
-fn run_leaf<W: LeafWork, L>(
+/// The tally of a leaf on the correction, with what its output has beside it.
+fn run_on<W: LeafWork, L>(
     work: &W,
     leaf: u32,
     prior: Option<&W::Tally>,
@@ -73,6 +77,91 @@ fn run_leaf<W: LeafWork, L>(
     })
 }
 
+/// Runs a leaf. Where memory is refused the task is given back.
+fn run_leaf<W: LeafWork, L>(
+    work: &W,
+    leaf: u32,
+    correction: Marks,
+    prior: Option<Prior<W::Tally>>,
+    is_last: bool,
+    moves: &mut Moves<L>,
+) -> Result<Done<W::Tally>, Task<W::Tally>>
+    requires leaf { W.has work.now leaf }
+    requires correction { W.fits work.now correction }
+    requires prior { IsPrior (W.stands_for work.now) (W.fits work.now) leaf prior }
+    ensures name { IfOk result (λ did. done_name did ≡ Leaf leaf) }
+    ensures inputs { IfOk result (λ did. done_inputs did ≡ correction ∷ []) }
+    ensures prior { IfOk result (λ did. done_prior did ≡ prior_correction prior) }
+    ensures output { IfOk result (λ did. IsOutput (W.does work.now) (W.stands_for work.now) (W.fits work.now) did) }
+    ensures err { IfErr result (λ task. task ≡ LeafTask leaf correction prior) }
+    ensures moves { IfSome (W.bound work.now (option_map (λ p. p.tally) prior) leaf correction) (λ most. moves.new ≤ moves.old + most) }
+    ensures rises { moves.old ≤ moves.new }
+{
+    let old = match &prior {
+        Some(prior) => Some(&prior.tally),
+        None => None,
+    };
+    let made = run_on(work, leaf, old, &correction, is_last, moves);
+    match made {
+        Ok(ran) => {
+            let Ran {
+                tally,
+                kept,
+                effect,
+            } = ran;
+            let tally = Prior { tally, correction };
+            Ok(Done::Leaf {
+                leaf,
+                tally,
+                kept,
+                prior,
+                effect,
+            })
+        }
+        Err(_refused) => Err(Task::Leaf {
+            leaf,
+            correction,
+            prior,
+        }),
+    }
+}
+
+/// One effect of both. Where memory is refused the task is given back.
+fn merge<T>(node: u32, left: Marks, right: Marks) -> Result<Done<T>, Task<T>>
+    ensures ok { IfOk result (λ did. did ≡ MergeDone node left right (and_then left right)) }
+    ensures err { IfErr result (λ task. task ≡ MergeTask node left right) }
+{
+    match Marks::and_then(&left, &right) {
+        Ok(effect) => Ok(Done::Merge {
+            node,
+            left,
+            right,
+            effect,
+        }),
+        Err(_refused) => Err(Task::Merge { node, left, right }),
+    }
+}
+
+/// The correction of the right child. Where memory is refused the task is given back.
+fn correct<T>(node: u32, correction: Marks, left: Marks) -> Result<Done<T>, Task<T>>
+    ensures ok { IfOk result (λ did. did ≡ CorrectDone node correction left (and_then correction left)) }
+    ensures err { IfErr result (λ task. task ≡ CorrectTask node correction left) }
+{
+    match Marks::stacked(&correction, &left) {
+        Ok(to_right) => Ok(Done::Correct {
+            node,
+            correction,
+            left,
+            to_right,
+        }),
+        Err(_refused) => Err(Task::Correct {
+            node,
+            correction,
+            left,
+        }),
+    }
+}
+
 impl<W: LeafWork> Job<W> {
     /// Does the job. Where memory is refused the job is given back. A leaf's job keeps the bound of its work on moves, with
     /// the tally that was captured as prior; the others make none. Where a leaf's first run is thought to be its last, its tally
@@ -86,82 +175,22 @@ impl<W: LeafWork> Job<W> {
         ensures rises { moves.old ≤ moves.new }
     {
         let Job { work, task } = self;
-        match task {
+        let did = match task {
             Task::Leaf {
                 leaf,
                 correction,
                 prior,
-            } => {
-                let old = match &prior {
-                    Some(prior) => Some(&prior.tally),
-                    None => None,
-                };
-                let made = run_leaf(&*work, leaf, old, &correction, is_last, moves);
-                match made {
-                    Ok(ran) => {
-                        let Ran {
-                            tally,
-                            kept,
-                            effect,
-                        } = ran;
-                        let tally = Prior { tally, correction };
-                        let did = Done::Leaf {
-                            leaf,
-                            tally,
-                            kept,
-                            prior,
-                            effect,
-                        };
-                        Ok(Output { work, did })
-                    }
-                    Err(_refused) => {
-                        let task = Task::Leaf {
-                            leaf,
-                            correction,
-                            prior,
-                        };
-                        Err(Job { work, task })
-                    }
-                }
-            }
-            Task::Merge { node, left, right } => match Marks::and_then(&left, &right) {
-                Ok(effect) => {
-                    let did = Done::Merge {
-                        node,
-                        left,
-                        right,
-                        effect,
-                    };
-                    Ok(Output { work, did })
-                }
-                Err(_refused) => {
-                    let task = Task::Merge { node, left, right };
-                    Err(Job { work, task })
-                }
-            },
+            } => run_leaf(&*work, leaf, correction, prior, is_last, moves),
+            Task::Merge { node, left, right } => merge(node, left, right),
             Task::Correct {
                 node,
                 correction,
                 left,
-            } => match Marks::stacked(&correction, &left) {
-                Ok(to_right) => {
-                    let did = Done::Correct {
-                        node,
-                        correction,
-                        left,
-                        to_right,
-                    };
-                    Ok(Output { work, did })
-                }
-                Err(_refused) => {
-                    let task = Task::Correct {
-                        node,
-                        correction,
-                        left,
-                    };
-                    Err(Job { work, task })
-                }
-            },
+            } => correct(node, correction, left),
+        };
+        match did {
+            Ok(did) => Ok(Output { work, did }),
+            Err(task) => Err(Job { work, task }),
         }
     }
 }

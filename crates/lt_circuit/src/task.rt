@@ -5,6 +5,7 @@ ghost use Rattle.lt_circuit.specs.Board.{inputs_list};
 ghost use Rattle.lt_circuit.specs.Job.{arity, done_name, tallies_back, tallies_left, task_from, task_name};
 
 use crate::cells::Inputs;
+use crate::work::LeafWork;
 use lt_delta::Marks;
 use lt_net::JobName;
 
@@ -76,6 +77,24 @@ impl<T> Task<T> {
             Task::Correct { node, .. } => JobName::Correct(*node),
         }
     }
+
+    /// Whether it is a leaf's.
+    pub(crate) fn is_leaf(&self) -> bool {
+        match self {
+            Task::Leaf { .. } => true,
+            Task::Merge { .. } => false,
+            Task::Correct { .. } => false,
+        }
+    }
+
+    /// Whether it is a leaf's of this work that never ran, and on which no leaf before it has a bearing.
+    pub(crate) fn is_free<W: LeafWork>(&self, work: &W) -> bool {
+        match self {
+            Task::Leaf { leaf, prior, .. } => prior.is_none() && work.is_free(*leaf),
+            Task::Merge { .. } => false,
+            Task::Correct { .. } => false,
+        }
+    }
 }
 
 impl<T> Done<T> {
@@ -88,6 +107,38 @@ impl<T> Done<T> {
             Done::Merge { node, .. } => JobName::Merge(*node),
             Done::Correct { node, .. } => JobName::Correct(*node),
         }
+    }
+
+    /// Whether it is a leaf's that had run before.
+    pub(crate) fn is_again(&self) -> bool {
+        match self {
+            Done::Leaf { prior, .. } => prior.is_some(),
+            Done::Merge { .. } => false,
+            Done::Correct { .. } => false,
+        }
+    }
+}
+
+/// How dear a leaf's run was, or None of an inner job.
+pub(crate) fn weight_of<W: LeafWork>(work: &W, did: &Done<W::Tally>) -> Option<usize> {
+    match did {
+        Done::Leaf { tally, .. } => Some(work.weight(&tally.tally)),
+        Done::Merge { .. } => None,
+        Done::Correct { .. } => None,
+    }
+}
+
+/// Whether most of what the leaf did hangs on its correction, or None of a free leaf and of an inner job.
+pub(crate) fn tie_of<W: LeafWork>(work: &W, did: &Done<W::Tally>) -> Option<bool> {
+    match did {
+        Done::Leaf { leaf, tally, .. } => {
+            if work.is_free(*leaf) {
+                return None;
+            }
+            Some(work.is_tied(*leaf, &tally.tally))
+        }
+        Done::Merge { .. } => None,
+        Done::Correct { .. } => None,
     }
 }
 

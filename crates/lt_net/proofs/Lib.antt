@@ -17,7 +17,11 @@ pub mod Rounds
 pub mod Counts
 pub mod Reached
 pub mod Past
+pub mod Placed
 pub mod Lines
+pub mod RowPlaces
+pub mod SegmentNets
+pub mod RowClaims
 pub mod Rows
 pub mod Example
 pub mod AloneExample

@@ -15,8 +15,9 @@ use Rattle.lt_net.specs.Line.{AreSizes, effect_in, line_gives, line_inputs, line
 use Rattle.lt_net.specs.Alone.{IsAlone, all_events, claim_for, net_over, ran, run_all, run_events, run_if_pending}
 use Rattle.lt_net.specs.LineAlone.{in_segment, tree_in}
 use Rattle.lt_net.proofs.Inside.{job_inside}
-use Rattle.lt_net.proofs.Lines.{own_at, own_done, no_job, read_placed, unplaced_placed, written, leaf_within}
-use Rattle.lt_net.proofs.Rows.{has_same, same_at_placed}
+use Rattle.lt_net.proofs.Lines.{own_done, no_job}
+use Rattle.lt_net.proofs.Placed.{own_at, read_placed, unplaced_placed, written, leaf_within}
+use Rattle.lt_net.proofs.RowPlaces.{has_same, same_at_placed}
 use Rattle.lt_net.proofs.Runs.{cleared}
 use Rattle.lt_net.proofs.Shape.{eq_false, eq_true, lt_false, lt_tells, lt_true}
 

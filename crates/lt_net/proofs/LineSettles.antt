@@ -16,7 +16,8 @@ use Rattle.lt_net.specs.LineAlone.{in_segment, line_bound, line_jobs, round_jobs
 use Rattle.lt_net.proofs.Counts.{alone_length, events_append, no_events, run_length}
 use Rattle.lt_net.proofs.Inside.{none_reads}
 use Rattle.lt_net.proofs.LineRuns.{low_status, runs_are, runs_long, tree_alone}
-use Rattle.lt_net.proofs.Lines.{code_back, feeds, line_is_net, line_kept, pass_at, segment_at, segment_of}
+use Rattle.lt_net.proofs.Lines.{feeds, line_is_net, line_kept}
+use Rattle.lt_net.proofs.Placed.{code_back, pass_at, segment_at, segment_of}
 use Rattle.lt_net.proofs.Rounds.{IsLowest, lowest_is, rounds_settle}
 use Rattle.lt_net.proofs.Runs.{IsUnread, all_alone, all_replay, run_alone, run_append, run_clean, run_keeps}
 use Rattle.lt_net.proofs.Shape.{lt_false, lt_tells}

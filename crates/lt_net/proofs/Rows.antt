@@ -1,218 +1,24 @@
 -- What an event does to one segment's state it does to the line's.
-use Rattle.std.proofs.Common.{◌≡◌, ℕ, zero, suc, ◌+◌, ◌*◌, ◌/◌, ◌%◌, ◌<◌, ◌≢◌, ◌||◌, ◌&&◌, inl, inr, Bool, true, false, List, [], ◌∷◌, map, Option, Some, None, refl, sym, ap, ◌∙◌, arith}
+use Rattle.std.proofs.Common.{◌≡◌, ℕ, ◌+◌, ◌*◌, ◌<◌, ◌≢◌, ◌||◌, inl, inr, Bool, true, false, List, [], ◌∷◌, map, Option, Some, None, refl, sym, ap, ◌∙◌, arith}
 use Rattle.std.specs.Prelude.{if◌then◌else◌, ◌==◌}
 use Rattle.std.proofs.lemmas.Bool.Decides.{eqb_tells}
 use Rattle.lt_model.specs.declared.mark.Mark.{Mark}
 use Rattle.lt_model.specs.Marks.{and_then}
-use Rattle.lt_net.specs.Same.{same_marks}
 use Rattle.lt_net.specs.declared.job.JobState.{JobState}
 use Rattle.lt_net.specs.declared.job.JobState.TheVariants.{Clean, Pending, Running}
-use Rattle.lt_net.specs.Net.{Cell, Correction, Effect, State, Claim, same_cell, has_cell, update, read, first_of, second_of, same_at, woken, ended, value_after, status_ended, claimed, finished, abandoned, opening}
-use Rattle.lt_net.specs.Tree.{tree_of, inputs_of, outputs_of, gives_of, is_leaf_job}
-use Rattle.lt_net.specs.Codes.{job_of}
-use Rattle.lt_net.specs.Line.{Own, Pass, AreSizes, effect_in, hands_on, line_gives, line_inputs, line_job, line_leaf, line_net, line_outputs, line_starts, placed, size_in}
-use Rattle.lt_net.specs.Row.{segment_net, segment_in, cell_in, lifted, claim_or, row_claim, row_state, given_root, pass_closed, with_pass, with_part, HasNoOther}
+use Rattle.lt_net.specs.Net.{Cell, Correction, State, Claim, same_cell, has_cell, update, read, first_of, second_of, same_at, woken, ended, value_after, status_ended, claimed, finished, abandoned, opening}
+use Rattle.lt_net.specs.Line.{AreSizes, hands_on, line_gives, line_job, line_leaf, line_net, line_outputs, placed}
+use Rattle.lt_net.specs.Row.{segment_net, lifted, claim_or, row_claim, row_state, given_root, pass_closed, with_pass, with_part, HasNoOther}
 use Rattle.lt_net.proofs.Kept.{at_update, update_same}
-use Rattle.lt_net.proofs.Shape.{eq_false, eq_true}
-use Rattle.lt_net.proofs.Cells.{same_each, first_has, later_has}
-use Rattle.lt_net.proofs.Jobs.{has_one, has_two}
-use Rattle.lt_net.proofs.Lines.{node_at, at_code, own_at, pass_at, placed_same, placed_in, read_placed, unplaced_placed, written, read_within}
-
--- ---- places
-
-segment_back : (s : ℕ) (y : Cell) → node_at y < 512 → segment_in (placed s y) ≡ s
-segment_back s (Correction v) h = omega (arith, h)
-segment_back s (Effect v) h = omega (arith, h)
-
-cell_back : (s : ℕ) (y : Cell) → node_at y < 512 → cell_in (placed s y) ≡ y
-cell_back s (Correction v) h = let e : (512 * s + v) % 512 ≡ v = omega (arith, h) in ap Correction e
-cell_back s (Effect v) h = let e : (512 * s + v) % 512 ≡ v = omega (arith, h) in ap Effect e
-
-place_of : (x : Cell) → placed (segment_in x) (cell_in x) ≡ x
-place_of (Correction u) = let e : 512 * (u / 512) + u % 512 ≡ u = omega arith in ap Correction e
-place_of (Effect u) = let e : 512 * (u / 512) + u % 512 ≡ u = omega arith in ap Effect e
-
-inside_cell : (x : Cell) → node_at (cell_in x) < 512
-inside_cell (Correction u) = omega arith
-inside_cell (Effect u) = omega arith
-
-code_back : (code : ℕ) → 2048 * (code / 2048) + code % 2048 ≡ code
-code_back code = omega arith
-
-code_segment : (s c : ℕ) → c < 2048 → (2048 * s + c) / 2048 ≡ s
-code_segment s c h = omega (arith, h)
-
-code_place : (s c : ℕ) → c < 2048 → (2048 * s + c) % 2048 ≡ c
-code_place s c h = omega (arith, h)
-
--- ---- a fact of all cells and codes of a line is one of those of each segment
-
-by_cells : (f g : Cell → List Mark) → ((s : ℕ) (y : Cell) → node_at y < 512 → f (placed s y) ≡ g (placed s y)) → f ≡ g
-by_cells f g h = λ i x. (ap f (sym (place_of x)) ∙ h (segment_in x) (cell_in x) (inside_cell x) ∙ ap g (place_of x)) i
-
-by_codes : {X : Type 0} (f g : ℕ → X) → ((s c : ℕ) → c < 2048 → f (2048 * s + c) ≡ g (2048 * s + c)) → f ≡ g
-by_codes f g h = λ i code. (ap f (sym (code_back code)) ∙ h (code / 2048) (code % 2048) (omega arith) ∙ ap g (code_back code)) i
-
--- ---- cells of one segment
-
-same_placed_cell : (s : ℕ) (y z : Cell) → same_cell (placed s y) (placed s z) ≡ same_cell y z
-same_placed_cell s (Correction v) (Correction w) = shifted v w
-  where
-    shifted : (v w : ℕ) → (512 * s + v == 512 * s + w) ≡ (v == w)
-    shifted v w = elim (eqb_tells v w) [
-      | inl h ↦ ap (λ n. 512 * s + v == 512 * s + n) (sym h.1) ∙ eq_true (512 * s + v) ∙ sym h.0
-      | inr h ↦ eq_false (512 * s + v) (512 * s + w) (λ e. h.1 (omega (arith, e))) ∙ sym h.0
-    ]
-same_placed_cell s (Effect v) (Effect w) = shifted v w
-  where
-    shifted : (v w : ℕ) → (512 * s + v == 512 * s + w) ≡ (v == w)
-    shifted v w = elim (eqb_tells v w) [
-      | inl h ↦ ap (λ n. 512 * s + v == 512 * s + n) (sym h.1) ∙ eq_true (512 * s + v) ∙ sym h.0
-      | inr h ↦ eq_false (512 * s + v) (512 * s + w) (λ e. h.1 (omega (arith, e))) ∙ sym h.0
-    ]
-same_placed_cell s (Correction v) (Effect w) = refl
-same_placed_cell s (Effect v) (Correction w) = refl
-
-pub has_same : (s : ℕ) (y : Cell) (cs : List Cell) → has_cell (placed s y) (map (placed s) cs) ≡ has_cell y cs
-has_same s y [] = refl
-has_same s y (c ∷ cs) = λ i. same_placed_cell s y c i || has_same s y cs i
-
--- cells below 512
-abbrev pub AreLow : List Cell → Type 0
-AreLow cs = (y : Cell) → has_cell y cs ≡ true → node_at y < 512
-
-has_other : (s r : ℕ) → r ≢ s → (y : Cell) → node_at y < 512 → (cs : List Cell) → AreLow cs → has_cell (placed r y) (map (placed s) cs) ≡ false
-has_other s r ne y low cs h = by_case (has_cell (placed r y) (map (placed s) cs)) refl
-  where
-    by_case : (b : Bool) → has_cell (placed r y) (map (placed s) cs) ≡ b → b ≡ false
-    by_case true e =
-        let z = placed_in s (placed r y) cs e in
-        absurd (ne (placed_same r s y z.0 low (h z.0 z.2) z.1).0)
-    by_case false e = refl
-
-pub same_at_placed : (f g : Cell → List Mark) (s : ℕ) (cs : List Cell) → same_at f g (map (placed s) cs) ≡ same_at (λ y. f (placed s y)) (λ y. g (placed s y)) cs
-same_at_placed f g s [] = refl
-same_at_placed f g s (c ∷ cs) = ap (λ b. same_marks (f (placed s c)) (g (placed s c)) && b) (same_at_placed f g s cs)
-
-same_at_alike : (f g h k : Cell → List Mark) (cs : List Cell) → ((y : Cell) → has_cell y cs ≡ true → f y ≡ h y) → ((y : Cell) → has_cell y cs ≡ true → g y ≡ k y) → same_at f g cs ≡ same_at h k cs
-same_at_alike f g h k [] p q = refl
-same_at_alike f g h k (c ∷ cs) p q =
-    let a : f c ≡ h c = p c (first_has c cs) in
-    let b : g c ≡ k c = q c (first_has c cs) in
-    let rest : same_at f g cs ≡ same_at h k cs = same_at_alike f g h k cs (λ y e. p y (later_has y c cs e)) (λ y e. q y (later_has y c cs e)) in
-    λ i. same_marks (a i) (b i) && rest i
-
-read_alike : (f g : Cell → List Mark) (cs : List Cell) → ((y : Cell) → has_cell y cs ≡ true → f y ≡ g y) → read f cs ≡ read g cs
-read_alike f g [] p = refl
-read_alike f g (c ∷ cs) p =
-    let a : f c ≡ g c = p c (first_has c cs) in
-    let rest : read f cs ≡ read g cs = read_alike f g cs (λ y e. p y (later_has y c cs e)) in
-    λ i. a i ∷ rest i
-
--- ---- claims
-
-module _ (parts : ℕ → State) (w : ℕ) where
-  pub row_claim_none : (count : ℕ) → ((r : ℕ) → r < count → (parts r).claim w ≡ None) → row_claim count parts w ≡ None
-  row_claim_none zero h = refl
-  row_claim_none (suc s) h =
-      ap (λ o. claim_or s o (row_claim s parts w)) (h s (omega arith)) ∙ row_claim_none s (λ r lt. h r (omega arith))
-
-  none_of : (s : ℕ) (o other : Option Claim) → claim_or s o other ≡ None → (o ≡ None) × (other ≡ None)
-  none_of s None other e = (refl, e)
-  none_of s (Some c) other e = cc
-
-  -- a worker without a claim has none in any segment
-  pub row_claim_free : (count : ℕ) → row_claim count parts w ≡ None → (r : ℕ) → r < count → (parts r).claim w ≡ None
-  row_claim_free zero e r lt = absurd (omega arith)
-  row_claim_free (suc s) e r lt =
-      let h = none_of s ((parts s).claim w) (row_claim s parts w) e in
-      elim (eqb_tells r s) [
-        | inl g ↦ ap (λ n. (parts n).claim w) g.1 ∙ h.0
-        | inr g ↦ row_claim_free s h.1 r (omega (arith, lt, g.1))
-      ]
-
-  -- a worker with a claim in one segment alone
-  pub row_claim_one : (count s : ℕ) (c : Claim) → s < count → (parts s).claim w ≡ Some c → ((r : ℕ) → r < count → r ≢ s → (parts r).claim w ≡ None) → row_claim count parts w ≡ Some (lifted s c)
-  row_claim_one zero s c lt e h = absurd (omega arith)
-  row_claim_one (suc n) s c lt e h = elim (eqb_tells n s) [
-    | inl g ↦
-        let here : (parts n).claim w ≡ Some c = ap (λ m. (parts m).claim w) g.1 ∙ e in
-        ap (λ o. claim_or n o (row_claim n parts w)) here ∙ ap (λ m. Some (lifted m c)) g.1
-    | inr g ↦
-        ap (λ o. claim_or n o (row_claim n parts w)) (h n (omega arith) g.1)
-        ∙ row_claim_one n s c (omega (arith, lt, g.1)) e (λ r below ne. h r (omega (arith, below)) ne)
-  ]
-
-pub row_claim_same : (parts others : ℕ → State) (v count : ℕ) → ((r : ℕ) → r < count → (parts r).claim v ≡ (others r).claim v) → row_claim count parts v ≡ row_claim count others v
-row_claim_same parts others v zero h = refl
-row_claim_same parts others v (suc s) h =
-    let here : (parts s).claim v ≡ (others s).claim v = h s (omega arith) in
-    let rest : row_claim s parts v ≡ row_claim s others v = row_claim_same parts others v s (λ r lt. h r (omega (arith, lt))) in
-    λ i. claim_or s (here i) (rest i)
-
--- ---- the line's net by its segments
+use Rattle.lt_net.proofs.Shape.{eq_false}
+use Rattle.lt_net.proofs.Cells.{same_each}
+use Rattle.lt_net.proofs.Jobs.{has_one}
+use Rattle.lt_net.proofs.Placed.{node_at, pass_at, read_placed}
+use Rattle.lt_net.proofs.RowPlaces.{segment_back, cell_back, code_segment, code_place, by_cells, by_codes, has_same, AreLow, has_other, same_at_placed, same_at_alike, read_alike}
+use Rattle.lt_net.proofs.SegmentNets.{inputs_at, outputs_at, gives_at, leaf_at, starts_at, low_inputs, low_outputs}
+use Rattle.lt_net.proofs.RowClaims.{row_claim_same, row_claim_none, row_claim_free, row_claim_one}
 
 module _ (effect : ℕ → List Mark → List Mark) (sizes : List ℕ) (small : AreSizes sizes) where
-  not_pass : (c : ℕ) → c < 2047 → (c == 2047) ≡ false
-  not_pass c h = eq_false c 2047 (λ e. omega (arith, e, h))
-
-  pub inputs_at : (s c : ℕ) → c < 2048 → (line_net effect sizes).inputs (2048 * s + c) ≡ map (placed s) ((segment_net effect sizes s).inputs c)
-  inputs_at s c h =
-      ap (line_inputs sizes) (at_code s c h) ∙ by_case (c == 2047)
-    where
-      pass_reads : (b : Bool) → (if b then placed s (Correction 0) ∷ placed s (Effect 0) ∷ [] else []) ≡ map (placed s) (if b then Correction 0 ∷ Effect 0 ∷ [] else [])
-      pass_reads true = refl
-      pass_reads false = refl
-
-      by_case : (b : Bool) → line_inputs sizes (if b then Pass s else Own s (job_of c))
-          ≡ map (placed s) (if b then (if hands_on sizes s then Correction 0 ∷ Effect 0 ∷ [] else []) else inputs_of (tree_of (size_in sizes s)) (job_of c))
-      by_case true = pass_reads (hands_on sizes s)
-      by_case false = refl
-
-  outputs_at : (s c : ℕ) → c < 2047 → (line_net effect sizes).outputs (2048 * s + c) ≡ map (placed s) ((segment_net effect sizes s).outputs c)
-  outputs_at s c h =
-      ap (line_outputs sizes) (own_at s c h)
-      ∙ ap (λ b. map (placed s) (if b then [] else outputs_of (tree_of (size_in sizes s)) (job_of c))) (sym (not_pass c h))
-
-  gives_at : (s c : ℕ) (ins : List (List Mark)) (y : Cell) → c < 2047 → (line_net effect sizes).gives (2048 * s + c) ins (placed s y) ≡ (segment_net effect sizes s).gives c ins y
-  gives_at s c ins y h =
-      ap (λ a. line_gives effect a ins (placed s y)) (own_at s c h) ∙ ap (gives_of (effect_in effect s) (job_of c) ins) (unplaced_placed s y)
-
-  leaf_at : (s c : ℕ) → c < 2048 → (line_net effect sizes).is_leaf (2048 * s + c) ≡ (segment_net effect sizes s).is_leaf c
-  leaf_at s c h = ap (line_leaf sizes) (at_code s c h) ∙ by_case (c == 2047)
-    where
-      by_case : (b : Bool) → line_leaf sizes (if b then Pass s else Own s (job_of c)) ≡ (if b then false else is_leaf_job (tree_of (size_in sizes s)) (job_of c))
-      by_case true = refl
-      by_case false = refl
-
-  starts_at : (s c : ℕ) → c < 2048 → (line_net effect sizes).starts (2048 * s + c) ≡ (segment_net effect sizes s).starts c
-  starts_at s c h = ap (line_starts sizes) (at_code s c h) ∙ by_case (c == 2047)
-    where
-      by_case : (b : Bool) → line_starts sizes (if b then Pass s else Own s (job_of c)) ≡ (if b then hands_on sizes s else is_leaf_job (tree_of (size_in sizes s)) (job_of c))
-      by_case true = refl
-      by_case false = refl
-
-  low_inputs : (s c : ℕ) → AreLow ((segment_net effect sizes s).inputs c)
-  low_inputs s c y e = by_case (c == 2047) e
-    where
-      of_pass : (b : Bool) → has_cell y (if b then Correction 0 ∷ Effect 0 ∷ [] else []) ≡ true → node_at y < 512
-      of_pass true f = elim (has_two y (Correction 0) (Effect 0) f) [
-        | inl h ↦ let z : node_at y ≡ 0 = ap node_at h in omega (arith, z)
-        | inr h ↦ let z : node_at y ≡ 0 = ap node_at h in omega (arith, z)
-      ]
-      of_pass false f = cc
-
-      by_case : (b : Bool) → has_cell y (if b then (if hands_on sizes s then Correction 0 ∷ Effect 0 ∷ [] else []) else inputs_of (tree_of (size_in sizes s)) (job_of c)) ≡ true → node_at y < 512
-      by_case true f = of_pass (hands_on sizes s) f
-      by_case false f = let b = small.few s in let r = read_within (size_in sizes s) (job_of c) y f in omega (arith, r, b)
-
-  low_outputs : (s c : ℕ) → AreLow ((segment_net effect sizes s).outputs c)
-  low_outputs s c y e = by_case (c == 2047) e
-    where
-      by_case : (b : Bool) → has_cell y (if b then [] else outputs_of (tree_of (size_in sizes s)) (job_of c)) ≡ true → node_at y < 512
-      by_case true f = cc
-      by_case false f = let b = small.few s in let r = (written (size_in sizes s) (job_of c) y f).node in omega (arith, r, b)
-
   -- ---- the opening
 
   module _ (count : ℕ) where
@@ -224,7 +30,7 @@ module _ (effect : ℕ → List Mark → List Mark) (sizes : List ℕ) (small : 
         let status : (row_state count (λ s. opening (segment_net effect sizes s))).status ≡ (opening (line_net effect sizes)).status =
         by_codes (row_state count (λ s. opening (segment_net effect sizes s))).status (opening (line_net effect sizes)).status (λ s c h.
         (λ i. if (segment_net effect sizes (code_segment s c h i)).starts (code_place s c h i) then Pending else Clean)
-        ∙ ap (λ b. if b then Pending else Clean) (sym (starts_at s c h))) in
+        ∙ ap (λ b. if b then Pending else Clean) (sym (starts_at effect sizes small s c h))) in
         λ i. record { value = λ x. []; status = status i; done = λ j. None; claim = λ w. opening_claim count w i }
 
     -- ---- one segment's state is another
@@ -241,9 +47,9 @@ module _ (effect : ℕ → List Mark → List Mark) (sizes : List ℕ) (small : 
 
       pub row_read : (s c : ℕ) → c < 2048 → read (row_state count parts).value ((line_net effect sizes).inputs (2048 * s + c)) ≡ read (parts s).value ((segment_net effect sizes s).inputs c)
       row_read s c h =
-          ap (read (row_state count parts).value) (inputs_at s c h)
+          ap (read (row_state count parts).value) (inputs_at effect sizes small s c h)
           ∙ read_placed (row_state count parts).value s ((segment_net effect sizes s).inputs c)
-          ∙ read_alike (λ y. (row_state count parts).value (placed s y)) (parts s).value ((segment_net effect sizes s).inputs c) (λ y e. row_value s y (low_inputs s c y e))
+          ∙ read_alike (λ y. (row_state count parts).value (placed s y)) (parts s).value ((segment_net effect sizes s).inputs c) (λ y e. row_value s y (low_inputs effect sizes small s c y e))
 
     module _ (parts : ℕ → State) (s : ℕ) (lt : s < count) (t : State) where
       here : with_part parts s t s ≡ t
@@ -396,15 +202,15 @@ module _ (effect : ℕ → List Mark → List Mark) (sizes : List ℕ) (small : 
         after_value r y h = elim (eqb_tells r s) [
           | inl e ↦
               let writes : has_cell (placed s y) ((line_net effect sizes).outputs (2048 * s + c.job)) ≡ has_cell y ((segment_net effect sizes s).outputs c.job) =
-              ap (has_cell (placed s y)) (outputs_at s c.job own) ∙ has_same s y ((segment_net effect sizes s).outputs c.job) in
-              let given : (line_net effect sizes).gives (2048 * s + c.job) c.inputs (placed s y) ≡ (segment_net effect sizes s).gives c.job c.inputs y = gives_at s c.job c.inputs y own in
+              ap (has_cell (placed s y)) (outputs_at effect sizes small s c.job own) ∙ has_same s y ((segment_net effect sizes s).outputs c.job) in
+              let given : (line_net effect sizes).gives (2048 * s + c.job) c.inputs (placed s y) ≡ (segment_net effect sizes s).gives c.job c.inputs y = gives_at effect sizes small s c.job c.inputs y own in
               let stood : (row_state count parts).value (placed s y) ≡ (parts s).value y = row_value parts s y h in
               ap (λ n. value_after (line_net effect sizes) (row_state count parts) (lifted s c) (placed n y)) e.1
               ∙ (λ i. if writes i then given i else stood i)
               ∙ ap (λ b. if b then value_after (segment_net effect sizes s) (parts s) c y else (parts r).value y) (sym e.0)
           | inr e ↦
               let writes : has_cell (placed r y) ((line_net effect sizes).outputs (2048 * s + c.job)) ≡ false =
-              ap (has_cell (placed r y)) (outputs_at s c.job own) ∙ has_other s r e.1 y h ((segment_net effect sizes s).outputs c.job) (low_outputs s c.job) in
+              ap (has_cell (placed r y)) (outputs_at effect sizes small s c.job own) ∙ has_other s r e.1 y h ((segment_net effect sizes s).outputs c.job) (low_outputs effect sizes small s c.job) in
               ap (λ b. if b then (line_net effect sizes).gives (2048 * s + c.job) c.inputs (placed r y) else (row_state count parts).value (placed r y)) writes
               ∙ row_value parts r y h
               ∙ ap (λ b. if b then value_after (segment_net effect sizes s) (parts s) c y else (parts r).value y) (sym e.0)
@@ -415,19 +221,19 @@ module _ (effect : ℕ → List Mark → List Mark) (sizes : List ℕ) (small : 
             → same_at (row_state count parts).value (value_after (line_net effect sizes) (row_state count parts) (lifted s c)) ((line_net effect sizes).inputs (2048 * r + d))
             ≡ update (λ n. true) s (same_at (parts s).value (value_after (segment_net effect sizes s) (parts s) c) ((segment_net effect sizes s).inputs d)) r
         after_same r d h =
-            ap (same_at (row_state count parts).value (value_after (line_net effect sizes) (row_state count parts) (lifted s c))) (inputs_at r d h)
+            ap (same_at (row_state count parts).value (value_after (line_net effect sizes) (row_state count parts) (lifted s c))) (inputs_at effect sizes small r d h)
             ∙ same_at_placed (row_state count parts).value (value_after (line_net effect sizes) (row_state count parts) (lifted s c)) r ((segment_net effect sizes r).inputs d)
             ∙ elim (eqb_tells r s) [
               | inl e ↦
                   ap (λ n. same_at (λ y. (row_state count parts).value (placed n y)) (λ y. value_after (line_net effect sizes) (row_state count parts) (lifted s c) (placed n y)) ((segment_net effect sizes n).inputs d)) e.1
                   ∙ same_at_alike (λ y. (row_state count parts).value (placed s y)) (λ y. value_after (line_net effect sizes) (row_state count parts) (lifted s c) (placed s y))
                   (parts s).value (value_after (segment_net effect sizes s) (parts s) c) ((segment_net effect sizes s).inputs d)
-                  (λ y g. row_value parts s y (low_inputs s d y g))
-                  (λ y g. after_value s y (low_inputs s d y g) ∙ update_same (λ n. (parts n).value y) s (value_after (segment_net effect sizes s) (parts s) c y))
+                  (λ y g. row_value parts s y (low_inputs effect sizes small s d y g))
+                  (λ y g. after_value s y (low_inputs effect sizes small s d y g) ∙ update_same (λ n. (parts n).value y) s (value_after (segment_net effect sizes s) (parts s) c y))
                   ∙ ap (λ b. if b then same_at (parts s).value (value_after (segment_net effect sizes s) (parts s) c) ((segment_net effect sizes s).inputs d) else true) (sym e.0)
               | inr e ↦
                   same_each (λ y. (row_state count parts).value (placed r y)) (λ y. value_after (line_net effect sizes) (row_state count parts) (lifted s c) (placed r y)) ((segment_net effect sizes r).inputs d)
-                  (λ y g. row_value parts r y (low_inputs r d y g) ∙ stays y r e.0 ∙ sym (after_value r y (low_inputs r d y g)))
+                  (λ y g. row_value parts r y (low_inputs effect sizes small r d y g) ∙ stays y r e.0 ∙ sym (after_value r y (low_inputs effect sizes small r d y g)))
                   ∙ ap (λ b. if b then same_at (parts s).value (value_after (segment_net effect sizes s) (parts s) c) ((segment_net effect sizes s).inputs d) else true) (sym e.0)
             ]
           where
@@ -480,7 +286,7 @@ module _ (effect : ℕ → List Mark → List Mark) (sizes : List ℕ) (small : 
         after_done : (row_state count (with_part parts s after)).done ≡ (finished (line_net effect sizes) (row_state count parts) w (lifted s c)).done
         after_done =
             by_case ((segment_net effect sizes s).is_leaf c.job) refl
-            ∙ ap (λ b. if b then update (row_state count parts).done (2048 * s + c.job) (Some (first_of c.inputs)) else (row_state count parts).done) (sym (leaf_at s c.job (omega (arith, own))))
+            ∙ ap (λ b. if b then update (row_state count parts).done (2048 * s + c.job) (Some (first_of c.inputs)) else (row_state count parts).done) (sym (leaf_at effect sizes small s c.job (omega (arith, own))))
           where
             by_case : (b : Bool) → (segment_net effect sizes s).is_leaf c.job ≡ b
                 → (row_state count (with_part parts s after)).done ≡ (if (segment_net effect sizes s).is_leaf c.job then update (row_state count parts).done (2048 * s + c.job) (Some (first_of c.inputs)) else (row_state count parts).done)
@@ -591,19 +397,19 @@ module _ (effect : ℕ → List Mark → List Mark) (sizes : List ℕ) (small : 
         pass_same : (r d : ℕ) → d < 2048
             → same_at (row_state count parts).value line_after ((line_net effect sizes).inputs (2048 * r + d)) ≡ update (λ n. true) (s + 1) (next_same d) r
         pass_same r d h =
-            ap (same_at (row_state count parts).value line_after) (inputs_at r d h)
+            ap (same_at (row_state count parts).value line_after) (inputs_at effect sizes small r d h)
             ∙ same_at_placed (row_state count parts).value line_after r ((segment_net effect sizes r).inputs d)
             ∙ elim (eqb_tells r (s + 1)) [
               | inl e ↦
                   ap (λ n. same_at (λ y. (row_state count parts).value (placed n y)) (λ y. line_after (placed n y)) ((segment_net effect sizes n).inputs d)) e.1
                   ∙ same_at_alike (λ y. (row_state count parts).value (placed (s + 1) y)) (λ y. line_after (placed (s + 1) y))
                   (parts (s + 1)).value new_value ((segment_net effect sizes (s + 1)).inputs d)
-                  (λ y g. row_value parts (s + 1) y (low_inputs (s + 1) d y g))
-                  (λ y g. pass_value (s + 1) y (low_inputs (s + 1) d y g) ∙ update_same (λ n. (parts n).value y) (s + 1) (new_value y))
+                  (λ y g. row_value parts (s + 1) y (low_inputs effect sizes small (s + 1) d y g))
+                  (λ y g. pass_value (s + 1) y (low_inputs effect sizes small (s + 1) d y g) ∙ update_same (λ n. (parts n).value y) (s + 1) (new_value y))
                   ∙ ap (λ b. if b then next_same d else true) (sym e.0)
               | inr e ↦
                   same_each (λ y. (row_state count parts).value (placed r y)) (λ y. line_after (placed r y)) ((segment_net effect sizes r).inputs d)
-                  (λ y g. row_value parts r y (low_inputs r d y g) ∙ stays y r e.0 ∙ sym (pass_value r y (low_inputs r d y g)))
+                  (λ y g. row_value parts r y (low_inputs effect sizes small r d y g) ∙ stays y r e.0 ∙ sym (pass_value r y (low_inputs effect sizes small r d y g)))
                   ∙ ap (λ b. if b then next_same d else true) (sym e.0)
             ]
           where

@@ -14,7 +14,7 @@ ghost use Rattle.lt_circuit.specs.Row.{most_segments, sizes};
 ghost use Rattle.lt_circuit.specs.Shape.{IsLaterBy};
 
 use super::Line;
-use crate::claim::LineThis;
+use crate::claim::This;
 use crate::work::LeafWork;
 use lt_face::{Moves, NoMemory};
 use lt_net::{JobName, nodes_over};
@@ -27,7 +27,7 @@ const CODES: u32 = 2048;
 
 impl<W: LeafWork> Line<W> {
     /// How many segments there are.
-    fn segment_count(&self) -> u32
+    pub fn segment_count(&self) -> u32
         ensures value { result ≡ length (sizes self.now.row) }
         ensures small { result ≤ most_segments }
         ensures sizes { AreSizes (sizes self.now.row) }
@@ -56,9 +56,9 @@ impl<W: LeafWork> Line<W> {
         ensures few { length (map line_event self.new.journal) ≤ length (map line_event self.old.journal) + length (all_events (line_shape_net (line_shape W.does self.old)) (line_state self.old) (code ∷ [])) }
     {
         match self.claim_this(0, code) {
-            LineThis::NotPending => Ok(()),
-            LineThis::NoMemory => Err(NoMemory),
-            LineThis::Job(job) => {
+            This::NotPending => Ok(()),
+            This::NoMemory => Err(NoMemory),
+            This::Job(job) => {
                 let mut moves: Moves<()> = Moves::new();
                 match job.work(true, &mut moves) {
                     Ok(output) => {

@@ -9,7 +9,7 @@ ghost use Rattle.lt_circuit.specs.LineClaiming.{IsLineAnswer, IsLineClaimed, IsL
 ghost use Rattle.lt_circuit.specs.LineJob.{claim_of_line_job};
 
 use super::{Line, LineEntry};
-use crate::claim::{LineClaim, LineThis};
+use crate::claim::{Claim, This};
 use crate::claims::share_work;
 use crate::entry::Event;
 use crate::line_job::{LineJob, take_line_task};
@@ -49,17 +49,24 @@ impl<W: LeafWork> Line<W> {
         self.row.is_pending(code)
     }
 
-    // The code of a Pending job for the worker, if any: one of the first segment that has one, and there the Pass comes last.
+    // The code of a Pending job for the worker, if any: one of the first segment that has one, and there the Pass comes last. Others
+    // than worker 0 first take leaves of any segment that hang on none before them.
     fn next_pending(&mut self, worker: u32) -> Option<u32>
         ensures same { self.new ≡ self.old }
         ensures some { IfSome result (λ code. (line_state self.old).status code ≡ Pending) }
         ensures none { result ≡ None → (code : ℕ) → (line_state self.old).status code ≢ Pending }
     {
+        if worker > 0 {
+            if let Some(code) = self.free_leaf() {
+                return Some(code);
+            }
+        }
         self.row.next_pending(worker)
     }
 
     /// Claims a job that is Pending, if any: one of the first segment that has one, its Pass where no other job of it is Pending.
-    pub fn claim(&mut self, worker: u32) -> LineClaim<W>
+    /// Others than worker 0 first take leaves of any segment that hang on none before them.
+    pub fn claim(&mut self, worker: u32) -> Claim<LineJob<W>>
         requires worker { worker < most_workers }
         requires free { (line_state self.old).claim worker ≡ None }
         ensures answer { IsLineAnswer (W.does self.old.work) self.old self.new worker result }
@@ -67,32 +74,32 @@ impl<W: LeafWork> Line<W> {
     {
         match self.next_pending(worker) {
             Some(code) => match self.take(worker, code) {
-                Ok(job) => LineClaim::Job(job),
-                Err(_refused) => LineClaim::NoMemory,
+                Ok(job) => Claim::Job(job),
+                Err(_refused) => Claim::NoMemory,
             },
             None => {
                 let in_flight = self.in_flight();
                 if in_flight == 0 {
-                    LineClaim::Settled
+                    Claim::Settled
                 } else {
-                    LineClaim::Busy { in_flight }
+                    Claim::Busy { in_flight }
                 }
             }
         }
     }
 
     /// Claims the job of this code, if it is Pending.
-    pub fn claim_this(&mut self, worker: u32, code: u32) -> LineThis<W>
+    pub fn claim_this(&mut self, worker: u32, code: u32) -> This<LineJob<W>>
         requires worker { worker < most_workers }
         requires free { (line_state self.old).claim worker ≡ None }
         ensures { IsLineThis (W.does self.old.work) self.old self.new worker code result }
     {
         if !self.is_pending(code) {
-            return LineThis::NotPending;
+            return This::NotPending;
         }
         match self.take(worker, code) {
-            Ok(job) => LineThis::Job(job),
-            Err(_refused) => LineThis::NoMemory,
+            Ok(job) => This::Job(job),
+            Err(_refused) => This::NoMemory,
         }
     }
 }

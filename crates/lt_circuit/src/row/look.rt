@@ -98,6 +98,13 @@ impl Row {
         self.segments[s as usize].leaves()
     }
 
+    /// Whether the leaf of segment s is Pending and never ran.
+    pub fn is_fresh(&self, s: u32, leaf: u32) -> bool
+        requires { s < length self.now }
+    {
+        self.segments[s as usize].is_fresh(leaf)
+    }
+
     /// How many claims stand.
     pub fn in_flight(&self) -> u32
         ensures { result ≡ standing_in self.now }

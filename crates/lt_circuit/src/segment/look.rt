@@ -52,6 +52,11 @@ impl Segment {
         self.board.leaves()
     }
 
+    /// Whether the leaf is Pending and never ran. There is none from the number of leaves on.
+    pub fn is_fresh(&self, leaf: u32) -> bool {
+        leaf < self.board.leaves() && self.board.is_fresh(leaf)
+    }
+
     /// How many claims stand.
     pub fn in_flight(&self) -> u32
         ensures count { result ≡ standing self.now.board.claims }
