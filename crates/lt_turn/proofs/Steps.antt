@@ -13,7 +13,7 @@ use Rattle.atomic_table.specs.Table.{State, Me, step, keeps, takes, gives, stepp
 use Rattle.atomic_table.proofs.Lists.{set_again, set_else, at_longer}
 use Rattle.lt_turn.specs.declared.view.View.{View}
 use Rattle.lt_turn.specs.Journal.{Entry, IsOutside, Extends, GoesOn}
-use Rattle.lt_turn.specs.Rule.{opening_view, holding, settled, below, above, longer, meeting, calm, spent, AreApart, Fits, Passed, Takes, tried, freed, compared}
+use Rattle.lt_turn.specs.Rule.{opening_view, holding, caught_up, below, above, longer, meeting, calm, spent, AreApart, Fits, Passed, Takes, tried, freed, compared}
 use Rattle.lt_turn.proofs.Journals.{extends_same, extends_more, extends_part, extends_both, extends_both', extends_between, goes_same, goes_more, whole}
 use Rattle.lt_turn.proofs.Views.{set_there, set_one, each_set, each_snoc, Apart, apart_set, apart_snoc}
 
@@ -156,9 +156,9 @@ module _ {T O : Type 0} (opn : T → O) (jrn : T → List Entry) where
   -- the value y comes back
   given_back : (s : St) (r : Rule s) (id : ℕ) (v : View O) (y : T) (word : ℕ) → length s.homes ≡ 1 → get_elem? s.views id ≡ some v → v.first < v.end → r.bit ≡ 1 → r.holder ≡ id
       → v.opening ≡ Some (opn y) → ((jrn y ≡ r.log) ⊎ ((code : ℕ) × (jrn y ≡ r.log ++ (v.first, code) ∷ []))) → word ≡ 2 * length (jrn y)
-      → Rule record { words = set s.words 0 word; homes = set s.homes 0 (some (Some y)); views = set s.views id (settled v (jrn y)) }
+      → Rule record { words = set s.words 0 word; homes = set s.homes 0 (some (Some y)); views = set s.views id (caught_up v (jrn y)) }
   given_back s r id v y word one at some_number held holds same how is =
-      let w : View O = settled v (jrn y) in
+      let w : View O = caught_up v (jrn y) in
       let mine = r.seats id v at some_number in
       let inside : v.first < r.workers = let a = mine.within in omega arith in
       let seen = grown v r.log (jrn y) how in record {
@@ -207,8 +207,8 @@ module _ {T O : Type 0} (opn : T → O) (jrn : T → List Entry) where
   in_hand [] = None
   in_hand (x ∷ xs) = x.1
 
-  told_free : (slots : ℕ) (v : View O) (y : T) (word : ℕ) → freed jrn (step slots 0 word 0 none) (v, (0, Some y) ∷ []) word (settled v (jrn y), [])
-  told_free slots v y word z e = let h : Some y ≡ Some z = ap in_hand e in let same : y ≡ z = cc in ap (λ (x : T). (settled v (jrn x), [])) same
+  told_free : (slots : ℕ) (v : View O) (y : T) (word : ℕ) → freed jrn (step slots 0 word 0 none) (v, (0, Some y) ∷ []) word (caught_up v (jrn y), [])
+  told_free slots v y word z e = let h : Some y ≡ Some z = ap in_hand e in let same : y ≡ z = cc in ap (λ (x : T). (caught_up v (jrn x), [])) same
 
   pub frees : (slots id : ℕ) (me : M) (v : View O) (y : T) (log : List Entry) (word : ℕ) → slots ≡ 1 → me ≡ (v, (0, Some y) ∷ []) → v.first < v.end → v.taken ≡ Some log → v.opening ≡ Some (opn y)
       → ((jrn y ≡ log) ⊎ ((code : ℕ) × (jrn y ≡ log ++ (v.first, code) ∷ []))) → word ≡ 2 * length (jrn y)
@@ -217,7 +217,7 @@ module _ {T O : Type 0} (opn : T → O) (jrn : T → List Entry) where
       (λ (none : v.taken ≡ None). absurd (cc))
       (λ (t : (r.bit ≡ 1) × (r.holder ≡ id) × (v.taken ≡ Some r.log)).
       let it : log ≡ r.log = let e : Some log ≡ Some r.log = sym took ∙ t.2 in cc in
-      (settled v (jrn y), gives, tt, given_back s r id v y word (wide ∙ one) at some_number t.0 t.1 same (subst (λ (l : List Entry). (jrn y ≡ l) ⊎ ((code : ℕ) × (jrn y ≡ l ++ (v.first, code) ∷ []))) it how) is, told_free slots v y word))
+      (caught_up v (jrn y), gives, tt, given_back s r id v y word (wide ∙ one) at some_number t.0 t.1 same (subst (λ (l : List Entry). (jrn y ≡ l) ⊎ ((code : ℕ) × (jrn y ≡ l ++ (v.first, code) ∷ []))) it how) is, told_free slots v y word))
       (r.seats id v at some_number).holds)
 
   pub splits : (id : ℕ) (v : View O) (at : ℕ) → v.first < at → at < v.end → v.taken ≡ None → Splits Rule id v (below at v) (above at v)

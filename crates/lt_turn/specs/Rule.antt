@@ -26,8 +26,8 @@ module _ {O : Type 0} where
   holding v log = record { opening = v.opening; begun = v.begun; workers = v.workers; first = v.first; end = v.end; seen = v.seen; taken = Some log; met = v.met }
 
   -- the view after the seat gave a value with this journal back
-  abbrev pub settled : View O → List Entry → View O
-  settled v log = record { opening = v.opening; begun = v.begun; workers = v.workers; first = v.first; end = v.end; seen = log; taken = None; met = None }
+  abbrev pub caught_up : View O → List Entry → View O
+  caught_up v log = record { opening = v.opening; begun = v.begun; workers = v.workers; first = v.first; end = v.end; seen = log; taken = None; met = None }
 
   -- the numbers below at, and those from it on
   abbrev pub below : ℕ → View O → View O
@@ -90,7 +90,7 @@ module _ {T O : Type 0} (opening : T → O) (journal : T → List Entry) where
 module _ {T O : Type 0} (journal : T → List Entry) where
   -- the value that the seat had in its slot is back
   abbrev pub freed : Step (Option T) → Me (Option T) (View O) → ℕ → Me (Option T) (View O) → Type 0
-  freed s m n r = (y : T) → m.1 ≡ (0, Some y) ∷ [] → r ≡ (settled m.0 (journal y), [])
+  freed s m n r = (y : T) → m.1 ≡ (0, Some y) ∷ [] → r ≡ (caught_up m.0 (journal y), [])
 
 -- the journals that were seen are compared
 abbrev pub compared : {T O : Type 0} → Step (Option T) → Me (Option T) (View O) → ℕ → Me (Option T) (View O) → Type 0

@@ -4,18 +4,16 @@ use Rattle.std.specs.Prelude.{All, if◌then◌else◌}
 use Rattle.std.specs.List.{AllByRecursion}
 use Rattle.std.proofs.lemmas.List.{map-append}
 use Rattle.std.proofs.lemmas.List.Elements.{All-head, All-tail}
-use Rattle.lt_net.specs.Net.{Net, State, Claim as Held, Event, Claims, Finishes, Abandons, step, claim_step, finish_step, abandon_step, claim_of, claimed, finished, abandoned, is_pending, replay}
+use Rattle.lt_net.specs.Net.{Net, State, Claim as NetClaim, Event, Claims, Finishes, Abandons, step, claim_step, finish_step, abandon_step, claim_of, claimed, finished, abandoned, is_pending, replay}
 use Rattle.lt_circuit.specs.Shape.{worker_of}
 use Rattle.lt_net.proofs.Runs.{replay_append}
-use Rattle.lt_circuit.specs.declared.entry.Entry.{Entry}
-use Rattle.lt_circuit.specs.Entry.{event_of}
-use Rattle.lt_circuit.proofs.Entries.{event_told, worker_told}
+use Rattle.lt_circuit.proofs.Entries.{worker_told}
 use Rattle.lt_circuit.proofs.Steps.{other_claim}
 use Rattle.lt_turn.specs.Journal.{IsOutside}
-use Rattle.lt_workers.specs.Seen.{pair_of, event_for}
+use Rattle.lt_workers.specs.Seen.{event_for}
 
 module _ (net : Net) (s t : State) (w v : ℕ) (other : v ≢ w) where
-  claims_keep : (j : ℕ) (o : Option Held) → claim_step net s w j o ≡ Some t → t.claim v ≡ s.claim v
+  claims_keep : (j : ℕ) (o : Option NetClaim) → claim_step net s w j o ≡ Some t → t.claim v ≡ s.claim v
   claims_keep j None is = by_status (is_pending (s.status j)) is
     where
       by_status : (b : Bool) → (if b then Some (claimed net s w j) else None) ≡ Some t → t.claim v ≡ s.claim v
@@ -23,11 +21,11 @@ module _ (net : Net) (s t : State) (w v : ℕ) (other : v ≢ w) where
       by_status false is = absurd (cc)
   claims_keep j (Some c) is = absurd (cc)
 
-  finish_keeps : (o : Option Held) → finish_step net s w o ≡ Some t → t.claim v ≡ s.claim v
+  finish_keeps : (o : Option NetClaim) → finish_step net s w o ≡ Some t → t.claim v ≡ s.claim v
   finish_keeps None is = absurd (cc)
   finish_keeps (Some c) is = let e : finished net s w c ≡ t = cc in sym (ap (λ (x : State). x.claim v) e) ∙ other_claim s.claim w _ v other
 
-  abandon_keeps : (o : Option Held) → abandon_step s w o ≡ Some t → t.claim v ≡ s.claim v
+  abandon_keeps : (o : Option NetClaim) → abandon_step s w o ≡ Some t → t.claim v ≡ s.claim v
   abandon_keeps None is = absurd (cc)
   abandon_keeps (Some c) is = let e : abandoned s w c ≡ t = cc in sym (ap (λ (x : State). x.claim v) e) ∙ other_claim s.claim w _ v other
 
@@ -65,8 +63,3 @@ replay_parts net s t es fs is = by_middle (replay net (Some s) es) refl (sym (re
 
 pub events_append : (xs ys : List (ℕ × ℕ)) → map event_for (xs ++ ys) ≡ map event_for xs ++ map event_for ys
 events_append xs ys = map-append event_for xs ys
-
--- the events of a journal's codes are those of its entries
-pub events_are : (es : List Entry) → map event_for (map pair_of es) ≡ map event_of es
-events_are [] = refl
-events_are (e ∷ es) = λ i. event_told e i ∷ events_are es i

@@ -1,70 +1,57 @@
 -- What one worker alone does before others are called.
-use Rattle.std.proofs.Common.{◌≡◌, ◌≢◌, ℕ, List, [], ◌∷◌, ◌++◌, None, map, refl, sym, ap, ◌∙◌}
-use Rattle.std.proofs.lemmas.List.{map-append}
+use Rattle.std.proofs.Common.{◌≡◌, ◌≢◌, ℕ, ◌<◌, List, [], ◌∷◌, ◌++◌, None, ⊎_elim, refl, sym, ap, ◌∙◌, subst, arith, append_assoc}
 use mathlib.Core.Logic.{dite}
 use native.Mathlib.Decide.{ℕ_discrete}
-use Rattle.lt_model.specs.declared.mark.Mark.{Mark}
-use Rattle.lt_net.specs.Net.{State}
+use Rattle.std.proofs.lemmas.List.Elements.{All-append}
+use Rattle.lt_net.specs.Net.{Net, State}
 use Rattle.lt_net.specs.Alone.{IsUnclaimed}
-use Rattle.lt_circuit.specs.declared.entry.Entry.{Entry}
-use Rattle.lt_circuit.specs.Circuit.{CircuitView, state}
-use Rattle.lt_circuit.specs.Entry.{entry_code, event_of}
-use Rattle.lt_circuit.specs.Claiming.{IsClaimed}
-use Rattle.lt_circuit.specs.Job.{JobView}
-use Rattle.lt_circuit.specs.Shape.{worker_of, IsLaterBy}
-use Rattle.lt_circuit.proofs.Entries.{event_told, worker_told}
-use Rattle.lt_circuit.proofs.OneJob.{later_none}
-use Rattle.lt_circuit.proofs.OnWay.{later_then}
+use Rattle.lt_turn.specs.Journal.{GoesOn}
+use Rattle.lt_turn.proofs.Journals.{goes_same, goes_more}
+use Rattle.lt_workers.specs.Seen.{Stand, IsMove}
 use Rattle.lt_workers.specs.Alone.{WentAlone}
 
 all_unclaimed : (s t : State) → ((v : ℕ) → v ≢ 0 → t.claim v ≡ s.claim v) → t.claim 0 ≡ None → ((v : ℕ) → v ≢ 0 → s.claim v ≡ None) → IsUnclaimed t
 all_unclaimed s t others mine free v = dite (ℕ_discrete v 0) (λ same. ap t.claim same ∙ mine) (λ other. others v other ∙ free v other)
 
--- one event of worker 0
-later_one : (old new : List Entry) (e : Entry) → e.worker ≡ 0 → new ≡ old ++ e ∷ [] → IsLaterBy 0 (map event_of old) (map event_of new)
-later_one old new e by_e is = record {
-  more = map event_of (e ∷ []);
-  is = ap (map event_of) is ∙ map-append event_of old (e ∷ []);
-  by = (ap worker_of (sym (event_told e)) ∙ worker_told e.worker (entry_code e) ∙ by_e, tt);
-}
+goes_then : (workers : ℕ) (a b c : List (ℕ × ℕ)) → GoesOn workers a b → GoesOn workers b c → GoesOn workers a c
+goes_then workers a b c x y = (x.0 ++ y.0, y.1 ∙ (ap (λ (l : List (ℕ × ℕ)). l ++ y.0) x.1 ∙ append_assoc a x.0 y.0), All-append (λ (e : ℕ × ℕ). e.0 < workers) x.0 y.0 x.2 y.2)
 
-module _ {W T : Type 0} where
+module _ {B : Type 0} (net_of : B → Net) where
+  -- one call of worker 0
+  move_later : (old new : Stand B) → IsMove net_of 0 old new → GoesOn 1 old.pairs new.pairs
+  move_later old new moved = ⊎_elim
+      (λ (e : new.pairs ≡ old.pairs). subst (λ (l : List (ℕ × ℕ)). GoesOn 1 old.pairs l) (sym e) (goes_same 1 old.pairs))
+      (λ (t : (code : ℕ) × (new.pairs ≡ old.pairs ++ (0, code) ∷ [])). subst (λ (l : List (ℕ × ℕ)). GoesOn 1 old.pairs l) (sym t.1) (goes_more 1 old.pairs old.pairs (0, t.0) (omega arith) (goes_same 1 old.pairs)))
+      moved.grew
+
   -- nothing was done
-  pub went_nowhere : (old new : CircuitView W T) → new ≡ old → IsUnclaimed (state old) → WentAlone old new
-  went_nowhere old new same free = record {
-    work = ap (λ (c : CircuitView W T). c.work) same;
-    leaves = ap (λ (c : CircuitView W T). c.board.leaves) same;
-    free = λ v. ap (λ (c : CircuitView W T). (state c).claim v) same ∙ free v;
-    later = later_none event_of old.journal new.journal (ap (λ (c : CircuitView W T). c.journal) same);
-  }
+  pub went_nowhere : (old new : Stand B) → IsMove net_of 0 old new → IsUnclaimed new.state → WentAlone net_of old new
+  went_nowhere old new moved free = record { basis = moved.basis; free = free; later = move_later old new moved; standing = λ is. moved.after }
+
+  pub went_still : (old : Stand B) → IsUnclaimed old.state → WentAlone net_of old old
+  went_still old free = record { basis = refl; free = free; later = goes_same 1 old.pairs; standing = λ is. is }
 
   -- the claim of worker 0, the only one, ended
-  pub went_to_end : (old new : CircuitView W T) (e : Entry) → e.worker ≡ 0 → new.work ≡ old.work → new.board.leaves ≡ old.board.leaves
-      → ((v : ℕ) → v ≢ 0 → (state new).claim v ≡ (state old).claim v) → (state new).claim 0 ≡ None → ((v : ℕ) → v ≢ 0 → (state old).claim v ≡ None) → new.journal ≡ old.journal ++ e ∷ [] → WentAlone old new
-  went_to_end old new e by_e work leaves others mine free journal = record {
-    work = work;
-    leaves = leaves;
-    free = all_unclaimed (state old) (state new) others mine free;
-    later = later_one old.journal new.journal e by_e journal;
+  pub went_to_end : (old new : Stand B) → IsMove net_of 0 old new → new.state.claim 0 ≡ None → ((v : ℕ) → v ≢ 0 → old.state.claim v ≡ None) → WentAlone net_of old new
+  went_to_end old new moved mine free = went_nowhere old new moved (all_unclaimed old.state new.state moved.others mine free)
+
+  pub went_then : (old mid new : Stand B) → WentAlone net_of old mid → WentAlone net_of mid new → WentAlone net_of old new
+  went_then old mid new first second = record {
+    basis = second.basis ∙ first.basis;
+    free = second.free;
+    later = goes_then 1 old.pairs mid.pairs new.pairs first.later second.later;
+    standing = λ is. second.standing (first.standing is);
   }
 
   -- and so it went before the claim
-  pub went_from_claim : (does : ℕ → List Mark → List Mark) (old mid new : CircuitView W T) (job : JobView W T) → IsClaimed does old mid 0 job → WentAlone mid new → WentAlone old new
-  went_from_claim does old mid new job claim went = record {
-    work = went.work ∙ claim.work;
-    leaves = went.leaves ∙ claim.leaves;
+  pub went_from_claim : (old mid new : Stand B) → IsMove net_of 0 old mid → WentAlone net_of mid new → WentAlone net_of old new
+  went_from_claim old mid new moved went = record {
+    basis = went.basis ∙ moved.basis;
     free = went.free;
-    later = later_then (map event_of old.journal) (map event_of mid.journal) (map event_of new.journal) (later_one old.journal mid.journal _ refl claim.journal) went.later;
+    later = goes_then 1 old.pairs mid.pairs new.pairs (move_later old mid moved) went.later;
+    standing = λ is. went.standing moved.after;
   }
 
-  pub went_then : (old mid new : CircuitView W T) → WentAlone old mid → WentAlone mid new → WentAlone old new
-  went_then old mid new first second = record {
-    work = second.work ∙ first.work;
-    leaves = second.leaves ∙ first.leaves;
-    free = second.free;
-    later = later_then (map event_of old.journal) (map event_of mid.journal) (map event_of new.journal) first.later second.later;
-  }
-
-  -- the claims of the others, after worker 0 claimed where none stood
-  pub others_unclaimed : (does : ℕ → List Mark → List Mark) (old mid : CircuitView W T) (job : JobView W T) → IsClaimed does old mid 0 job → IsUnclaimed (state old) → (v : ℕ) → v ≢ 0 → (state mid).claim v ≡ None
-  others_unclaimed does old mid job claim free v other = claim.others v other ∙ free v
+  -- after an answer without a job no claim stands, as none stood before
+  pub still_unclaimed : (old new : Stand B) → IsMove net_of 0 old new → new.state.claim 0 ≡ None → IsUnclaimed old.state → IsUnclaimed new.state
+  still_unclaimed old new moved mine free = all_unclaimed old.state new.state moved.others mine (λ v other. free v)

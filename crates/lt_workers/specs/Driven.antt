@@ -1,9 +1,8 @@
 -- What a seat knows once its workers have ended.
 use Rattle.std.specs.Prelude.{◌≡◌, ◌≢◌, ℕ, ◌<◌, ◌≤◌, List, [], ◌∷◌, ◌++◌, Option, None, IfSome}
-use Rattle.lt_model.specs.declared.mark.Mark.{Mark}
-use Rattle.lt_net.specs.Net.{State, IsSettled, Abandons}
+use Rattle.lt_net.specs.Net.{Net, State, IsSettled, Abandons}
+use Rattle.lt_net.specs.Alone.{IsUnclaimed}
 use Rattle.lt_turn.specs.declared.view.View.{View}
-use Rattle.lt_workers.specs.declared.held.Basis.{Basis}
 use Rattle.lt_workers.specs.declared.driving.Ended.{Ended}
 use Rattle.lt_workers.specs.declared.driving.Ended.TheVariants.{Settled, NoMemory, Spared}
 use Rattle.lt_workers.specs.Seen.{event_for, Knows, Claims, AreFree}
@@ -20,29 +19,29 @@ pub record GaveBack {O : Type 0} (v : View O) : Type 0 where
   pub low : v.first ≤ worker
   pub high : worker < v.end
 
-module _ {W : Type 0} (does : W → ℕ → List Mark → List Mark) where
-  -- what the seat has seen is legal, and settled where that is the answer; spared is a seat without the first worker that gave back
-  abbrev pub EndsAt : View (Basis W) → Ended → Type 0
-  EndsAt v Settled = (s : State) × Knows does v s × IsSettled s
-  EndsAt v NoMemory = (s : State) × Knows does v s
-  EndsAt v Spared = (s : State) × Knows does v s × (0 < v.first) × GaveBack v
+module _ {B : Type 0} (net_of : B → Net) where
+  -- what the seat has seen is legal, and settled without a claim where that is the answer; spared is a seat without the first worker that gave back
+  abbrev pub EndsAt : View B → Ended → Type 0
+  EndsAt v Settled = (s : State) × Knows net_of v s × IsSettled s × IsUnclaimed s
+  EndsAt v NoMemory = (s : State) × Knows net_of v s
+  EndsAt v Spared = (s : State) × Knows net_of v s × (0 < v.first) × GaveBack v
 
   -- none of the workers but the first has a claim
-  abbrev pub AreOthersFree : View (Basis W) → Type 0
-  AreOthersFree v = (worker : ℕ) → v.first ≤ worker → worker < v.end → worker ≢ v.first → Claims does v worker None
+  abbrev pub AreOthersFree : View B → Type 0
+  AreOthersFree v = (worker : ℕ) → v.first ≤ worker → worker < v.end → worker ≢ v.first → Claims net_of v worker None
 
   -- the same seat has seen more, and none of its workers has a claim
-  pub record Continues (v w : View (Basis W)) : Type 0 where
+  pub record Continues (v w : View B) : Type 0 where
     pub same : IsSame v w
     pub later : (rest : List (ℕ × ℕ)) × (w.seen ≡ v.seen ++ rest)
-    pub free : AreFree does w
+    pub free : AreFree net_of w
 
   -- and it may have ended
-  abbrev pub Goes : View (Basis W) → View (Basis W) → Option Ended → Type 0
+  abbrev pub Goes : View B → View B → Option Ended → Type 0
   Goes v w answer = Continues v w × IfSome answer (EndsAt w)
 
   -- and it has ended
-  abbrev pub Drives : View (Basis W) → View (Basis W) → Ended → Type 0
+  abbrev pub Drives : View B → View B → Ended → Type 0
   Drives v w answer = Continues v w × EndsAt w answer
 
 -- settled where one of two parts ended so, else spared only where both were

@@ -3,3 +3,5 @@ pub mod Visit
 pub mod Driven
 pub mod Seats
 pub mod Alone
+pub mod Given
+pub mod Machines

@@ -2,15 +2,13 @@
 //! that ever started one pays more for all its memory.
 ghost use Rattle.std.specs.Prelude.{◌≡◌, ◌≢◌, ℕ, ◌<◌, ◌^◌, Some, None};
 ghost use Rattle.lt_net.specs.Alone.{IsUnclaimed};
-ghost use Rattle.lt_circuit.specs.Circuit.{state};
-ghost use Rattle.lt_circuit.specs.Job.{claim_of_job};
 ghost use Rattle.lt_workers.specs.Alone.{WentAlone};
 
+use crate::machine::Machine;
 use crate::pace::Pace;
-use lt_circuit::{Circuit, Claim, Job, LeafWork};
+use lt_circuit::Claim;
 use lt_edges::Gate;
 use lt_face::Moves;
-use lt_net::JobName;
 use std::sync::Wait;
 
 /// How one worker's beginning goes on.
@@ -26,18 +24,10 @@ pub(crate) enum Begun {
     All,
 }
 
-// Whether it is a leaf's job.
-fn is_leaf(name: JobName) -> bool {
-    match name {
-        JobName::Leaf(_leaf) => true,
-        _inner => false,
-    }
-}
-
 // How many free leaves never ran, with the one whose job was given.
-fn free_leaves<W: LeafWork>(circuit: &Circuit<W>, job: &Job<W>) -> u32 {
-    let others = circuit.free_leaves();
-    if job.is_free() {
+fn free_leaves<M: Machine>(machine: &M, job: &M::Job) -> u32 {
+    let others = machine.free_leaf_count();
+    if M::is_free(job) {
         others.saturating_add(1)
     } else {
         others
@@ -45,14 +35,14 @@ fn free_leaves<W: LeafWork>(circuit: &Circuit<W>, job: &Job<W>) -> u32 {
 }
 
 // Who is called before this job is done: others where it is a leaf's, as then all inner jobs are done.
-fn called<W: LeafWork>(circuit: &Circuit<W>, pace: &Pace, workers: u32, job: &Job<W>) -> Begun {
-    if workers < 2 || !is_leaf(job.name()) {
+fn called<M: Machine>(machine: &M, pace: &Pace, workers: u32, job: &M::Job) -> Begun {
+    if workers < 2 || !M::is_leaf(job) {
         return Begun::On;
     }
     if pace.runs_ahead() {
         return Begun::All;
     }
-    if pace.is_worth(free_leaves(circuit, job)) {
+    if pace.is_worth(free_leaves(machine, job)) {
         return Begun::Free;
     }
     Begun::On
@@ -65,54 +55,54 @@ fn is_last(pace: &Pace, workers: u32) -> bool {
 }
 
 // Passes the gate and does the job, which worker 0 claimed. No other claim stands.
-fn work_alone<R: Wait, W: LeafWork, G: Gate>(
+fn work_alone<R: Wait, M: Machine, G: Gate>(
     rt: &R,
-    circuit: &mut Circuit<W>,
-    job: Job<W>,
+    machine: &mut M,
+    job: M::Job,
     gate: &G,
     pace: &mut Pace,
     workers: u32,
 ) -> Begun
-    requires work { job.work ≡ circuit.old.work }
-    requires claim { (state circuit.old).claim 0 ≡ Some (claim_of_job job) }
-    requires coded { (claim_of_job job).job < 2 ^ 32 }
-    requires others { (v : ℕ) → v ≢ 0 → (state circuit.old).claim v ≡ None }
-    ensures went { WentAlone circuit.old circuit.new }
+    requires work { M.is_job_of (M.stand machine.old).basis job }
+    requires claim { (M.stand machine.old).state.claim 0 ≡ Some (M.claim_of job) }
+    requires coded { (M.claim_of job).job < 2 ^ 32 }
+    requires others { (v : ℕ) → v ≢ 0 → (M.stand machine.old).state.claim v ≡ None }
+    ensures went { WentAlone M.net (M.stand machine.old) (M.stand machine.new) }
 {
-    gate.pass(rt, 0, job.name().code());
+    gate.pass(rt, 0, M::code(&job));
     let mut moves: Moves<()> = Moves::new();
     let is_last = is_last(pace, workers);
-    match job.work(is_last, &mut moves) {
+    match M::work(job, is_last, &mut moves) {
         Ok(output) => {
-            pace.note(&output, is_last);
-            circuit.finish(0, output);
+            pace.note::<M>(&output, is_last);
+            machine.end(0, output);
             Begun::On
         }
         Err(job) => {
-            circuit.abandon(0, job);
+            machine.give_up(0, job);
             Begun::Ended
         }
     }
 }
 
-// Does one job more as worker 0, or gives it back where it is a leaf's and others are called.
-fn go_on_alone<R: Wait, W: LeafWork, G: Gate>(
+/// Does one job more as worker 0, or gives it back where it is a leaf's and others are called.
+pub(crate) fn go_on_alone<R: Wait, M: Machine, G: Gate>(
     rt: &R,
-    circuit: &mut Circuit<W>,
+    machine: &mut M,
     gate: &G,
     pace: &mut Pace,
     workers: u32,
 ) -> Begun
-    requires free { IsUnclaimed (state circuit.old) }
-    ensures went { WentAlone circuit.old circuit.new }
+    requires free { IsUnclaimed (M.stand machine.old).state }
+    ensures went { WentAlone M.net (M.stand machine.old) (M.stand machine.new) }
 {
-    match circuit.claim(0) {
+    match machine.ask(0) {
         Claim::Job(given) => {
-            let called = called(circuit, pace, workers, &given);
+            let called = called(machine, pace, workers, &given);
             if called == Begun::On {
-                return work_alone(rt, circuit, given, gate, pace, workers);
+                return work_alone(rt, machine, given, gate, pace, workers);
             }
-            circuit.abandon(0, given);
+            machine.give_up(0, given);
             called
         }
         Claim::Busy { in_flight: _ } => Begun::Ended,
@@ -121,20 +111,20 @@ fn go_on_alone<R: Wait, W: LeafWork, G: Gate>(
     }
 }
 
-/// Does jobs as worker 0 until the circuit is settled, memory is refused, or leaves have shown to be dear and the next job is a
+/// Does jobs as worker 0 until the machine is settled, memory is refused, or leaves have shown to be dear and the next job is a
 /// leaf's. It answers who is called then.
-pub(crate) fn begin<R: Wait, W: LeafWork, G: Gate>(
+pub(crate) fn begin<R: Wait, M: Machine, G: Gate>(
     rt: &R,
-    circuit: &mut Circuit<W>,
+    machine: &mut M,
     gate: &G,
     workers: u32,
 ) -> Begun
-    requires free { IsUnclaimed (state circuit.old) }
-    ensures went { WentAlone circuit.old circuit.new }
+    requires free { IsUnclaimed (M.stand machine.old).state }
+    ensures went { WentAlone M.net (M.stand machine.old) (M.stand machine.new) }
 {
-    let mut pace = Pace::start(circuit.leaves());
+    let mut pace = Pace::start(machine.leaf_count());
     for _ in rt.forever() {
-        let begun = go_on_alone(rt, circuit, gate, &mut pace, workers);
+        let begun = go_on_alone(rt, machine, gate, &mut pace, workers);
         if begun != Begun::On {
             return begun;
         }

@@ -1,16 +1,16 @@
 //! Workers that do jobs until none is left.
 ghost use Rattle.std.specs.Prelude.{◌≡◌, ◌<◌, ◌^◌, true, Some};
-ghost use Rattle.lt_circuit.specs.Job.{claim_of_job};
 ghost use Rattle.lt_turn.specs.Seats.{view, IsIdle};
 ghost use Rattle.lt_workers.specs.Seats.{IsSeatOf};
-ghost use Rattle.lt_workers.specs.Seen.{AreFree, Claims, IsOfWork};
+ghost use Rattle.lt_workers.specs.Seen.{AreFree, Claims, IsOfBasis};
 ghost use Rattle.lt_workers.specs.Driven.{AreOthersFree, Drives, Goes, either_of};
 ghost use denote.Param.Send.{IsSync};
 
-use crate::held::Held;
+use crate::handed::Handed;
+use crate::machine::Machine;
 use crate::pace::Luck;
 use crate::shared::Shared;
-use lt_circuit::{Claim, Job, LeafWork};
+use lt_circuit::Claim;
 use lt_edges::Gate;
 use lt_face::Moves;
 use lt_turn::Seat;
@@ -20,7 +20,7 @@ use std::thread::{Threads, join_mut};
 /// Why workers ended.
 #[derive(Clone, Copy, Debug, PartialEq, Eq)]
 pub enum Ended {
-    /// The last claim saw a settled circuit.
+    /// The last claim saw that all is settled.
     Settled,
     /// Memory was refused, and the job given back.
     NoMemory,
@@ -36,23 +36,26 @@ fn is_left(worker: u32, luck: &Luck, is_free: bool) -> bool
     worker > 0 && !luck.is_good() && !is_free
 }
 
-impl<W: LeafWork + Send + Sync> Shared<W>
+impl<M: Machine + Send + Sync> Shared<M>
 where
-    W::Tally: Send + Sync,
+    M::Basis: Send + Sync,
+    M::Job: Send + Sync,
+    M::Output: Send + Sync,
+    M::Spent: Send + Sync,
 {
     // Claims a job and does it. Where none is Pending it waits for others' entries.
-    fn go_on<R: Wait, G: Gate>(
+    pub(crate) fn go_on<R: Wait, G: Gate>(
         &self,
         rt: &R,
-        seat: &mut Seat<Held<W>>,
+        seat: &mut Seat<Handed<M>>,
         gate: &G,
         luck: &mut Luck,
     ) -> Option<Ended>
         requires turn { IsSeatOf self.now seat.old }
         requires idle { IsIdle (view seat.old) }
-        requires free { AreFree W.does (view seat.old) }
+        requires free { AreFree M.net (view seat.old) }
         ensures turn { IsSeatOf self.now seat.new }
-        ensures goes { Goes W.does (view seat.old) (view seat.new) result }
+        ensures goes { Goes M.net (view seat.old) (view seat.new) result }
     {
         match self.claim(rt, seat) {
             Claim::Settled => Some(Ended::Settled),
@@ -69,21 +72,21 @@ where
     fn take_up<R: Wait, G: Gate>(
         &self,
         rt: &R,
-        seat: &mut Seat<Held<W>>,
-        job: Job<W>,
+        seat: &mut Seat<Handed<M>>,
+        job: M::Job,
         gate: &G,
         luck: &mut Luck,
     ) -> Option<Ended>
         requires turn { IsSeatOf self.now seat.old }
         requires idle { IsIdle (view seat.old) }
-        requires work { IsOfWork (view seat.old) job.work }
-        requires claim { Claims W.does (view seat.old) (view seat.old).first (Some (claim_of_job job)) }
-        requires coded { (claim_of_job job).job < 2 ^ 32 }
-        requires others { AreOthersFree W.does (view seat.old) }
+        requires work { IsOfBasis (view seat.old) (λ b. M.is_job_of b job) }
+        requires claim { Claims M.net (view seat.old) (view seat.old).first (Some (M.claim_of job)) }
+        requires coded { (M.claim_of job).job < 2 ^ 32 }
+        requires others { AreOthersFree M.net (view seat.old) }
         ensures turn { IsSeatOf self.now seat.new }
-        ensures goes { Goes W.does (view seat.old) (view seat.new) result }
+        ensures goes { Goes M.net (view seat.old) (view seat.new) result }
     {
-        if is_left(seat.first(), luck, job.is_free()) {
+        if is_left(seat.first(), luck, M::is_free(&job)) {
             self.abandon(rt, seat, job);
             return Some(Ended::Spared);
         }
@@ -94,25 +97,25 @@ where
     fn work_on<R: Wait, G: Gate>(
         &self,
         rt: &R,
-        seat: &mut Seat<Held<W>>,
-        job: Job<W>,
+        seat: &mut Seat<Handed<M>>,
+        job: M::Job,
         gate: &G,
         luck: &mut Luck,
     ) -> Option<Ended>
         requires turn { IsSeatOf self.now seat.old }
         requires idle { IsIdle (view seat.old) }
-        requires work { IsOfWork (view seat.old) job.work }
-        requires claim { Claims W.does (view seat.old) (view seat.old).first (Some (claim_of_job job)) }
-        requires coded { (claim_of_job job).job < 2 ^ 32 }
-        requires others { AreOthersFree W.does (view seat.old) }
+        requires work { IsOfBasis (view seat.old) (λ b. M.is_job_of b job) }
+        requires claim { Claims M.net (view seat.old) (view seat.old).first (Some (M.claim_of job)) }
+        requires coded { (M.claim_of job).job < 2 ^ 32 }
+        requires others { AreOthersFree M.net (view seat.old) }
         ensures turn { IsSeatOf self.now seat.new }
-        ensures goes { Goes W.does (view seat.old) (view seat.new) result }
+        ensures goes { Goes M.net (view seat.old) (view seat.new) result }
     {
-        gate.pass(rt, seat.first(), job.name().code());
+        gate.pass(rt, seat.first(), M::code(&job));
         let mut moves: Moves<()> = Moves::new();
-        match job.work(false, &mut moves) {
+        match M::work(job, false, &mut moves) {
             Ok(output) => {
-                luck.note(seat.first(), gate.waits(), &output);
+                luck.note::<M>(seat.first(), gate.waits(), &output);
                 self.finish(rt, seat, output);
                 None
             }
@@ -123,14 +126,14 @@ where
         }
     }
 
-    /// Does jobs as the seat's first worker until the circuit is settled, memory is refused, or the worker is spared. One that finds
+    /// Does jobs as the seat's first worker until the machine is settled, memory is refused, or the worker is spared. One that finds
     /// no Pending job while others work asks again.
-    pub fn drive<R: Wait, G: Gate>(&self, rt: &R, seat: &mut Seat<Held<W>>, gate: &G) -> Ended
+    pub fn drive<R: Wait, G: Gate>(&self, rt: &R, seat: &mut Seat<Handed<M>>, gate: &G) -> Ended
         requires turn { IsSeatOf self.now seat.old }
         requires idle { IsIdle (view seat.old) }
-        requires free { AreFree W.does (view seat.old) }
+        requires free { AreFree M.net (view seat.old) }
         ensures turn { IsSeatOf self.now seat.new }
-        ensures drives { Drives W.does (view seat.old) (view seat.new) result }
+        ensures drives { Drives M.net (view seat.old) (view seat.new) result }
     {
         let mut luck = Luck::start(self.runs_ahead);
         for _ in rt.forever() {
@@ -146,24 +149,24 @@ where
     fn halves<R: Threads + Wait + Sync, G: Gate>(
         &self,
         rt: &R,
-        low: &mut Seat<Held<W>>,
-        high: &mut Seat<Held<W>>,
+        low: &mut Seat<Handed<M>>,
+        high: &mut Seat<Handed<M>>,
         gate: &G,
     ) -> (Ended, Ended)
-        requires low { IsSeatOf self.now low.old × IsIdle (view low.old) × AreFree W.does (view low.old) }
-        requires high { IsSeatOf self.now high.old × IsIdle (view high.old) × AreFree W.does (view high.old) }
-        ensures low { IsSeatOf self.now low.new × Drives W.does (view low.old) (view low.new) result.0 }
-        ensures high { IsSeatOf self.now high.new × Drives W.does (view high.old) (view high.new) result.1 }
+        requires low { IsSeatOf self.now low.old × IsIdle (view low.old) × AreFree M.net (view low.old) }
+        requires high { IsSeatOf self.now high.old × IsIdle (view high.old) × AreFree M.net (view high.old) }
+        ensures low { IsSeatOf self.now low.new × Drives M.net (view low.old) (view low.new) result.0 }
+        ensures high { IsSeatOf self.now high.new × Drives M.net (view high.old) (view high.new) result.1 }
     {
         join_mut(
             rt,
             &mut || -> Ended
-                requires { IsSync R.row × IsSeatOf self.now low.now × IsIdle (view low.now) × AreFree W.does (view low.now) }
-                ensures { IsSeatOf self.entry.now low.exit.now × Drives W.does (view low.entry.now) (view low.exit.now) result }
+                requires { IsSync R.row × IsSeatOf self.now low.now × IsIdle (view low.now) × AreFree M.net (view low.now) }
+                ensures { IsSeatOf self.entry.now low.exit.now × Drives M.net (view low.entry.now) (view low.exit.now) result }
             { self.fan_out(rt, low, gate) },
             &mut || -> Ended
-                requires { IsSync R.row × IsSeatOf self.now high.now × IsIdle (view high.now) × AreFree W.does (view high.now) }
-                ensures { IsSeatOf self.entry.now high.exit.now × Drives W.does (view high.entry.now) (view high.exit.now) result }
+                requires { IsSync R.row × IsSeatOf self.now high.now × IsIdle (view high.now) × AreFree M.net (view high.now) }
+                ensures { IsSeatOf self.entry.now high.exit.now × Drives M.net (view high.entry.now) (view high.exit.now) result }
             { self.fan_out(rt, high, gate) },
         )
     }
@@ -173,14 +176,14 @@ where
     pub fn fan_out<R: Threads + Wait + Sync, G: Gate>(
         &self,
         rt: &R,
-        seat: &mut Seat<Held<W>>,
+        seat: &mut Seat<Handed<M>>,
         gate: &G,
     ) -> Ended
         requires turn { IsSeatOf self.now seat.old }
         requires idle { IsIdle (view seat.old) }
-        requires free { AreFree W.does (view seat.old) }
+        requires free { AreFree M.net (view seat.old) }
         ensures turn { IsSeatOf self.now seat.new }
-        ensures drives { Drives W.does (view seat.old) (view seat.new) result }
+        ensures drives { Drives M.net (view seat.old) (view seat.new) result }
     {
         let first = seat.first();
         let end = seat.end();
@@ -198,7 +201,7 @@ where
 }
 
 // Settled where one of two parts ended so, else spared only where both were.
-fn either(one: Ended, other: Ended) -> Ended
+pub(crate) fn either(one: Ended, other: Ended) -> Ended
     ensures { result ≡ either_of one other }
 {
     match one {

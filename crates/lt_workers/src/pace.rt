@@ -1,5 +1,5 @@
 //! How dear leaves are, and whether it pays to run them ahead. No clause speaks of it.
-use lt_circuit::{LeafWork, Output};
+use crate::machine::Machine;
 
 /// Leaves below this weight in the mean aren't worth to be run ahead.
 const DEAR: usize = 128;
@@ -43,8 +43,8 @@ impl Pace {
     }
 
     /// A job is done. An inner node's tells nothing, and a leaf's last run only that it is done.
-    pub(crate) fn note<W: LeafWork>(&mut self, output: &Output<W>, is_last: bool) {
-        let Some(weight) = output.weight() else {
+    pub(crate) fn note<M: Machine>(&mut self, output: &M::Output, is_last: bool) {
+        let Some(weight) = M::weight(output) else {
             return;
         };
         self.ran = self.ran.saturating_add(1);
@@ -55,7 +55,7 @@ impl Pace {
         self.weighed = self.weighed.saturating_add(1);
         self.weight = self.weight.saturating_add(weight);
         if self.is_worth(self.left) && self.loose.saturating_add(self.tied) < LOOKS {
-            self.note_tie(output.is_tied());
+            self.note_tie(M::is_tied(output));
         }
     }
 
@@ -107,11 +107,11 @@ impl Luck {
 
     /// A worker's job is done. Only a leaf's that had run before tells something, and only of another than the first worker, at a
     /// gate that holds nobody.
-    pub(crate) fn note<W: LeafWork>(&mut self, worker: u32, waits: bool, output: &Output<W>) {
-        if worker == 0 || waits || !output.is_again() {
+    pub(crate) fn note<M: Machine>(&mut self, worker: u32, waits: bool, output: &M::Output) {
+        if worker == 0 || waits || !M::is_again(output) {
             return;
         }
-        match output.is_tied() {
+        match M::is_tied(output) {
             None => {}
             Some(true) => {
                 self.vain = self.vain.saturating_add(1);

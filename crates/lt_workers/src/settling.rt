@@ -30,7 +30,7 @@ fn settled_alone<W: LeafWork>(circuit: Circuit<W>) -> Result<Circuit<W>, NoMemor
 }
 
 // Not more workers than leaves, and one at least.
-fn needed(workers: u32, leaves: u32) -> u32
+pub(crate) fn needed(workers: u32, leaves: u32) -> u32
     requires { 1 ≤ workers }
     ensures some { 1 ≤ result }
     ensures few { result ≤ workers }
@@ -39,6 +39,21 @@ fn needed(workers: u32, leaves: u32) -> u32
         return 1;
     }
     if leaves < workers { leaves } else { workers }
+}
+
+// One worker's beginning on the circuit.
+fn begun<R: Wait, W: LeafWork, G: Gate>(
+    rt: &R,
+    circuit: &mut Circuit<W>,
+    gate: &G,
+    workers: u32,
+) -> Begun
+    requires free { IsUnclaimed (state circuit.old) }
+    ensures work { circuit.new.work ≡ circuit.old.work }
+    ensures leaves { circuit.new.board.leaves ≡ circuit.old.board.leaves }
+    ensures free { IsUnclaimed (state circuit.new) }
+{
+    begin(rt, circuit, gate, workers)
 }
 
 // The circuit after so many workers were at it at the same time, settled. What they leave one settles alone.
@@ -87,7 +102,7 @@ where
         return settled_by_all(rt, alloc, circuit, workers, true, gate);
     }
     let mut circuit = circuit;
-    match begin(rt, &mut circuit, gate, workers) {
+    match begun(rt, &mut circuit, gate, workers) {
         Begun::All => settled_by_all(rt, alloc, circuit, workers, true, gate),
         Begun::Free => settled_by_all(rt, alloc, circuit, workers, false, gate),
         Begun::Ended => settled_alone(circuit),

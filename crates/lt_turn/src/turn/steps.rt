@@ -2,7 +2,7 @@
 ghost use Rattle.std.specs.Prelude.{◌≡◌, ◌<◌, ◌≤◌, ◌^◌, [], ◌∷◌, length, IfOk, IfErr, IfSome, IfNone, Some, None};
 ghost use Rattle.lt_face.specs.Limits.{most_workers};
 ghost use Rattle.lt_turn.specs.Journal.{Extends, GoesOn};
-ghost use Rattle.lt_turn.specs.Rule.{opening_view, holding, settled, below, above, joined};
+ghost use Rattle.lt_turn.specs.Rule.{opening_view, holding, caught_up, below, above, joined};
 ghost use Rattle.lt_turn.specs.Seats.{view, IsSeatOf, IsIdle, MayGive};
 
 use super::{Seat, Token, Turn};
@@ -102,7 +102,7 @@ impl<T: Story> Turn<T> {
         requires journal { MayGive (view seat.old) (T.journal value) }
         requires short { length (T.journal value) < 2 ^ 62 }
         ensures turn { IsSeatOf self.now seat.new }
-        ensures view { view seat.new ≡ settled (view seat.old) (T.journal value) }
+        ensures view { view seat.new ≡ caught_up (view seat.old) (T.journal value) }
     {
         let shared = &self.table.shared;
         let left = value.entries();

@@ -1,35 +1,32 @@
-use Rattle.std.proofs.Common.{refl}
-use Rattle.lt_circuit.specs.Circuit.{state}
-use Rattle.lt_circuit.specs.declared.entry.Event.TheVariants.{Abandon}
-use Rattle.lt_circuit.specs.Job.{claim_of_job, name_of_job}
-use Rattle.lt_workers.proofs.Knowing.{abandoned_free}
-use Rattle.lt_workers.proofs.WentAlone.{went_nowhere, went_to_end, went_from_claim, others_unclaimed}
+use Rattle.std.proofs.Common.{◌∙◌}
+use Rattle.lt_workers.proofs.WentAlone.{went_nowhere, went_to_end, went_from_claim, still_unclaimed}
 use Rattle.lt_workers.proofs.beginning.go_on_alone.Goals as goal
 
 pub work_alone-requires-clause-others : goal.work_alone-requires-clause-others
-work_alone-requires-clause-others g c =
-    λ lifetimes outlive. others_unclaimed (g.W.LeafWork.does c.args.circuit.now.work) c.args.circuit.now c.claim.new.self c.in-Job.given c.in-Job.ensures.answer c.requires.free
+work_alone-requires-clause-others g c = λ lifetimes outlive. λ v other. c.ask.ensures.moved.others v other ∙ c.requires.free v
 
 pub returns-in-Settled : goal.returns-in-Settled
-returns-in-Settled g c = record { went = went_nowhere c.args.circuit.now c.claim.new.self c.in-Settled.ensures.answer.0 c.requires.free }
+returns-in-Settled g c =
+    let given = c.in-Settled.ensures.given in
+    record { went = went_nowhere g.M.Machine.net (g.M.Machine.stand c.args.machine.now) (g.M.Machine.stand c.ask.new.self) c.ask.ensures.moved given.1 }
 
 pub returns-in-Busy : goal.returns-in-Busy
-returns-in-Busy g c = record { went = went_nowhere c.args.circuit.now c.claim.new.self c.in-Busy.ensures.answer.0 c.requires.free }
+returns-in-Busy g c =
+    let given = c.in-Busy.ensures.given in
+    record { went = went_nowhere g.M.Machine.net (g.M.Machine.stand c.args.machine.now) (g.M.Machine.stand c.ask.new.self) c.ask.ensures.moved (still_unclaimed g.M.Machine.net (g.M.Machine.stand c.args.machine.now) (g.M.Machine.stand c.ask.new.self) c.ask.ensures.moved given c.requires.free) }
 
 pub returns-in-NoMemory : goal.returns-in-NoMemory
-returns-in-NoMemory g c = record { went = went_nowhere c.args.circuit.now c.claim.new.self c.in-NoMemory.ensures.answer c.requires.free }
+returns-in-NoMemory g c =
+    let given = c.in-NoMemory.ensures.given in
+    record { went = went_nowhere g.M.Machine.net (g.M.Machine.stand c.args.machine.now) (g.M.Machine.stand c.ask.new.self) c.ask.ensures.moved (still_unclaimed g.M.Machine.net (g.M.Machine.stand c.args.machine.now) (g.M.Machine.stand c.ask.new.self) c.ask.ensures.moved given c.requires.free) }
 
 pub returns-then-eq : goal.returns-then-eq
-returns-then-eq g c = record { went = went_from_claim (g.W.LeafWork.does c.args.circuit.now.work) c.args.circuit.now c.claim.new.self c.work_alone.new.circuit c.in-Job.given c.in-Job.ensures.answer c.work_alone.ensures.went }
+returns-then-eq g c = record { went = went_from_claim g.M.Machine.net (g.M.Machine.stand c.args.machine.now) (g.M.Machine.stand c.ask.new.self) (g.M.Machine.stand c.work_alone.new.machine) c.ask.ensures.moved c.work_alone.ensures.went }
 
 pub returns-else-eq : goal.returns-else-eq
 returns-else-eq g c =
-    let mid = c.claim.new.self in
-    let new = c.abandon.new.self in
-    let job = c.in-Job.given in
+    let new = g.M.Machine.stand c.give_up.new.self in
     record {
-      went = went_from_claim (g.W.LeafWork.does c.args.circuit.now.work) c.args.circuit.now mid new job c.in-Job.ensures.answer
-          (went_to_end mid new (record { worker = 0; job = name_of_job job; event = Abandon }) refl c.abandon.ensures.work c.abandon.ensures.leaves c.abandon.ensures.others
-          (abandoned_free (state mid) (state new) 0 (claim_of_job job) c.abandon.ensures.state)
-          (others_unclaimed (g.W.LeafWork.does c.args.circuit.now.work) c.args.circuit.now mid job c.in-Job.ensures.answer c.requires.free) c.abandon.ensures.journal);
+      went = went_from_claim g.M.Machine.net (g.M.Machine.stand c.args.machine.now) (g.M.Machine.stand c.ask.new.self) new c.ask.ensures.moved
+          (went_to_end g.M.Machine.net (g.M.Machine.stand c.ask.new.self) new c.give_up.ensures.moved c.give_up.ensures.free (λ v other. c.ask.ensures.moved.others v other ∙ c.requires.free v));
     }

@@ -1,35 +1,46 @@
 use Rattle.std.proofs.Common.{rules, ◌≡◌, ◌<◌, None, arith}
-use Rattle.lt_circuit.specs.Circuit.{state}
-use Rattle.lt_circuit.specs.Job.{claim_of_job}
-use Rattle.lt_workers.proofs.Visiting.{visited, others_kept, first_has}
-use Rattle.lt_workers.proofs.Knowing.{abandoned_free}
+use Rattle.lt_workers.proofs.Visiting.{visited, may_give, still_over, others_kept, first_has, gave_back}
 use Rattle.lt_workers.proofs.shared.Shared.abandon.Goals as goal
 
-pub abandon-requires-clause-claim : goal.abandon-requires-clause-claim
-abandon-requires-clause-claim g c =
+pub give_up-requires-clause-claim : goal.give_up-requires-clause-claim
+give_up-requires-clause-claim g c =
     let first : c.first.result ≡ c.args.seat.now.token.me.0.first = search rules in
     let more : c.args.seat.now.token.me.0.first < c.args.seat.now.token.me.0.end = search rules in
-    c.receive-held.ensures.claims c.first.result _ (omega arith) (omega arith) (rw first c.requires.claim)
+    c.receive-handed.ensures.claims c.first.result _ (omega arith) (omega arith) (rw first c.requires.claim)
+
+pub give_back-requires-clause-journal : goal.give_back-requires-clause-journal
+give_back-requires-clause-journal g c =
+    let first : c.first.result ≡ c.args.seat.now.token.me.0.first = search rules in
+    may_give g.M.Machine.net c.args.seat.now.token.me.0 c.receive-handed.new.seat.token.me.0 (g.M.Machine.stand c.receive-handed.result.machine) (g.M.Machine.stand c.give_up.new.self) c.first.result first c.give_up.ensures.moved c.receive-handed.new.seat.token.me.0 c.receive-handed.ensures.view
+
+pub give_back-requires-clause-opening : goal.give_back-requires-clause-opening
+give_back-requires-clause-opening g c =
+    let first : c.first.result ≡ c.args.seat.now.token.me.0.first = search rules in
+    still_over g.M.Machine.net c.args.seat.now.token.me.0 c.receive-handed.new.seat.token.me.0 (g.M.Machine.stand c.receive-handed.result.machine) (g.M.Machine.stand c.give_up.new.self) c.first.result first c.give_up.ensures.moved c.receive-handed.new.seat.token.me.0 c.receive-handed.ensures.view c.receive-handed.ensures.opening
 
 pub returns-clause-abandons : goal.returns-clause-abandons
 returns-clause-abandons g c =
     let first : c.first.result ≡ c.args.seat.now.token.me.0.first = search rules in
     record {
-      before = c.receive-held.result.circuit;
-      after = c.abandon.new.self.circuit;
-      visits = visited g.W.LeafWork.does c.args.seat.now.token.me.0 c.give_back.new.seat.token.me.0 c.receive-held.result.circuit c.abandon.new.self.circuit c.first.result first c.receive-held.ensures.opening c.receive-held.ensures.extends c.receive-held.ensures.replayed c.abandon.ensures.grew c.give_back.ensures.seen c.give_back.ensures.known;
-      entry = rw (← first) c.abandon.ensures.journal;
-      abandons = rw (← first) c.abandon.ensures.state;
-      tallies = c.abandon.ensures.tallies;
+      before = c.receive-handed.result.machine;
+      after = c.give_up.new.self;
+      visits = visited g.M.Machine.net c.args.seat.now.token.me.0 c.give_back.new.seat.token.me.0 (g.M.Machine.stand c.receive-handed.result.machine) (g.M.Machine.stand c.give_up.new.self) c.first.result first c.give_up.ensures.moved c.receive-handed.ensures.opening c.receive-handed.ensures.extends c.give_back.ensures.seen c.give_back.ensures.known;
+      says = rw (← first) c.give_up.ensures.takes_back;
     }
 
 pub returns-clause-free : goal.returns-clause-free
 returns-clause-free g c =
     let first : c.first.result ≡ c.args.seat.now.token.me.0.first = search rules in
     let same : c.give_back.new.seat.token.me.0.first ≡ c.args.seat.now.token.me.0.first = search rules in
-    first_has g.W.LeafWork.does c.args.seat.now.token.me.0 c.give_back.new.seat.token.me.0 c.receive-held.result.circuit c.abandon.new.self.circuit c.first.result first c.give_back.ensures.claims same None (abandoned_free (state c.receive-held.result.circuit) (state c.abandon.new.self.circuit) c.first.result (claim_of_job c.args.job) c.abandon.ensures.state)
+    first_has g.M.Machine.net c.args.seat.now.token.me.0 c.give_back.new.seat.token.me.0 (g.M.Machine.stand c.receive-handed.result.machine) (g.M.Machine.stand c.give_up.new.self) c.first.result first c.give_up.ensures.moved c.give_back.ensures.claims same None c.give_up.ensures.free
+
+pub returns-clause-gave_back : goal.returns-clause-gave_back
+returns-clause-gave_back g c =
+    let first : c.first.result ≡ c.args.seat.now.token.me.0.first = search rules in
+    let more : c.args.seat.now.token.me.0.first < c.args.seat.now.token.me.0.end = search rules in
+    gave_back g.M.Machine.net c.args.seat.now.token.me.0 c.give_back.new.seat.token.me.0 (g.M.Machine.stand c.receive-handed.result.machine) (g.M.Machine.stand c.give_up.new.self) c.first.result first c.give_up.ensures.moved c.give_back.ensures.claims c.receive-handed.new.seat.token.me.0 c.receive-handed.ensures.view c.give_back.ensures.same more c.give_back.ensures.seen c.give_up.ensures.gave_up
 
 pub returns-clause-others : goal.returns-clause-others
 returns-clause-others g c =
     let first : c.first.result ≡ c.args.seat.now.token.me.0.first = search rules in
-    others_kept g.W.LeafWork.does c.args.seat.now.token.me.0 c.give_back.new.seat.token.me.0 c.receive-held.result.circuit c.abandon.new.self.circuit c.first.result first c.give_back.ensures.claims c.receive-held.ensures.claims c.abandon.ensures.others
+    others_kept g.M.Machine.net c.args.seat.now.token.me.0 c.give_back.new.seat.token.me.0 (g.M.Machine.stand c.receive-handed.result.machine) (g.M.Machine.stand c.give_up.new.self) c.first.result first c.give_up.ensures.moved c.give_back.ensures.claims c.receive-handed.ensures.claims

@@ -4,4 +4,4 @@ use Rattle.lt_workers.specs.Driven.{Continues}
 use Rattle.lt_workers.proofs.shared.Shared.drive.Given as goal
 
 abbrev pub invariant-loop : goal.invariant-loop
-invariant-loop g l = (l.seat.token.table_id ≡ l.initial.seat.token.table_id) × Continues g.W.LeafWork.does (view l.initial.seat) (view l.seat)
+invariant-loop g l = (l.seat.token.table_id ≡ l.initial.seat.token.table_id) × Continues g.M.Machine.net (view l.initial.seat) (view l.seat)
