@@ -1,5 +1,5 @@
 -- Programs that each ran on the effects of those before it ran one after another.
-use Rattle.std.proofs.Common.{◌≡◌, ℕ, zero, suc, ◌+◌, ◌<◌, List, [], ◌∷◌, ◌++◌, length, map, take, get_or, refl, sym, ap, subst, ◌∙◌, arith}
+use Rattle.std.proofs.Common.{◌≡◌, ℕ, zero, suc, ◌+◌, ◌<◌, ◌≤◌, List, [], ◌∷◌, ◌++◌, length, map, take, get_or, refl, sym, ap, subst, ◌∙◌, arith}
 use Rattle.std.proofs.Math.Seq.{take-suc}
 use Rattle.std.specs.List.{AllByRecursion}
 use Rattle.lt_face.specs.State.{State}
@@ -25,10 +25,10 @@ one_more : (programs : List (List Stmt)) (i : ℕ) (s : State) → i < length pr
 one_more programs i s h =
     ap (λ ps. serial ps s) (take-suc programs i [] h) ∙ serial_joins (take i programs) (program_at programs i ∷ []) s
 
--- effects one after another ascend
-then_all_ascends : (effects : ℕ → Marks) (i : ℕ) → AreMarks (then_all effects [] i)
-then_all_ascends effects zero = tt
-then_all_ascends effects (suc i) = AreMarks-and_then (then_all effects [] i) (effects i) (then_all_ascends effects i)
+-- effects one after another ascend, where those at the start do
+pub then_all_ascends : (effects : ℕ → Marks) (start : Marks) (i : ℕ) → AreMarks start → AreMarks (then_all effects start i)
+then_all_ascends effects start zero h = h
+then_all_ascends effects start (suc i) h = AreMarks-and_then (then_all effects start i) (effects i) (then_all_ascends effects start i h)
 
 -- the effects of so many leaves from number k on
 abbrev pub leaves_from : (ℕ → Marks) → (k count : ℕ) → List Marks
@@ -99,7 +99,7 @@ module _ (programs : List (List Stmt)) (s : State) (can : AreRunnable s programs
             ap (λ out. out.1) more
             ∙ ap (λ now. laid now (run (program_at programs i) now).1) ran.state
             ∙ ap (laid (laid s before)) (sym did)
-            ∙ laid_twice s before (leaves i) (rises s can.snapshot.is_state) (then_all_ascends leaves i);
+            ∙ laid_twice s before (leaves i) (rises s can.snapshot.is_state) (then_all_ascends leaves [] i tt);
         are_replies =
             ap (λ r. replies ++ r ∷ []) replied
             ∙ ap (λ rs. rs ++ done.0 ∷ []) ran.are_replies
@@ -118,6 +118,19 @@ module _ (programs : List (List Stmt)) (s : State) (can : AreRunnable s programs
         fit = each_end (FitMarks s) effects effect ran.fit (subst (FitMarks s) (sym same) fits);
         printed = each_end AreReplied replies reply ran.printed (subst AreReplied (sym replied) good.1);
       }
+
+  -- All of the first leaves, where each did what its program does on the snapshot with the effects before it laid on it. What is known
+  -- of the programs before it helps.
+  pub ran_leaves : (n : ℕ) → n ≤ length programs
+      → ((i : ℕ) → i < n → (first_of programs i s).1 ≡ laid s (then_all leaves [] i) → leaves i ≡ does_at programs s i (then_all leaves [] i))
+      → (replies : List Reply) × (effects : List Marks) × RanFirst programs s leaves n replies effects
+  ran_leaves zero few did = ([], [], ran_none programs s leaves)
+  ran_leaves (suc i) few did =
+      let ran = ran_leaves i (omega arith) (λ j below. did j (omega arith)) in (
+        ran.0 ++ (run_at programs s i (then_all leaves [] i)).0 ∷ [],
+        ran.1 ++ leaves i ∷ [],
+        ran_more i ran.0 ran.1 (run_at programs s i (then_all leaves [] i)).0 (leaves i) (omega arith) ran.2 (did i (omega arith) ran.2.state) refl refl,
+      )
 
 -- all of them
 taken_all : {X : Type 0} (xs : List X) → take (length xs) xs ≡ xs

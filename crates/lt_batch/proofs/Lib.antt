@@ -1,6 +1,12 @@
 pub mod Widths
 pub mod FittingRuns
 pub mod InOrder
+pub mod SpanLists
+pub mod LineLists
+pub mod LineLeaves
+pub mod LineInOrder
+pub mod LineRuns
+pub mod LineOpened
 pub mod Indexed
 pub mod Leaves
 pub mod Runs

@@ -173,13 +173,13 @@ tally_is program snapshot on base t state_is p b ended ran reply marks = record 
 }
 
 -- the old run, where its marks and the new ones are none
-pub same_run : (program : List Stmt) (snapshot : State) (on : Marks) (old : KeptTally) → IsPriorOf program snapshot old → old.correction ≡ [] → on ≡ [] → IsRunOn program snapshot on old
-same_run program snapshot on old prior none empty = subst (λ (c : Marks). IsRunOn program snapshot c old) (sym prior.2.correction ∙ none ∙ sym empty) prior.2
+pub same_run : (program : List Stmt) (snapshot : State) (on : Marks) (old : KeptTally) → IsPriorOf program snapshot old → old.on ≡ [] → on ≡ [] → IsRunOn program snapshot on old
+same_run program snapshot on old prior none empty = subst (λ (c : Marks). IsRunOn program snapshot c old) (sym prior.2.same_on ∙ none ∙ sym empty) prior.2
 
-pub kept_is : (program : List Stmt) (snapshot : State) (on : Marks) (t : TallyView) (tally : KeptTally) → IsTallyOn program snapshot on t → tally.run ≡ t → tally.correction ≡ on → tally.effect ≡ t.marks → IsRunOn program snapshot on tally
-kept_is program snapshot on t tally is ran correction effect = record {
+pub kept_is : (program : List Stmt) (snapshot : State) (on : Marks) (t : TallyView) (tally : KeptTally) → IsTallyOn program snapshot on t → tally.run ≡ t → tally.on ≡ on → tally.effect ≡ t.marks → IsRunOn program snapshot on tally
+kept_is program snapshot on t tally is ran same_on effect = record {
   run = subst (IsTallyOn program snapshot on) (sym ran) is;
-  correction = correction;
+  same_on = same_on;
   effect = effect ∙ ap (λ (x : TallyView). x.marks) (sym ran);
 }
 

@@ -25,7 +25,7 @@ pub record IsTallyOn (prog : List Stmt) (snapshot : State) (on : Marks) (run : T
 -- such a run, kept with the marks that were laid and with those that it writes
 pub record IsRunOn (prog : List Stmt) (snapshot : State) (on : Marks) (tally : KeptTally) : Type 0 where
   pub run : IsTallyOn prog snapshot on tally.run
-  pub correction : tally.correction ≡ on
+  pub same_on : tally.on ≡ on
   pub effect : tally.effect ≡ tally.run.marks
 
 -- what the program answered

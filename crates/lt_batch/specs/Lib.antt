@@ -1,6 +1,10 @@
 pub mod Batch
 pub mod Work
 pub mod LeafRun
+pub mod Line
+pub mod Spans
+pub mod LineWork
+pub mod LineRun
 pub mod Priors
 pub mod Replaying
 pub mod Held

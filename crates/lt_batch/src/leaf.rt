@@ -11,7 +11,7 @@ use lt_program::Tally;
 #[derive(Drop)]
 pub struct KeptTally {
     pub run: Tally,
-    pub correction: Marks,
+    pub on: Marks,
     pub effect: Marks,
 }
 

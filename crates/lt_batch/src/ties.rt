@@ -141,7 +141,7 @@ pub(crate) fn is_tied(ties: Ties, tally: &KeptTally) -> bool {
     let mut size: usize = 0;
     for shared in tally.run.parts() {
         let part = shared.part();
-        if hangs_on_some(part, ties, &tally.correction) {
+        if hangs_on_some(part, ties, &tally.on) {
             size = size.saturating_add(part_weight(part));
         }
     }

@@ -155,7 +155,7 @@ fn restated<L>(
     ensures rises { moves.old ≤ moves.new }
 {
     let base = corrected(snapshot, prog, on)?;
-    let out = restate_marks(&old.run, &base, &old.correction, on, moves)?;
+    let out = restate_marks(&old.run, &base, &old.on, on, moves)?;
     let (tally, _touches) = out;
     Ok(tally)
 }
@@ -164,15 +164,11 @@ fn restated<L>(
 fn kept(snapshot: &Database, run: Tally, on: Marks, is_reading: bool) -> Result<KeptTally, NoMemory>
     requires { FitMarks (state_of snapshot.now) run.marks }
     ensures run { IfOk result (λ tally. tally.run ≡ run) }
-    ensures correction { IfOk result (λ tally. tally.correction ≡ on) }
+    ensures on { IfOk result (λ tally. tally.on ≡ on) }
     ensures effect { IfOk result (λ tally. tally.effect ≡ run.marks) }
 {
     let effect = effect_of(snapshot, run.marks(), is_reading)?;
-    Ok(KeptTally {
-        run,
-        correction: on,
-        effect,
-    })
+    Ok(KeptTally { run, on, effect })
 }
 
 /// A second owner of the tally.
@@ -180,13 +176,9 @@ fn shared(old: &KeptTally) -> Result<KeptTally, NoMemory>
     ensures { IfOk result (λ same. same ≡ old.now) }
 {
     let run = old.run.share()?;
-    let correction = old.correction.share()?;
+    let on = old.on.share()?;
     let effect = old.effect.share()?;
-    Ok(KeptTally {
-        run,
-        correction,
-        effect,
-    })
+    Ok(KeptTally { run, on, effect })
 }
 
 /// Whether neither of both lists has a mark.
@@ -224,7 +216,7 @@ fn tally_on<L>(
             Ok(tally)
         }
         Some(old) => {
-            if are_empty(&old.correction, &on) {
+            if are_empty(&old.on, &on) {
                 let tally = shared(old)?;
                 return Ok(tally);
             }

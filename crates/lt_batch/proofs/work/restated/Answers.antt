@@ -25,8 +25,8 @@ restate_marks-requires-clause-indexes g c = subst (HasIndexes c.in_ok-base.base)
 
 pub restate_marks-requires-clause-marked : goal.restate_marks-requires-clause-marked
 restate_marks-requires-clause-marked g c =
-    bases_marked (state_of c.args.snapshot.now) (state_of c.args.old.now.run.base) (state_of c.in_ok-base.base) c.requires.prior.0 c.args.on.now c.args.old.now.correction
-    c.requires.prior.2.run.base c.in_ok-base.ensures.state c.requires.prior.2.correction c.requires.prior.1 c.requires.marks
+    bases_marked (state_of c.args.snapshot.now) (state_of c.args.old.now.run.base) (state_of c.in_ok-base.base) c.requires.prior.0 c.args.on.now c.args.old.now.on
+    c.requires.prior.2.run.base c.in_ok-base.ensures.state c.requires.prior.2.same_on c.requires.prior.1 c.requires.marks
 
 pub returns-clause-run : goal.returns-clause-run
 returns-clause-run g c =

@@ -1,0 +1,5 @@
+use Rattle.std.proofs.Common.{◌∙◌}
+use Rattle.lt_batch.proofs.line_work.LineWorkLeafWork.effect.Goals as goal
+
+pub returns : goal.returns
+returns c = λ leaf on stands. c.effect.ensures ∙ stands.marks
