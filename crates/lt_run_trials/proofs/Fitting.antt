@@ -18,6 +18,10 @@ use Rattle.lt_batch.proofs.Widths.{wide_laid, widths-laid}
 pub all_fit : (s : State) (programs : List (List Stmt)) → AreBoth s → AllByRecursion FitsBoth programs → AllByRecursion (Fits s) programs
 all_fit s programs both fit = each_weaker FitsBoth (Fits s) (λ program fits. fits s both) programs fit
 
+-- so do those of batches
+pub all_batches_fit : (s : State) (batches : List (List (List Stmt))) → AreBoth s → AllByRecursion (AllByRecursion FitsBoth) batches → AllByRecursion (AllByRecursion (Fits s)) batches
+all_batches_fit s batches both fit = each_weaker (AllByRecursion FitsBoth) (AllByRecursion (Fits s)) (λ programs. all_fit s programs both) batches fit
+
 -- marks leave both there
 pub both_laid : (state : State) (marks : Marks) → AreBoth state → AreBoth (laid state marks)
 both_laid state marks both = same_widths state marks ∙ both

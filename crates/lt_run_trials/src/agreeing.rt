@@ -12,7 +12,7 @@ use crate::texts::{Pairs, bare, joined, program, program_over};
 use lt_delta::Marks;
 use lt_face::memory::NoMemory;
 use lt_model::normal::Prog;
-use lt_program::{Outcome, Part, SharedPart, Tally};
+use lt_program::{Found, Part, SharedPart, Tally};
 use std::alloc::Global;
 use std::thread::Threads;
 
@@ -92,10 +92,10 @@ fn rows_are_displaced_as_defined(rt: HostRuntime) -> Result<(), NoMemory> {
 /// Whether an insertion has its row, and a requirement is met by one row.
 fn is_part_of_refused(part: &Part) -> bool {
     match &part.outcome {
-        Outcome::Rows(rows) => rows.len() == 1,
-        Outcome::Both(..) => false,
-        Outcome::Keyed(..) => false,
-        Outcome::Truth(met) => *met && part.sense.hit_count() == 1,
+        Found::Rows(rows) => rows.len() == 1,
+        Found::Both(..) => false,
+        Found::Keyed(..) => false,
+        Found::Truth(met) => *met && part.sense.hit_count() == 1,
     }
 }
 

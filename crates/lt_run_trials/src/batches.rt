@@ -66,7 +66,7 @@ const DEAR: [&str; 8] = [
 ];
 
 /// Whether these are the replies and the marks of the runs.
-fn are_same_runs(replies: &[Reply], effects: &[Marks], runs: &[Ran]) -> bool {
+pub(crate) fn are_same_runs(replies: &[Reply], effects: &[Marks], runs: &[Ran]) -> bool {
     if replies.len() != runs.len() || effects.len() != runs.len() {
         return false;
     }
@@ -107,7 +107,7 @@ fn are_its_rows(db: &Database, relation: u32, rows: &[Row]) -> bool {
 }
 
 /// Whether the database has exactly these two relations.
-fn has_relations(db: &Database, relations: &[RowList]) -> bool {
+pub(crate) fn has_relations(db: &Database, relations: &[RowList]) -> bool {
     match relations {
         [r, e] => {
             db.count() == 2

@@ -18,11 +18,15 @@ mod circuits;
 #[cfg(test)]
 mod comparing;
 #[cfg(test)]
+mod finals;
+#[cfg(test)]
 mod floor;
 #[cfg(test)]
 mod joins;
 #[cfg(test)]
 mod layers;
+#[cfg(test)]
+mod lines;
 #[cfg(test)]
 mod meeting;
 #[cfg(test)]

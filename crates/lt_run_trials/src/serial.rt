@@ -53,6 +53,34 @@ pub(crate) fn one_run(
     Ok(Ran { reply, marks })
 }
 
+/// The programs one after another on these relations, which they change.
+pub(crate) fn runs_on(
+    alloc: Global,
+    relations: &mut Vec<RowList>,
+    progs: &[Arc<Prog>],
+) -> Result<Vec<Ran>, NoMemory>
+    requires rows { AreRowsOfBoth relations.old.items }
+    requires fit { AllByRecursion FitsBoth (map arc_value progs.now) }
+    ensures { OnOk result (AreRowsOfBoth relations.new.items) }
+{
+    let mut runs = Vec::new(alloc);
+    for prog in progs {
+        let ran = one_run(alloc, relations, prog)?;
+        runs.push(ran)?;
+    }
+    Ok(runs)
+}
+
+/// The relations with the rows that these statements leave.
+pub(crate) fn rows_of(alloc: Global, stock: &str) -> Result<Vec<RowList>, NoMemory>
+    ensures { IfOk result (λ relations. AreRowsOfBoth relations.items) }
+{
+    let first = program(alloc, stock)?;
+    let mut relations = no_rows(alloc)?;
+    one_run(alloc, &mut relations, &first)?;
+    Ok(relations)
+}
+
 /// The programs one after another, from the rows that these statements leave.
 pub(crate) fn one_after_another(
     alloc: Global,
@@ -61,14 +89,8 @@ pub(crate) fn one_after_another(
 ) -> Result<Serial, NoMemory>
     requires { AllByRecursion FitsBoth (map arc_value progs.now) }
 {
-    let first = program(alloc, stock)?;
-    let mut runs = Vec::new(alloc);
-    let mut relations = no_rows(alloc)?;
-    one_run(alloc, &mut relations, &first)?;
-    for prog in progs {
-        let ran = one_run(alloc, &mut relations, prog)?;
-        runs.push(ran)?;
-    }
+    let mut relations = rows_of(alloc, stock)?;
+    let runs = runs_on(alloc, &mut relations, progs)?;
     Ok(Serial { runs, relations })
 }
 

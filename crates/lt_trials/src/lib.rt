@@ -4,6 +4,8 @@
 #[cfg(test)]
 mod agree;
 #[cfg(test)]
+mod cuts;
+#[cfg(test)]
 mod database;
 #[cfg(test)]
 mod edges;
@@ -23,6 +25,8 @@ mod names;
 mod net;
 #[cfg(test)]
 mod pages;
+#[cfg(test)]
+mod parity;
 #[cfg(test)]
 mod plans;
 #[cfg(test)]

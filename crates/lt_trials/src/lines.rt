@@ -1,92 +1,22 @@
 //! Lines of segments: their events by hand and at random, how far the front is, and what stands below it.
-ghost use Rattle.std.specs.Prelude.{◌≡◌, ◌≢◌, ◌≤◌, ◌<◌, ◌+◌, ◌^◌, ◌∷◌, [], ⊤, ◌%◌, ◌==◌, ℕ, List, Option, Some, None, IfOk, length};
+ghost use Rattle.std.specs.Prelude.{◌≡◌, ◌≢◌, ◌≤◌, ◌<◌, ◌+◌, ◌^◌, ℕ, List, Option, None, IfOk, length};
 ghost use Rattle.lt_model.specs.declared.mark.Mark.{Mark as MarkType};
-ghost use Rattle.lt_model.specs.Marks.{AreMarks};
-ghost use Rattle.lt_model.proofs.Composition.{AreMarks-and_then};
 ghost use Rattle.lt_net.specs.Alone.{IsUnclaimed};
 ghost use Rattle.lt_net.specs.Line.{AreSizes, IsPast, size_in};
 ghost use Rattle.lt_circuit.specs.Line.{line_state, LineView};
 ghost use Rattle.lt_circuit.specs.LineJob.{claim_of_line_job};
 ghost use Rattle.lt_circuit.specs.Row.{sizes};
 ghost use Rattle.lt_trials.specs.LineHands.{AreFew, AreInHand, IsInHand};
-ghost use Rattle.lt_trials.specs.declared.lines.Parity.{Parity as ParityType};
+ghost use Rattle.lt_trials.specs.declared.parity.Parity.{Parity as ParityType};
 
 use crate::agree::holds;
-use lt_circuit::{LeafWork, Line, LineClaim, LineEntry, LineJob, LineThis};
-use lt_delta::{Mark, MarkList, Marks};
-use lt_face::{Items, Key, Moves, NoMemory, Row};
+use crate::parity::Parity;
+use lt_circuit::{Claim, Line, LineEntry, LineJob, This};
+use lt_delta::Marks;
+use lt_face::{Key, Moves, NoMemory, Row};
 use std::alloc::Global;
 use std::marker::Model;
 use std::sync::Arc;
-
-/// Each leaf writes one mark on a row of its own: it puts the row in where an even number of marks stands before it, and else
-/// takes it out.
-#[derive(Drop)]
-struct Parity {
-    alloc: Global,
-}
-
-/// The marks with one mark on this row.
-fn one_mark(alloc: Global, row: Key, plus: bool) -> Result<Marks, NoMemory>
-    ensures { IfOk result (λ marks. marks ≡ record { relation = 0; row = row ∷ []; plus = plus } ∷ []) }
-{
-    let mut list: MarkList = Items::new(alloc);
-    let row = Row::from_cells(alloc, &[row]);
-    list.push(Mark {
-        relation: 0,
-        row,
-        plus,
-    })?;
-    let marks = Marks::from_list(list)?;
-    Ok(marks)
-}
-
-impl LeafWork for Parity {
-    type Tally = Marks;
-
-    ghost has = { λ w leaf. ⊤ };
-
-    ghost fits = { λ w c. AreMarks c };
-
-    ghost does = { λ w leaf c. record { relation = 0; row = leaf ∷ []; plus = length c % 2 == 0 } ∷ [] };
-
-    ghost stands_for = { λ w tally leaf c. tally ≡ record { relation = 0; row = leaf ∷ []; plus = length c % 2 == 0 } ∷ [] };
-
-    ghost bound = { λ w prior leaf c. Some 0 };
-
-    ghost fits_marks = { λ w a fit. fit };
-
-    ghost empty_fits = { λ w. tt };
-
-    ghost then_fits = { λ w a b fit_a fit_b. AreMarks-and_then a b fit_a };
-
-    ghost does_fits = { λ w leaf c there fit. (tt, tt) };
-
-    fn work<L>(
-        &self,
-        leaf: u32,
-        _prior: Option<&Marks>,
-        correction: &Marks,
-        _moves: &mut Moves<L>,
-    ) -> Result<Marks, NoMemory> {
-        let plus = correction.len() % 2 == 0;
-        let marks = one_mark(self.alloc, leaf as Key, plus)?;
-        Ok(marks)
-    }
-
-    fn work_last<L>(
-        &self,
-        leaf: u32,
-        correction: &Marks,
-        moves: &mut Moves<L>,
-    ) -> Result<Marks, NoMemory> {
-        self.work(leaf, None, correction, moves)
-    }
-
-    fn effect<'a>(&self, tally: &'a Marks) -> &'a Marks {
-        tally
-    }
-}
 
 /// The opening over so many leaves in each segment.
 fn opening(alloc: Global, leaves: &[u32]) -> Result<Line<Parity>, NoMemory>
@@ -155,12 +85,12 @@ fn begin(
         return false;
     }
     match line.claim_this(worker, code) {
-        LineThis::Job(job) => {
+        This::Job(job) => {
             *hand = Some(job);
             true
         }
-        LineThis::NotPending => false,
-        LineThis::NoMemory => false,
+        This::NotPending => false,
+        This::NoMemory => false,
     }
 }
 
@@ -177,14 +107,14 @@ fn any(line: &mut Line<Parity>, hand: &mut Option<LineJob<Parity>>, worker: u32)
         return None;
     }
     match line.claim(worker) {
-        LineClaim::Job(job) => {
+        Claim::Job(job) => {
             let code = job.code();
             *hand = Some(job);
             Some(code)
         }
-        LineClaim::Busy { in_flight: _ } => None,
-        LineClaim::Settled => None,
-        LineClaim::NoMemory => None,
+        Claim::Busy { in_flight: _ } => None,
+        Claim::Settled => None,
+        Claim::NoMemory => None,
     }
 }
 

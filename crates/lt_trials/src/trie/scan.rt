@@ -2,7 +2,7 @@
 ghost use Rattle.std.specs.Prelude.{◌≡◌};
 ghost use Rattle.lt_face.specs.Rows.{IsRowSet};
 
-use lt_face::{Key, Near, Row, RowReads};
+use lt_face::{Fraction, Key, Near, Row, RowReads};
 use std::marker::Model;
 
 /// Rows of two cells.
@@ -57,5 +57,10 @@ impl RowReads for Scan {
         let mut from = prefix.copy_row();
         from.push(bound);
         self.row_at_least(&from)
+    }
+
+    /// None: no test cuts it.
+    fn row_about(&self, _along: Fraction) -> Option<&Row> {
+        None
     }
 }
