@@ -9,23 +9,23 @@ use Rattle.lt_command.specs.declared.words.Command.TheVariants.{Bench, Replay, R
 abbrev asked : List Text → Option declared.Command
 asked words = command (codes "lt_shell" ∷ words)
 
-four_where_no_number : asked (codes "run" ∷ []) ≡ Some (Run 4 false false)
+four_where_no_number : asked (codes "run" ∷ []) ≡ Some (Run 4 1 false false)
 unfolding command clap_on_literals
 four_where_no_number = refl
 
-one : asked (codes "run" ∷ codes "--workers" ∷ codes "1" ∷ []) ≡ Some (Run 1 false false)
+one : asked (codes "run" ∷ codes "--workers" ∷ codes "1" ∷ []) ≡ Some (Run 1 1 false false)
 unfolding command clap_on_literals
 one = refl
 
-sixteen : asked (codes "run" ∷ codes "--workers=16" ∷ []) ≡ Some (Run 16 false false)
+sixteen : asked (codes "run" ∷ codes "--workers=16" ∷ []) ≡ Some (Run 16 1 false false)
 unfolding command clap_on_literals
 sixteen = refl
 
-leading_zero : asked (codes "run" ∷ codes "--workers" ∷ codes "04" ∷ []) ≡ Some (Run 4 false false)
+leading_zero : asked (codes "run" ∷ codes "--workers" ∷ codes "04" ∷ []) ≡ Some (Run 4 1 false false)
 unfolding command clap_on_literals
 leading_zero = refl
 
-plus : asked (codes "run" ∷ codes "--workers" ∷ codes "+4" ∷ []) ≡ Some (Run 4 false false)
+plus : asked (codes "run" ∷ codes "--workers" ∷ codes "+4" ∷ []) ≡ Some (Run 4 1 false false)
 unfolding command clap_on_literals
 plus = refl
 
@@ -57,7 +57,7 @@ help : asked (codes "help" ∷ []) ≡ None
 unfolding command clap_on_literals
 help = refl
 
-end_of_options : asked (codes "run" ∷ codes "--" ∷ []) ≡ Some (Run 4 false false)
+end_of_options : asked (codes "run" ∷ codes "--" ∷ []) ≡ Some (Run 4 1 false false)
 unfolding command clap_on_literals
 end_of_options = refl
 
@@ -77,7 +77,7 @@ no_word : command [] ≡ None
 unfolding command clap_on_literals
 no_word = refl
 
-with_marks : asked (codes "run" ∷ codes "--marks" ∷ codes "--workers" ∷ codes "2" ∷ []) ≡ Some (Run 2 true false)
+with_marks : asked (codes "run" ∷ codes "--marks" ∷ codes "--workers" ∷ codes "2" ∷ []) ≡ Some (Run 2 1 true false)
 unfolding command clap_on_literals
 with_marks = refl
 
@@ -105,9 +105,25 @@ readers_of_a_run : asked (codes "run" ∷ codes "--readers" ∷ codes "1" ∷ []
 unfolding command clap_on_literals
 readers_of_a_run = refl
 
-with_traces : asked (codes "run" ∷ codes "--trace" ∷ codes "--marks" ∷ []) ≡ Some (Run 4 true true)
+with_traces : asked (codes "run" ∷ codes "--trace" ∷ codes "--marks" ∷ []) ≡ Some (Run 4 1 true true)
 unfolding command clap_on_literals
 with_traces = refl
+
+eight_in_line : asked (codes "run" ∷ codes "--pipeline" ∷ codes "8" ∷ codes "--workers" ∷ codes "2" ∷ []) ≡ Some (Run 2 8 false false)
+unfolding command clap_on_literals
+eight_in_line = refl
+
+nine_in_line : asked (codes "run" ∷ codes "--pipeline" ∷ codes "9" ∷ []) ≡ None
+unfolding command clap_on_literals
+nine_in_line = refl
+
+none_in_line : asked (codes "run" ∷ codes "--pipeline=0" ∷ []) ≡ None
+unfolding command clap_on_literals
+none_in_line = refl
+
+lines_of_a_replay : asked (codes "replay" ∷ codes "--pipeline" ∷ codes "1" ∷ []) ≡ None
+unfolding command clap_on_literals
+lines_of_a_replay = refl
 
 traces_of_a_bench : asked (codes "bench" ∷ codes "--seed" ∷ codes "1" ∷ codes "--items=64" ∷ codes "--programs" ∷ codes "32" ∷ codes "--trace" ∷ []) ≡ None
 unfolding command clap_on_literals

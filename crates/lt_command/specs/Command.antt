@@ -27,6 +27,10 @@ number_within least most otherwise id rows =
 abbrev pub workers_in : List Row → ℕ
 workers_in = number_within 1 most_workers 4 (codes "workers")
 
+-- how many batches run as one line: 1 where they don't say
+abbrev pub pipeline_in : List Row → ℕ
+pipeline_in = number_within 1 definition.most_in_line 1 (codes "pipeline")
+
 -- whether an option without a value is given
 abbrev pub is_given_in : Text → List Row → Bool
 is_given_in id rows = option_map_or (λ text. bytes_eq text (codes "true")) (first_of id rows) false
@@ -52,9 +56,9 @@ programs_in = number_within 1 65536 1 (codes "programs")
 abbrev pub readers_in : List Row → ℕ
 readers_in = number_within 0 definition.most_readers 0 (codes "readers")
 
--- it has from 1 to 16 workers, from 1 to 16384 items, from 1 to 65536 programs and at most 8 readers
+-- it has from 1 to 16 workers, from 1 to 8 batches in a line, from 1 to 16384 items, from 1 to 65536 programs and at most 8 readers
 abbrev pub IsWithin : declared.Command → Type 0
-IsWithin (Run workers marks trace) = (1 ≤ workers) × (workers ≤ most_workers)
+IsWithin (Run workers pipeline marks trace) = (1 ≤ workers) × (workers ≤ most_workers) × (1 ≤ pipeline) × (pipeline ≤ definition.most_in_line)
 IsWithin (Bench seed items programs workers readers) =
     (1 ≤ items) × (items ≤ 16384) × (1 ≤ programs) × (programs ≤ 65536) × (1 ≤ workers) × (workers ≤ most_workers) × (readers ≤ definition.most_readers)
 IsWithin (Replay marks) = Unit {0}
@@ -63,7 +67,7 @@ IsWithin (Replay marks) = Unit {0}
 abbrev pub command_in : Option (Text × List Row) → Option declared.Command
 command_in None = None
 command_in (Some p) =
-    if bytes_eq p.0 (codes "run") then Some (Run (workers_in p.1) (marks_in p.1) (trace_in p.1))
+    if bytes_eq p.0 (codes "run") then Some (Run (workers_in p.1) (pipeline_in p.1) (marks_in p.1) (trace_in p.1))
     else if bytes_eq p.0 (codes "bench") then Some (Bench (seed_in p.1) (items_in p.1) (programs_in p.1) (workers_in p.1) (readers_in p.1))
     else if bytes_eq p.0 (codes "replay") then Some (Replay (marks_in p.1))
     else None

@@ -9,11 +9,22 @@ use Rattle.clap.specs.declared.builder.action.ArgAction.TheVariants.{SetTrue}
 abbrev pub most_readers : ℕ
 most_readers = 8
 
+-- batches that run as one line
+abbrev pub most_in_line : ℕ
+most_in_line = 8
+
 -- `--workers N`, with N from 1 to 16
 abbrev pub workers : Rule
 workers = record (new_rule (codes "workers")) {
   long = Some (codes "workers");
   parser = Some (Signed (pos 1) (pos most_workers));
+}
+
+-- `--pipeline D`, with D from 1 to 8
+abbrev pub pipeline : Rule
+pipeline = record (new_rule (codes "pipeline")) {
+  long = Some (codes "pipeline");
+  parser = Some (Signed (pos 1) (pos most_in_line));
 }
 
 -- `--marks`
@@ -63,7 +74,7 @@ readers = record (new_rule (codes "readers")) {
 
 -- `run`
 abbrev pub run : App
-run = with_rule (with_rule (with_rule (new_app (codes "run")) workers) marks) trace
+run = with_rule (with_rule (with_rule (with_rule (new_app (codes "run")) workers) pipeline) marks) trace
 
 -- `bench`, as far as it says which script is generated
 abbrev pub bench_of_script : App

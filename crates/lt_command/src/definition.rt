@@ -11,6 +11,9 @@ use std::alloc::{AllocError, Global};
 /// Readers beside the batches of a bench.
 pub(crate) const MOST_READERS: u32 = 8;
 
+/// Batches that run as one line.
+pub(crate) const MOST_IN_LINE: u32 = 8;
+
 // `--workers N`: how many workers run a batch.
 fn workers<'a>(alloc: Global) -> Arg<'a>
     ensures rule { rule_of result ≡ definition.workers }
@@ -19,6 +22,16 @@ fn workers<'a>(alloc: Global) -> Arg<'a>
     Arg::new(alloc, "workers")
         .long("workers")
         .value_parser(value_parser!(u32).range(1..=MOST_WORKERS as i64))
+}
+
+// `--pipeline D`: how many batches that follow each other run as one line.
+fn pipeline<'a>(alloc: Global) -> Arg<'a>
+    ensures rule { rule_of result ≡ definition.pipeline }
+    ensures local { result.global ≡ false }
+{
+    Arg::new(alloc, "pipeline")
+        .long("pipeline")
+        .value_parser(value_parser!(u32).range(1..=MOST_IN_LINE as i64))
 }
 
 // `--marks`: the marks of each program that is done are told too.
@@ -90,6 +103,7 @@ fn run<'a>(alloc: Global) -> Result<Command<'a>, AllocError>
     ensures local { IfOk result (λ command. (fields_of command).has_globals ≡ false) }
 {
     let run = Command::new(alloc, "run").arg(workers(alloc))?;
+    let run = run.arg(pipeline(alloc))?;
     let run = run.arg(marks(alloc))?;
     run.arg(trace(alloc))
 }

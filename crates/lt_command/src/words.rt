@@ -3,7 +3,7 @@ ghost use Rattle.std.specs.Prelude.{◌≡◌, ◌≤◌, IfOk, IfSome, map, str
 ghost use Rattle.clap.specs.Words.{found_of, rows_of, subcommand_rows_of};
 ghost use Rattle.lt_command.specs.Command.{command, command_in, is_given_in, number_within, seed_in, IsWithin};
 
-use crate::definition::{MOST_READERS, commands};
+use crate::definition::{MOST_IN_LINE, MOST_READERS, commands};
 use clap::ArgMatches;
 use clap::error::ErrorKind;
 use lt_face::NoMemory;
@@ -13,9 +13,11 @@ use std::alloc::Global;
 /// A command, with what its options say.
 #[derive(Clone, Copy, Debug, PartialEq, Eq)]
 pub enum Command {
-    /// Reads a script and writes its report; so many workers run each batch. Where the traces are asked for, they follow.
+    /// Reads a script and writes its report; so many workers run each batch, or a line of up to so many batches. Where the traces
+    /// are asked for, they follow.
     Run {
         workers: u32,
+        pipeline: u32,
         marks: bool,
         trace: bool,
     },
@@ -73,6 +75,7 @@ fn command_met(matches: &ArgMatches<'_>) -> Option<Command>
     if name == "run" {
         return Some(Command::Run {
             workers: number_of(inner, "workers", 4, 1, MOST_WORKERS as u32),
+            pipeline: number_of(inner, "pipeline", 1, 1, MOST_IN_LINE),
             marks: is_given(inner, "marks"),
             trace: is_given(inner, "trace"),
         });

@@ -24,23 +24,24 @@ use Rattle.lt_batch.specs.Batch.{serial_effects, serial_replies, serial_state}
 use Rattle.lt_report.specs.Headed.{IsHeaded}
 use Rattle.lt_program.specs.Run.{AreReplied}
 use Rattle.lt_session.specs.declared.batch.Ran.{Ran}
-use Rattle.lt_session.specs.Batches.{checked_of, FitsIfGood, good_ones, IsRun, told}
+use Rattle.lt_session.specs.declared.batch.Judgement.{Judgement}
+use Rattle.lt_session.specs.Batches.{checked_of, FitsIfGood, good_ones, HasAnswers, IsRun, told}
 use Rattle.lt_session.specs.Versions.{IsFront}
 use Rattle.lt_session.specs.World.{said, Shows}
 use Rattle.lt_session.specs.declared.world.World.{World}
 use Rattle.lt_session.proofs.Columns.{AllByRecursion-push, IsFront-now, widths-laid}
 use Rattle.lt_session.proofs.Versions.{count}
 
-abbrev checks : Schema → List Program → List Checked
+abbrev pub checks : Schema → List Program → List Checked
 checks schema programs = map (λ (p : Program). checked p schema) programs
 
-abbrev named : Schema → List Program → List (Text × Checked)
+abbrev pub named : Schema → List Program → List (Text × Checked)
 named schema programs = map (λ (p : Program). (p.name, checked p schema)) programs
 
 abbrev pub replies_of : List (Reply × Marks) → List Reply
 replies_of dones = map (λ (done : Reply × Marks). done.0) dones
 
-abbrev effects_of : List (Reply × Marks) → List Marks
+abbrev pub effects_of : List (Reply × Marks) → List Marks
 effects_of dones = map (λ (done : Reply × Marks). done.1) dones
 
 -- ---- the programs without a code
@@ -50,7 +51,7 @@ one_good : (p : Program) (c : Checked) (rest : List (Text × Checked)) (cs : Lis
 one_good p (Good prog) rest cs same = ap (λ (ps : List (List Stmt)). prog ∷ ps) same
 one_good p (Bad code j) rest cs same = same
 
-same_goods : (schema : Schema) (programs : List Program) → filter_map (λ (check : Text × Checked). good_of check.1) (named schema programs) ≡ filter_map good_of (checks schema programs)
+pub same_goods : (schema : Schema) (programs : List Program) → filter_map (λ (check : Text × Checked). good_of check.1) (named schema programs) ≡ filter_map good_of (checks schema programs)
 same_goods schema [] = refl
 same_goods schema (p ∷ programs) = one_good p (checked p schema) (named schema programs) (checks schema programs) (same_goods schema programs)
 
@@ -63,7 +64,7 @@ one_told marks schema p (Bad code j) rest programs cs dones same = ap (λ (t : T
 one_told marks schema p (Good prog) rest programs cs [] same = refl
 one_told marks schema p (Good prog) rest programs cs (d ∷ dones) same = ap (λ (t : Text). done_text marks schema p.name d ++ t) (same dones)
 
-all_told : (marks : Bool) (schema : Schema) (programs : List Program) (dones : List (Reply × Marks))
+pub all_told : (marks : Bool) (schema : Schema) (programs : List Program) (dones : List (Reply × Marks))
     → programs_text (done_text marks schema) (named schema programs) dones ≡ told marks schema programs (checks schema programs) (replies_of dones) (effects_of dones)
 all_told marks schema [] dones = refl
 all_told marks schema (p ∷ programs) dones = one_told marks schema p (checked p schema) (named schema programs) programs (checks schema programs) dones (all_told marks schema programs)
@@ -178,6 +179,23 @@ few_run schema programs cs progs judged good few =
 
 abbrev pub widths_of : (w : World) (m : model.World) → Shows w m → IsStateOf w.schema (state_of w.database)
 widths_of w m s = subst (λ (st : State). IsStateOf w.schema st) s.state (subst (λ (h : Schema). IsStateOf h m.state) s.schema s.widths)
+
+-- the answers of programs that ran one after another can be written
+pub answers_are : (schema : Schema) (snapshot : State) → IsStateOf schema snapshot → (programs : List Program) (judgements : List Judgement) (state : State)
+    → map checked_of judgements ≡ map (λ (p : Program). checked p schema) programs → AllByRecursion AreReplied (serial_replies (good_ones judgements) state)
+    → AllByRecursion (FitMarks snapshot) (serial_effects (good_ones judgements) state)
+    → HasAnswers schema programs judgements (serial_replies (good_ones judgements) state) (serial_effects (good_ones judgements) state)
+answers_are schema snapshot widths programs judgements state judged can_reply fit =
+    let dones : length (serial (good_ones judgements) state).0 ≡ length (good_ones judgements) = serial-length (good_ones judgements) state in
+    let replies_count : length (serial_replies (good_ones judgements) state) ≡ length (serial (good_ones judgements) state).0 = length-map (serial (good_ones judgements) state).0 (λ (done : Reply × Marks). done.0) in
+    let effects_count : length (serial_effects (good_ones judgements) state) ≡ length (serial (good_ones judgements) state).0 = length-map (serial (good_ones judgements) state).0 (λ (done : Reply × Marks). done.1) in
+    record {
+      checks = sym (length-map judgements checked_of) ∙ ap (λ (cs : List Checked). length cs) judged ∙ length-map programs (λ (p : Program). checked p schema);
+      some_replies = omega (arith, dones, replies_count);
+      some_effects = omega (arith, dones, effects_count);
+      replied = can_reply;
+      headed = all_headed schema snapshot (serial_effects (good_ones judgements) state) widths fit;
+    }
 
 pub run_is : (w : World) (m : model.World) → Shows w m → (programs : List Program) (ran : Ran) (progs : List (List Stmt)) (replies : List Reply) (effects : List Marks)
     → ran.number ≡ length w.versions → map checked_of ran.judgements.items ≡ map (λ (p : Program). checked p w.schema) programs → progs ≡ good_ones ran.judgements.items

@@ -36,8 +36,8 @@ none_taken marks l h =
 
 -- so for a run, whatever the words are
 pub none_run : (o : Option Command) (l h : Bytes) → IfRun o (λ marks. IsPart marks l l h h)
-none_run (Some (Run workers marks false)) l h = none_taken marks l h
-none_run (Some (Run workers marks true)) l h = tt
+none_run (Some (Run workers pipeline marks false)) l h = none_taken marks l h
+none_run (Some (Run workers pipeline marks true)) l h = tt
 none_run (Some (Replay marks)) l h = tt
 none_run (Some (Bench seed items programs workers readers)) l h = tt
 none_run None l h = tt

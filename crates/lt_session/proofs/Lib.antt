@@ -6,6 +6,11 @@ pub mod Batches
 pub mod KeysStay
 pub mod Goods
 pub mod Telling
+pub mod Lined
+pub mod LineTelling
+pub mod Published
+pub mod Answered
+pub mod Held
 pub mod Showing
 pub mod Writing
 pub mod Fed

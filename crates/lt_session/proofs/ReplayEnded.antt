@@ -113,7 +113,7 @@ none_replayed marks l h = record { bytes = []; taken = Consumes-nil l; within = 
 
 -- so whatever the words are
 pub none_replay : (o : Option Command) (l h : Bytes) → IfReplay o (λ marks. IsReplayPart marks l l h h)
-none_replay (Some (Run workers marks trace)) l h = tt
+none_replay (Some (Run workers pipeline marks trace)) l h = tt
 none_replay (Some (Replay marks)) l h = none_replayed marks l h
 none_replay (Some (Bench seed items programs workers readers)) l h = tt
 none_replay None l h = tt

@@ -69,13 +69,6 @@ report_goes_on marks items more close =
           ∙ append_assoc (fold (step marks) opening items).text a.more (close_text close);
     }
 
--- and of the item behind them
-pub report_with : (marks : Bool) (items : List Item) (item : Item) (more : List Item) (close : Close) (rest : Text)
-    → report marks ((items ++ item ∷ []) ++ more) close ≡ (fold (step marks) opening (items ++ item ∷ [])).text ++ rest
-    → report marks ((items ++ item ∷ []) ++ more) close ≡ ((fold (step marks) opening items).text ++ said marks (fold (step marks) opening items) item) ++ rest
-report_with marks items item more close rest e =
-    e ∙ ap (λ (w : World). w.text ++ rest) (fold-append (step marks) opening items (item ∷ [])) ∙ ap (λ (t : Text). t ++ rest) (step_says marks (fold (step marks) opening items) item)
-
 -- the session stands there with nothing written, too
 pub Shows-unwritten : (w : session.World) (m : World) → Shows w m → Shows w (unwritten m)
 Shows-unwritten w m s = record { schema = s.schema; some = s.some; widths = s.widths; state = s.state; versions = s.versions; older = s.older }

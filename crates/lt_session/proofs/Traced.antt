@@ -30,6 +30,7 @@ use Rattle.lt_session.specs.declared.world.World.{World}
 use Rattle.lt_session.specs.Batches.{good_ones, IsRun}
 use Rattle.lt_session.specs.Outcomes.{HasSettled}
 use Rattle.lt_session.specs.Traces.{batch_in, batches_from, good_programs, AreKept, Begun, IsBlockOf, KeepsBlock, Settles}
+use Rattle.lt_session.specs.Waiting.{KeepsBlocks}
 use Rattle.lt_session.specs.World.{Shows}
 use Rattle.lt_session.proofs.Batches.{serial-length}
 use Rattle.lt_session.proofs.Versions.{count}
@@ -86,12 +87,27 @@ from_more marks m [] item = append-nil (batch_in m item)
 from_more marks m (i ∷ items) item =
     ap (λ (bs : List Begun). batch_in m i ++ bs) (from_more marks (step marks m i) items item) ∙ sym (append_assoc (batch_in m i) (batches_from marks (step marks m i) items) (batch_in (fold (step marks) (step marks m i) items) item))
 
-pub kept_more : (trace marks : Bool) (items : List Item) (item : Item) (old new : List Block) → AreKept trace marks items old → KeepsBlock trace (fold (step marks) opening items) item old new → AreKept trace marks (items ++ item ∷ []) new
-kept_more true marks items item old new kept k =
-    subst (λ (bs : List Begun). AllZip IsBlockOf bs new) (sym (from_more marks opening items item))
-    (subst (AllZip IsBlockOf (batches_from marks opening items ++ batch_in (fold (step marks) opening items) item)) (sym k.1)
-    (zip_more (batches_from marks opening items) (batch_in (fold (step marks) opening items) item) old k.0 kept k.2))
-kept_more false marks items item old new kept k = k ∙ kept
+pub from_all : (marks : Bool) (m : model.World) (items more : List Item) → batches_from marks m (items ++ more) ≡ batches_from marks m items ++ batches_from marks (fold (step marks) m items) more
+from_all marks m [] more = refl
+from_all marks m (i ∷ items) more =
+    ap (λ (bs : List Begun). batch_in m i ++ bs) (from_all marks (step marks m i) items more) ∙ sym (append_assoc (batch_in m i) (batches_from marks (step marks m i) items) (batches_from marks (fold (step marks) (step marks m i) items) more))
+
+pub kept_all : (trace marks : Bool) (items more : List Item) (old new : List Block) → AreKept trace marks items old → KeepsBlocks trace marks (fold (step marks) opening items) more old new → AreKept trace marks (items ++ more) new
+kept_all true marks items more old new kept k =
+    subst (λ (bs : List Begun). AllZip IsBlockOf bs new) (sym (from_all marks opening items more))
+    (subst (AllZip IsBlockOf (batches_from marks opening items ++ batches_from marks (fold (step marks) opening items) more)) (sym k.1)
+    (zip_more (batches_from marks opening items) (batches_from marks (fold (step marks) opening items) more) old k.0 kept k.2))
+kept_all false marks items more old new kept k = k ∙ kept
+
+-- the block of one item, and none of no item
+pub keeps_one : (trace marks : Bool) (m : model.World) (item : Item) (old new : List Block) → KeepsBlock trace m item old new → KeepsBlocks trace marks m (item ∷ []) old new
+keeps_one true marks m item old new k = (k.0, k.1, subst (λ (bs : List Begun). AllZip IsBlockOf bs k.0) (sym (append-nil (batch_in m item))) k.2)
+keeps_one false marks m item old new k = k
+
+pub keeps_none : (trace marks : Bool) (m : model.World) (items : List Item) (old new : List Block) → new ≡ old → (trace ≡ true → items ≡ []) → KeepsBlocks trace marks m items old new
+keeps_none true marks m items old new same none =
+    ([], same ∙ sym (append-nil old), subst (λ (is : List Item). AllZip IsBlockOf (batches_from marks m is) []) (sym (none refl)) tt)
+keeps_none false marks m items old new same none = same
 
 pub kept_none : (trace marks : Bool) (blocks : List Block) → blocks ≡ [] → AreKept trace marks [] blocks
 kept_none true marks blocks e = subst (AllZip IsBlockOf []) (sym e) tt

@@ -43,8 +43,8 @@ module _ (marks : Bool) (l m : Bytes) (r s : ℕ) (h i : Bytes) (w x : ℕ) wher
 
 -- nothing was read and nothing was written, whatever the words are
 pub none_traced : (o : Option Command) (l h : Bytes) → IfTraced o (λ marks. IsTracedPart marks l l h h)
-none_traced (Some (Run workers marks true)) l h = traced_part marks l l h h (none_taken marks l h)
-none_traced (Some (Run workers marks false)) l h = tt
+none_traced (Some (Run workers pipeline marks true)) l h = traced_part marks l l h h (none_taken marks l h)
+none_traced (Some (Run workers pipeline marks false)) l h = tt
 none_traced (Some (Replay marks)) l h = tt
 none_traced (Some (Bench seed items programs workers readers)) l h = tt
 none_traced None l h = tt

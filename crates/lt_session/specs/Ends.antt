@@ -20,15 +20,15 @@ use Rattle.lt_session.specs.Reports.{IsFrontOf, IsReportOf}
 
 -- the words ask for a run without traces, with marks or without, of which this holds
 abbrev pub IfRun : Option Command → (Bool → Type 0) → Type 0
-IfRun (Some (Run workers marks false)) P = P marks
-IfRun (Some (Run workers marks true)) P = ⊤
+IfRun (Some (Run workers pipeline marks false)) P = P marks
+IfRun (Some (Run workers pipeline marks true)) P = ⊤
 IfRun (Some (Replay marks)) P = ⊤
 IfRun (Some (Bench seed items programs workers readers)) P = ⊤
 IfRun None P = ⊤
 
 -- the words ask for a bench, with this seed and so many items, programs and readers, of which this holds
 abbrev pub IfBench : Option Command → (ℕ → ℕ → ℕ → ℕ → Type 0) → Type 0
-IfBench (Some (Run workers marks trace)) P = ⊤
+IfBench (Some (Run workers pipeline marks trace)) P = ⊤
 IfBench (Some (Replay marks)) P = ⊤
 IfBench (Some (Bench seed items programs workers readers)) P = P seed items programs readers
 IfBench None P = ⊤
@@ -103,7 +103,7 @@ bench_text seed items programs readers = summary_text (summary_of seed items pro
 
 -- the words ask for a replay
 abbrev pub IsReplayAsked : Option Command → Type 0
-IsReplayAsked (Some (Run workers marks trace)) = ⊥
+IsReplayAsked (Some (Run workers pipeline marks trace)) = ⊥
 IsReplayAsked (Some (Bench seed items programs workers readers)) = ⊥
 IsReplayAsked (Some (Replay marks)) = ⊤
 IsReplayAsked None = ⊥

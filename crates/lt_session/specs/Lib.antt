@@ -21,3 +21,6 @@ pub mod FrontReads
 pub mod Replays
 pub mod ReplayEnds
 pub mod ReplaySteps
+pub mod Publishing
+pub mod Lines
+pub mod Waiting

@@ -26,7 +26,7 @@ use Rattle.lt_session.specs.Replays.{AreRight, IsLeft, IsRefusedAt}
 
 -- the words ask for a replay, with marks or without, of which this holds
 abbrev pub IfReplay : Option Command → (Bool → Type 0) → Type 0
-IfReplay (Some (Run workers marks trace)) P = ⊤
+IfReplay (Some (Run workers pipeline marks trace)) P = ⊤
 IfReplay (Some (Bench seed items programs workers readers)) P = ⊤
 IfReplay (Some (Replay marks)) P = P marks
 IfReplay None P = ⊤

@@ -20,8 +20,8 @@ use Rattle.lt_session.specs.Traces.{AreBlocks}
 
 -- the words ask for a run with traces, with marks or without, of which this holds
 abbrev pub IfTraced : Option Command → (Bool → Type 0) → Type 0
-IfTraced (Some (Run workers marks true)) P = P marks
-IfTraced (Some (Run workers marks false)) P = ⊤
+IfTraced (Some (Run workers pipeline marks true)) P = P marks
+IfTraced (Some (Run workers pipeline marks false)) P = ⊤
 IfTraced (Some (Bench seed items programs workers readers)) P = ⊤
 IfTraced (Some (Replay marks)) P = ⊤
 IfTraced None P = ⊤

@@ -158,6 +158,29 @@ fn put_programs<K: Sink>(
     Ok(())
 }
 
+/// The lines of the batch with this number: its programs in batch order, and its version.
+pub fn put_answers<K: Sink>(
+    sink: &mut K,
+    number: u64,
+    programs: &[Program],
+    judgements: &[Judgement],
+    replies: &Replies,
+    effects: &Effects,
+    headings: &Headings,
+    marks: bool,
+) -> Result<(), Failed>
+    requires { HasAnswers headings.now programs.now judgements.now replies.now effects.now }
+    ensures { Puts result (K.holds sink.old) (K.holds sink.new) (K.faults sink.old) (K.faults sink.new) (batch_text number ++ told marks headings.now programs.now (map checked_of judgements.now) replies.now effects.now ++ version_text number) }
+{
+    put_batch(sink, number)?;
+    let replies = replies.as_slice();
+    let effects = effects.as_slice();
+    put_programs(
+        sink, programs, judgements, replies, effects, headings, marks,
+    )?;
+    put_version(sink, number)
+}
+
 /// The lines of a batch: its number, its programs in batch order, and its version, which has the same number.
 pub fn put_ran<K: Sink>(
     sink: &mut K,
@@ -169,17 +192,14 @@ pub fn put_ran<K: Sink>(
     requires { HasAnswers headings.now programs.now ran.now.judgements.items ran.now.replies ran.now.effects }
     ensures { Puts result (K.holds sink.old) (K.holds sink.new) (K.faults sink.old) (K.faults sink.new) (batch_text ran.now.number ++ told marks headings.now programs.now (map checked_of ran.now.judgements.items) ran.now.replies ran.now.effects ++ version_text ran.now.number) }
 {
-    put_batch(sink, ran.number)?;
-    let replies = ran.replies.as_slice();
-    let effects = ran.effects.as_slice();
-    put_programs(
+    put_answers(
         sink,
+        ran.number,
         programs,
         &ran.judgements,
-        replies,
-        effects,
+        &ran.replies,
+        &ran.effects,
         headings,
         marks,
-    )?;
-    put_version(sink, ran.number)
+    )
 }

@@ -1,6 +1,7 @@
 //! The call that runs a command.
 ghost use Rattle.std.specs.Prelude.{◌≡◌, ◌≤◌, IsTrue, IfSome, IsSome, map, string_bytes, length, false, ◌⊎◌};
 ghost use Rattle.std.specs.Io.KnownBytes.{Appends, Keeps};
+ghost use Rattle.lt_circuit.specs.Row.{most_segments};
 ghost use Rattle.lt_face.specs.Limits.{most_workers};
 ghost use Rattle.lt_edges.specs.Causes.{Rose};
 ghost use Rattle.lt_model.specs.Report.{usage_text};
@@ -57,6 +58,17 @@ fn write_blocks<K: Sink>(sink: &mut K, blocks: &[Block]) -> Result<(), Failed>
     sink.flush()
 }
 
+// How many batches run together at most. One worker gains nothing by a line: it runs batches as they come.
+fn together(workers: u32, pipeline: u32) -> u32
+    requires { (1 ≤ pipeline) × (pipeline ≤ most_segments) }
+    ensures { (1 ≤ result) × (result ≤ most_segments) }
+{
+    if workers == 1 {
+        return 1;
+    }
+    pipeline
+}
+
 // Runs a script as it comes and passes its report on.
 fn run_script<R: Threads + Wait + Sync, S: Source, K: Sink, G: Gate>(
     rt: &R,
@@ -67,6 +79,7 @@ fn run_script<R: Threads + Wait + Sync, S: Source, K: Sink, G: Gate>(
     gate: &G,
 ) -> Status
     requires workers { (1 ≤ options.workers) × (options.workers ≤ most_workers) }
+    requires pipeline { (1 ≤ options.pipeline) × (options.pipeline ≤ most_segments) }
     ensures { RunEndsAs options.trace options.marks result (S.left source.old) (S.left source.new) (S.faults source.old) (S.faults source.new)
         (K.holds sink.old) (K.holds sink.new) (K.faults sink.old) (K.faults sink.new) }
 {
@@ -202,6 +215,7 @@ pub fn repair_main<R: Threads + Wait + Sync, S: Source, K: Sink, G: Gate>(
             Some(
                 Command::Run {
                     workers,
+                    pipeline,
                     marks,
                     trace,
                 },
@@ -209,6 +223,7 @@ pub fn repair_main<R: Threads + Wait + Sync, S: Source, K: Sink, G: Gate>(
         ) => {
             let options = Options {
                 workers,
+                pipeline: together(workers, pipeline),
                 marks,
                 trace,
             };

@@ -1,6 +1,7 @@
 //! Scripts and their reports.
 ghost use Rattle.std.specs.Prelude.{◌≡◌, ◌≤◌, false, IfOk, IfErr};
 ghost use Rattle.std.specs.Io.KnownBytes.{Keeps};
+ghost use Rattle.lt_circuit.specs.Row.{most_segments};
 ghost use Rattle.lt_face.specs.Limits.{most_workers};
 ghost use Rattle.lt_edges.specs.Causes.{HasCause};
 ghost use Rattle.lt_session.specs.Input.{limit};
@@ -9,8 +10,8 @@ ghost use Rattle.lt_session.specs.Ends.{IsWritten, StopsAs};
 
 use crate::input::{Taken, read_on};
 use crate::options::Options;
+use crate::session::Session;
 use crate::stop::Stop;
-use crate::tracing::Traced;
 use lt_blocks::Block;
 use lt_edges::{Failed, Gate, Sink, Source};
 use lt_report::put_fault;
@@ -53,8 +54,8 @@ pub fn go_on<S: Source, K: Sink>(
     Ok(taken)
 }
 
-/// Reads a script to its end, writes its report item by item as they come, and says whether the script has a fault. The
-/// fault's line is written behind the end of the source. Where traces are asked for, the journals of its batches are given, too.
+/// Reads a script to its end, writes its report item by item as they come, and says whether the script has a fault. Batches that
+/// follow each other may be read before they are run. The fault's line is written behind the end of the source. Where traces are asked for, the journals of its batches are given, too.
 pub fn write_report<R: Threads + Wait + Sync, S: Source, K: Sink, G: Gate>(
     rt: &R,
     alloc: Global,
@@ -64,13 +65,14 @@ pub fn write_report<R: Threads + Wait + Sync, S: Source, K: Sink, G: Gate>(
     gate: &G,
 ) -> Result<(bool, Vec<Block>), Stop>
     requires workers { (1 ≤ options.workers) × (options.workers ≤ most_workers) }
+    requires pipeline { (1 ≤ options.pipeline) × (options.pipeline ≤ most_segments) }
     ensures ok { IfOk result (λ ended. IsWritten options.trace options.marks ended.0 ended.1.items (S.left source.old) (S.left source.new) (K.holds sink.old) (K.holds sink.new)) }
     ensures err { IfErr result (λ stop. StopsAs options.marks stop (S.left source.old) (S.left source.new) (S.faults source.old) (S.faults source.new)
         (K.holds sink.old) (K.holds sink.new) (K.faults sink.old) (K.faults sink.new)) }
     ensures later { K.faults sink.old ≤ K.faults sink.new }
 {
     let mut feed = Feed::new(alloc);
-    let mut session = Traced::new(alloc)?;
+    let mut session = Session::new(alloc)?;
     let mut taken = Taken {
         count: 0,
         ended: false,
@@ -87,11 +89,16 @@ pub fn write_report<R: Threads + Wait + Sync, S: Source, K: Sink, G: Gate>(
                 }
             }
             FeedStep::More => { taken = go_on(source, sink, &mut feed, taken.count, &mut written)? }
-            FeedStep::End => return Ok((false, session.blocks)),
+            FeedStep::End => {
+                session.run_waiting(rt, alloc, sink, options, gate)?;
+                return Ok((false, session.made.blocks));
+            }
             FeedStep::Fault { line, code } => {
+                written |= session.has_waiting();
+                session.run_waiting(rt, alloc, sink, options, gate)?;
                 if taken.ended {
                     put_fault(sink, line, code)?;
-                    return Ok((true, session.blocks));
+                    return Ok((true, session.made.blocks));
                 }
                 taken = go_on(source, sink, &mut feed, taken.count, &mut written)?;
             }

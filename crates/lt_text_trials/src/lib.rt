@@ -19,6 +19,8 @@ mod hostile;
 #[cfg(test)]
 mod items;
 #[cfg(test)]
+mod lined;
+#[cfg(test)]
 mod marks;
 #[cfg(test)]
 mod negated;

@@ -85,3 +85,38 @@ pub(crate) fn marks_by_workers<R: Threads + Wait + Abort + Sync>(
     }
     Ok(())
 }
+
+// The options of lines of batches.
+const LINES: [&[&str]; 6] = [
+    &["--pipeline", "1", "--workers", "2"],
+    &["--pipeline", "2", "--workers", "1"],
+    &["--pipeline", "2", "--workers", "4"],
+    &["--pipeline", "3", "--workers", "2"],
+    &["--pipeline", "8", "--workers", "1"],
+    &["--pipeline", "8", "--workers", "2"],
+];
+
+/// Ends the test unless the script is reported so whatever the lines in which its batches run.
+pub(crate) fn reports_in_lines<R: Threads + Wait + Abort + Sync>(
+    rt: &R,
+    alloc: Global,
+    case: &Case,
+) -> Result<(), Fail> {
+    for options in LINES {
+        reports(rt, alloc, case, options, 4096)?;
+        reports(rt, alloc, case, options, 5)?;
+    }
+    Ok(())
+}
+
+/// The same with marks.
+pub(crate) fn marks_in_lines<R: Threads + Wait + Abort + Sync>(
+    rt: &R,
+    alloc: Global,
+    case: &Case,
+) -> Result<(), Fail> {
+    for depth in ["1", "2", "8"] {
+        reports(rt, alloc, case, &["--marks", "--pipeline", depth], 11)?;
+    }
+    Ok(())
+}

@@ -18,19 +18,27 @@ pub(crate) fn words_of(alloc: Global, words: &[&str]) -> Result<Vec<String>, All
     Ok(all)
 }
 
-// Command lines without the program's name, one word between spaces; how many workers they ask for, and whether for marks.
-const LINES: [(&str, Option<(u32, bool)>); 39] = [
-    ("run", Some((4, false))),
-    ("run --workers 1", Some((1, false))),
-    ("run --workers 16", Some((16, false))),
-    ("run --workers=4", Some((4, false))),
-    ("run --workers 04", Some((4, false))),
-    ("run --workers +4", Some((4, false))),
-    ("run --", Some((4, false))),
-    ("run --workers 2 --", Some((2, false))),
-    ("run --marks", Some((4, true))),
-    ("run --marks --workers 2", Some((2, true))),
-    ("run --workers 2 --marks", Some((2, true))),
+// Command lines without the program's name, one word between spaces; how many workers they ask for, how many
+// batches in a line, and whether for marks.
+const LINES: [(&str, Option<(u32, u32, bool)>); 50] = [
+    ("run", Some((4, 1, false))),
+    ("run --workers 1", Some((1, 1, false))),
+    ("run --workers 16", Some((16, 1, false))),
+    ("run --workers=4", Some((4, 1, false))),
+    ("run --workers 04", Some((4, 1, false))),
+    ("run --workers +4", Some((4, 1, false))),
+    ("run --", Some((4, 1, false))),
+    ("run --workers 2 --", Some((2, 1, false))),
+    ("run --marks", Some((4, 1, true))),
+    ("run --marks --workers 2", Some((2, 1, true))),
+    ("run --workers 2 --marks", Some((2, 1, true))),
+    ("run --pipeline 1", Some((4, 1, false))),
+    ("run --pipeline 8", Some((4, 8, false))),
+    ("run --pipeline=2 --workers 2 --marks", Some((2, 2, true))),
+    (
+        "run --marks --workers 16 --pipeline 03",
+        Some((16, 3, true)),
+    ),
     ("", None),
     ("run --workers", None),
     ("run --workers 0", None),
@@ -50,6 +58,13 @@ const LINES: [(&str, Option<(u32, bool)>); 39] = [
     ("run --marks --marks", None),
     ("run -- --marks", None),
     ("run --readers 1", None),
+    ("run --pipeline", None),
+    ("run --pipeline 0", None),
+    ("run --pipeline 9", None),
+    ("run --pipeline two", None),
+    ("run --pipeline 2 --pipeline 2", None),
+    ("run --pipe 2", None),
+    ("replay --pipeline 2", None),
     ("--marks run", None),
     ("--help", None),
     ("help", None),
@@ -62,7 +77,7 @@ const LINES: [(&str, Option<(u32, bool)>); 39] = [
 ];
 
 // Command lines of the bench: the seed, how many items and programs there are, how many workers, and how many readers.
-const BENCHES: [(&str, Option<(u64, u32, u32, u32, u32)>); 22] = [
+const BENCHES: [(&str, Option<(u64, u32, u32, u32, u32)>); 23] = [
     (
         "bench --seed 1 --items 64 --programs 32",
         Some((1, 64, 32, 4, 0)),
@@ -105,6 +120,7 @@ const BENCHES: [(&str, Option<(u64, u32, u32, u32, u32)>); 22] = [
     ("bench --seed 1 --items 64 --programs 0", None),
     ("bench --seed 1 --items 64 --programs 65537", None),
     ("bench --seed 1 --items 64 --programs 32 --marks", None),
+    ("bench --seed 1 --items 64 --programs 32 --pipeline 2", None),
     ("bench --seed 1 --items 64 --programs 32 --readers 9", None),
     ("bench --seed 1 --items 64 --programs 32 --readers -1", None),
     ("bench --seed 1 --items 64 --programs 32 --readers", None),
@@ -129,8 +145,9 @@ fn asks_for_a_run(rt: HostRuntime) -> Result<(), Fail> {
         let words = line_words(rt.alloc(), line)?;
         let asked = command_of(rt.alloc(), &words)?;
         let expected = match options {
-            Some((workers, marks)) => Some(Command::Run {
+            Some((workers, pipeline, marks)) => Some(Command::Run {
                 workers,
+                pipeline,
                 marks,
                 trace: false,
             }),

@@ -4,9 +4,9 @@ use Rattle.lt_model.specs.declared.syntax.Program.{Program}
 use Rattle.lt_session.specs.World.{Takes}
 use Rattle.lt_session.proofs.come.count_kept.Goals as goal
 
-pub returns-in-Batch-clause-world : goal.returns-in-Batch-clause-world
-returns-in-Batch-clause-world g c =
+pub returns-in_ok-count_batch-in-Batch-clause-world : goal.returns-in_ok-count_batch-in-Batch-clause-world
+returns-in_ok-count_batch-in-Batch-clause-world g c =
     rw c.in-Batch.is (subst (λ (ps : List Program). Takes c.args.world.now (Batch ps) c.count_batch.new.world) c.as_slice-programs.ensures c.in_ok-count_batch-in-Batch.ensures.world)
 
-pub returns-in-Relation-clause-world : goal.returns-in-Relation-clause-world
-returns-in-Relation-clause-world g c = rw c.in-Relation.is c.in_ok-declare-in-Relation.ensures.world
+pub returns-in_ok-declare-in-Relation-clause-world : goal.returns-in_ok-declare-in-Relation-clause-world
+returns-in_ok-declare-in-Relation-clause-world g c = rw c.in-Relation.is c.in_ok-declare-in-Relation.ensures.world
