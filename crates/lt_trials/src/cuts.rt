@@ -1,9 +1,8 @@
 //! Sets of rows are cut into parts.
 
 use crate::agree::{holds, same};
-use crate::flat::{Edit, made};
 use crate::pages::{copies, pairs_below};
-use lt_face::{Items, Key, NoMemory, Row, RowReads, RowSet};
+use lt_face::{Key, NoMemory, Row, RowReads, RowSet};
 use lt_flat::FlatRows;
 use lt_over::SharedOver;
 use lt_shared::SharedRows;
@@ -89,26 +88,5 @@ fn a_cut_that_goes_is_no_cut(rt: HostRuntime) -> Result<(), NoMemory> {
     take_cuts(&rt, alloc, &mut set, 8)?;
     same(&rt, set.len(), 993);
     same(&rt, cut(&rt, alloc, &set, 8)?, 7);
-    Ok(())
-}
-
-/// The pairs (1, 7), (2, 7) and so on, below this one, put one by one into a set without rows.
-fn put_below(rt: &impl Abort, alloc: Global, end: Key) -> Result<SharedOver, NoMemory> {
-    let mut put = SharedOver::empty(alloc, 2)?;
-    for key in 1..end {
-        made(rt, alloc, &mut put, Edit::Insert((key, 7)))?;
-    }
-    Ok(put)
-}
-
-#[test]
-fn rows_over_an_empty_base_are_cut(rt: HostRuntime) -> Result<(), NoMemory> {
-    let alloc = rt.alloc();
-    let put = put_below(&rt, alloc, 101)?;
-    same(&rt, cut(&rt, alloc, &put, 2)?, 1);
-    let rows = pairs_below(&rt, alloc, 101)?;
-    let empty = SharedOver::empty(alloc, rows.width())?;
-    let laid = empty.laid(Items::new(alloc), copies(alloc, rows.as_slice())?)?;
-    same(&rt, cut(&rt, alloc, &laid, 2)?, 1);
     Ok(())
 }
