@@ -2,11 +2,11 @@
 use Rattle.std.specs.Prelude.{◌≡◌, ℕ, ◌+◌, ◌-◌, ◌^◌, ◌<◌, ◌≤◌, true, false, List, [], ◌∷◌, ◌++◌, map, length, slice_get, Some, ◌⊎◌}
 use Rattle.std.specs.List.{AllByRecursion, flat_map}
 use Rattle.std.proofs.Common.{refl, sym, ap, ◌∙◌, subst, inl, inr, arith}
-use Rattle.std.proofs.lemmas.Bool.{and_parts, ltb-true, le-ltb, cases_order}
+use Rattle.std.proofs.lemmas.Bool.{le-ltb, cases_order}
 use Rattle.std.proofs.lemmas.List.{map-append}
 use Rattle.std.proofs.lemmas.Grind.{flat_map-append}
 use Rattle.std.specs.Prelude.{nat_lt}
-use Rattle.lt_face.specs.Lists.{IsIn, AreInOrder}
+use Rattle.lt_face.specs.Lists.{IsIn}
 use Rattle.lt_face.specs.State.{State}
 use Rattle.lt_face.proofs.Membership.{IsIn-append_left, IsIn-append_right}
 use Rattle.lt_face.proofs.RowLemmas.{each_weaker}
@@ -17,45 +17,41 @@ use Rattle.lt_leap.specs.Common.{common_keys}
 use Rattle.lt_query.specs.declared.plans.Level.{Level}
 use Rattle.lt_query.specs.declared.plans.Plan.{Plan}
 use Rattle.lt_query.specs.Lists.{IsRising}
-use Rattle.lt_query.specs.Plan.{levels_of, term_at, IsPlanOf}
-use Rattle.lt_query.specs.Answering.{AreTestsBound}
-use Rattle.lt_model.specs.Answers.{answers, ascending}
-use Rattle.lt_model.specs.Bound.{are_bound}
+use Rattle.lt_query.specs.Plan.{levels_of, term_at}
 use Rattle.lt_sense.specs.declared.covering.KeptGap.{KeptGap}
 use Rattle.lt_sense.specs.Kept.{Sense}
 use Rattle.lt_sense.specs.Sense.{IsTight}
 use Rattle.lt_join.specs.declared.slicing.Slice.{Slice}
 use Rattle.lt_join.specs.Cost.{LevelGains, iterators_at}
 use Rattle.lt_join.specs.Explored.{Fits, before}
-use Rattle.lt_join.specs.Certify.{Certifies}
 use Rattle.lt_join.specs.Holders.{AreUnder}
-use Rattle.lt_join.specs.Sliced.{pinned, slice_keys, united, sliced_rows, CertifiesBut, IsSliceOf, AreRooted, AreRootGaps, AreFoundKeys}
+use Rattle.lt_join.specs.Parts.{IsBetween, AreSlicesWithin}
+use Rattle.lt_join.specs.Sliced.{slice_keys, united, IsSliceOf, AreRootGaps}
 use Rattle.lt_join.specs.Walked.{at, IsSkipped, StandsAt}
 use Rattle.lt_join.proofs.Costs.{IsCredited}
 use Rattle.lt_join.proofs.Levels.{length_append}
 use Rattle.lt_join.proofs.Noting.{some_is}
-use Rattle.lt_join.proofs.Pinned.{term_in}
 use Rattle.lt_join.proofs.Repair.{All_at, All_of}
-use Rattle.lt_join.proofs.SliceLaws.{but_rooted, certified_whole, tight_whole, answers_whole}
 use Rattle.lt_join.proofs.Steps.{IsSkipped-grows}
 
--- the slices so far, and where the first level stands
-pub record AreSliced (body : Body) (plan : Plan) (terms : List Term) (state : State) (level : Level) (root : Sense) (slices : List Slice) (key : ℕ) : Type 0 where
+-- the slices so far of a range, and where the first level stands
+pub record AreSliced (body : Body) (plan : Plan) (terms : List Term) (state : State) (level : Level) (lo hi : ℕ) (root : Sense) (slices : List Slice) (key : ℕ) : Type 0 where
   pub each : AllByRecursion (IsSliceOf terms body (term_at plan.levels 0) state) slices
   pub rising : IsRising (slice_keys slices)
   pub below : AllByRecursion (λ k. k < key) (slice_keys slices)
-  pub done : (k : ℕ) → is_cell k ≡ true → k < key → IsIn k (slice_keys slices) ⊎ IsSkipped plan root [] level k
+  pub between : AllByRecursion (IsBetween lo hi) (slice_keys slices)
+  pub done : (k : ℕ) → is_cell k ≡ true → lo ≤ k → k < key → IsIn k (slice_keys slices) ⊎ IsSkipped plan root [] level k
   pub common : AllByRecursion (λ k. IsIn k (common_keys (iterators_at state plan.guides level 0 (at [])))) (slice_keys slices)
   pub tight : IsTight root state
   pub gaps : AreRootGaps root
   pub hits : root.hits ≡ []
   pub at_key : key < 2 ^ 128 - 1 → (is_cell key ≡ true) × Fits level (at []) key
 
-all_one_more : {X : Type 0} (P : X → Type 0) (xs : List X) (x : X) → AllByRecursion P xs → P x → AllByRecursion P (xs ++ x ∷ [])
+pub all_one_more : {X : Type 0} (P : X → Type 0) (xs : List X) (x : X) → AllByRecursion P xs → P x → AllByRecursion P (xs ++ x ∷ [])
 all_one_more P [] x h k = (k, tt)
 all_one_more P (y ∷ xs) x h k = (h.0, all_one_more P xs x h.1 k)
 
-rising_more : (ks : List ℕ) (k : ℕ) → IsRising ks → AllByRecursion (λ j. j < k) ks → IsRising (ks ++ k ∷ [])
+pub rising_more : (ks : List ℕ) (k : ℕ) → IsRising ks → AllByRecursion (λ j. j < k) ks → IsRising (ks ++ k ∷ [])
 rising_more [] k h b = (tt, tt)
 rising_more (j ∷ ks) k h b = (all_one_more (λ i. j < i) ks k h.0 b.0, rising_more ks k h.1 b.1)
 
@@ -70,12 +66,13 @@ rooted_more old new so under =
       | inr new_one ↦ new_one.1 ∙ ap (map (at [])) (before_none (levels_of new_one.0))
     ])
 
-pub AreSliced-begun : (body : Body) (plan : Plan) (terms : List Term) (state : State) (level : Level) (old root : Sense) (slices : List Slice) (key : ℕ) → slices ≡ [] → old ≡ record { gaps = []; hits = [] } → root.hits ≡ old.hits → AreUnder [] old root → StandsAt plan state old root [] level 0 key → AreSliced body plan terms state level root slices key
-AreSliced-begun body plan terms state level old root slices key none empty same under stands = rw none (record {
+pub AreSliced-begun : (body : Body) (plan : Plan) (terms : List Term) (state : State) (level : Level) (lo hi : ℕ) (old root : Sense) (slices : List Slice) (key : ℕ) → slices ≡ [] → old ≡ record { gaps = []; hits = [] } → root.hits ≡ old.hits → AreUnder [] old root → StandsAt plan state old root [] level lo key → AreSliced body plan terms state level lo hi root slices key
+AreSliced-begun body plan terms state level lo hi old root slices key none empty same under stands = rw none (record {
   each = tt;
   rising = tt;
   below = tt;
-  done = λ k cell lt. inr (stands.skipped k cell (omega arith) lt);
+  between = tt;
+  done = λ k cell le lt. inr (stands.skipped k cell le lt);
   common = tt;
   tight = stands.tight;
   gaps = rooted_more old root (rw empty tt) under;
@@ -84,18 +81,19 @@ AreSliced-begun body plan terms state level old root slices key none empty same 
 })
 
 -- one more slice, and the level went on
-pub AreSliced-more : (body : Body) (plan : Plan) (terms : List Term) (state : State) (level : Level) (root root' : Sense) (slices more : List Slice) (slice : Slice) (key key' : ℕ) → more ≡ slices ++ slice ∷ [] → slice.key ≡ key → IsSliceOf terms body (term_at plan.levels 0) state slice → key < key' → root'.hits ≡ root.hits → AreUnder [] root root' → StandsAt plan state root root' [] level (key + 1) key' → IsIn key (common_keys (iterators_at state plan.guides level 0 (at []))) → AreSliced body plan terms state level root slices key → AreSliced body plan terms state level root' more key'
-AreSliced-more body plan terms state level root root' slices more slice key key' is of_key is_slice rises same under stands is_common so =
+pub AreSliced-more : (body : Body) (plan : Plan) (terms : List Term) (state : State) (level : Level) (lo hi : ℕ) (root root' : Sense) (slices more : List Slice) (slice : Slice) (key key' : ℕ) → more ≡ slices ++ slice ∷ [] → slice.key ≡ key → IsBetween lo hi key → IsSliceOf terms body (term_at plan.levels 0) state slice → key < key' → root'.hits ≡ root.hits → AreUnder [] root root' → StandsAt plan state root root' [] level (key + 1) key' → IsIn key (common_keys (iterators_at state plan.guides level 0 (at []))) → AreSliced body plan terms state level lo hi root slices key → AreSliced body plan terms state level lo hi root' more key'
+AreSliced-more body plan terms state level lo hi root root' slices more slice key key' is of_key within is_slice rises same under stands is_common so =
     let keys : slice_keys (slices ++ slice ∷ []) ≡ slice_keys slices ++ key ∷ [] = map-append (λ (s : Slice). s.key) slices (slice ∷ []) ∙ ap (λ k. slice_keys slices ++ k ∷ []) of_key in
     rw is (record {
       each = all_one_more (IsSliceOf terms body (term_at plan.levels 0) state) slices slice so.each is_slice;
       rising = rw keys (rising_more (slice_keys slices) key so.rising so.below);
       below = rw keys (all_one_more (λ k. k < key') (slice_keys slices) key (each_weaker (λ k. k < key) (λ k. k < key') (λ k lt. omega arith) (slice_keys slices) so.below) rises);
-      done = λ k cell lt.
+      between = rw keys (all_one_more (IsBetween lo hi) (slice_keys slices) key so.between within);
+      done = λ k cell le lt.
           elim (cases_order k key) [
             | inl e ↦ inl (rw keys (IsIn-append_right k (slice_keys slices) (key ∷ []) (inl (sym e))))
             | inr r ↦ elim r [
-              | inl earlier ↦ elim (so.done k cell earlier) [
+              | inl earlier ↦ elim (so.done k cell le earlier) [
                 | inl there ↦ inl (rw keys (IsIn-append_left k (slice_keys slices) (key ∷ []) there))
                 | inr skipped ↦ inr (IsSkipped-grows plan root root' stands.grows [] level k skipped)
               ]
@@ -109,17 +107,21 @@ AreSliced-more body plan terms state level root root' slices more slice key key'
       at_key = stands.found;
     })
 
--- the level is at its end
-pub rooted_all : (body : Body) (plan : Plan) (terms : List Term) (state : State) (level : Level) (root : Sense) (slices : List Slice) (key : ℕ) → slice_get plan.levels 0 ≡ Some level → 2 ^ 128 - 1 ≤ key → AreSliced body plan terms state level root slices key → AreRooted plan root (slice_keys slices)
-rooted_all body plan terms state level root slices key first ended so other is k cell =
-    let small : k < 2 ^ 120 = ltb-true k (2 ^ 120) (and_parts (nat_lt 0 k) (nat_lt k (2 ^ 120)) cell).1 in
-    let same : level ≡ other = some_is level other (sym first ∙ is) in
-    subst (λ (lv : Level). IsIn k (slice_keys slices) ⊎ IsSkipped plan root [] lv k) same (so.done k cell (omega arith))
-
-pub found_all_keys : (body : Body) (plan : Plan) (terms : List Term) (state : State) (level : Level) (root : Sense) (slices : List Slice) (key : ℕ) → slice_get plan.levels 0 ≡ Some level → AreSliced body plan terms state level root slices key → AreFoundKeys plan state (slice_keys slices)
-found_all_keys body plan terms state level root slices key first so other is =
-    let same : level ≡ other = some_is level other (sym first ∙ is) in
-    subst (λ (lv : Level). AllByRecursion (λ k. IsIn k (common_keys (iterators_at state plan.guides lv 0 (at [])))) (slice_keys slices)) same so.common
+-- the level is past the range
+pub slices_within : (body : Body) (plan : Plan) (terms : List Term) (state : State) (level : Level) (lo hi : ℕ) (root : Sense) (slices : List Slice) (key : ℕ) → slice_get plan.levels 0 ≡ Some level → hi ≤ key → AreSliced body plan terms state level lo hi root slices key → AreSlicesWithin terms body plan state lo hi root slices
+slices_within body plan terms state level lo hi root slices key first ended so = record {
+  ascending = so.rising;
+  between = so.between;
+  each = so.each;
+  found = λ other is. subst (λ (lv : Level). AllByRecursion (λ k. IsIn k (common_keys (iterators_at state plan.guides lv 0 (at [])))) (slice_keys slices)) (some_is level other (sym first ∙ is)) so.common;
+  rooted = λ other is k cell within. (
+      let below = within.1 in
+      subst (λ (lv : Level). IsIn k (slice_keys slices) ⊎ IsSkipped plan root [] lv k) (some_is level other (sym first ∙ is)) (so.done k cell within.0 (omega arith))
+      );
+  tight = so.tight;
+  root_hits = so.hits;
+  root_gaps = so.gaps;
+}
 
 -- ---- what is kept, counted
 
@@ -168,22 +170,3 @@ credited_more atoms root root' slices more slice begun now after end key key' is
       gains = record { gaps = omega arith; hits = omega arith };
       credit = λ at_key'. (let p = level.paid at_key' in omega arith);
     })
-
--- ---- at the end
-
-pub but_sliced : (body : Body) (plan : Plan) (terms : List Term) (state : State) (level : Level) (root : Sense) (slices : List Slice) (key : ℕ) → IsPlanOf body plan → 0 < length plan.levels → slice_get plan.levels 0 ≡ Some level → 2 ^ 128 - 1 ≤ key → AreSliced body plan terms state level root slices key → CertifiesBut (slice_keys slices) (term_at plan.levels 0) root body state
-but_sliced body plan terms state level root slices key of_body some first ended so =
-    but_rooted body plan root state (slice_keys slices) of_body some so.tight (rooted_all body plan terms state level root slices key first ended so)
-
-pub certified_sliced : (body : Body) (plan : Plan) (terms : List Term) (state : State) (level : Level) (root : Sense) (slices : List Slice) (key : ℕ) → IsPlanOf body plan → 0 < length plan.levels → slice_get plan.levels 0 ≡ Some level → 2 ^ 128 - 1 ≤ key → AreSliced body plan terms state level root slices key → Certifies (united root slices) body state
-certified_sliced body plan terms state level root slices key of_body some first ended so =
-    certified_whole root slices (term_at plan.levels 0) body state (but_sliced body plan terms state level root slices key of_body some first ended so)
-    (each_weaker (IsSliceOf terms body (term_at plan.levels 0) state) (λ (slice : Slice). Certifies slice.sense (pinned (term_at plan.levels 0) slice.key body) state) (λ slice h. h.certified) slices so.each)
-
-pub tight_sliced : (body : Body) (plan : Plan) (terms : List Term) (state : State) (level : Level) (root : Sense) (slices : List Slice) (key : ℕ) → AreSliced body plan terms state level root slices key → IsTight (united root slices) state
-tight_sliced body plan terms state level root slices key so =
-    tight_whole root slices state so.tight (each_weaker (IsSliceOf terms body (term_at plan.levels 0) state) (λ (slice : Slice). IsTight slice.sense state) (λ slice h. h.tight) slices so.each)
-
-pub rows_sliced : (body : Body) (plan : Plan) (terms : List Term) (state : State) (level : Level) (root : Sense) (slices : List Slice) (key : ℕ) → IsPlanOf body plan → AreTestsBound body → are_bound body terms ≡ true → 0 < length plan.levels → slice_get plan.levels 0 ≡ Some level → 2 ^ 128 - 1 ≤ key → AreSliced body plan terms state level root slices key → ascending (sliced_rows slices) ≡ answers terms body state
-rows_sliced body plan terms state level root slices key of_body whole heads some first ended so =
-    sym (answers_whole root slices terms (term_at plan.levels 0) body state whole heads (term_in body plan of_body 0 some) (but_sliced body plan terms state level root slices key of_body some first ended so) so.each)

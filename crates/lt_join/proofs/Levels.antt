@@ -1,7 +1,7 @@
 -- One level: what its leapers, the gaps that their join noted and the key where it stands say of the walk.
 use Rattle.std.specs.Prelude.{◌≡◌, ◌≢◌, ℕ, zero, suc, ◌+◌, ◌-◌, ◌*◌, ◌^◌, ◌<◌, ◌≤◌, Bool, true, false, nat_lt, nat_le, List, [], ◌∷◌, ◌++◌, map, filter, length, slice_get, slice_index, Some}
 use Rattle.std.specs.List.{AllByRecursion, AllZip, list_all}
-use Rattle.std.proofs.Common.{refl, sym, ap, ◌∙◌, subst, inl, inr, cond, arith, get_or}
+use Rattle.std.proofs.Common.{refl, sym, ap, ◌∙◌, subst, inl, inr, cond, arith}
 use Rattle.std.proofs.lemmas.Bool.{and_parts, and_from, leb-true, ltb-true, ltb-false, lt-ltb, cases_lt, cases_Bool, true≢false}
 use Rattle.std.proofs.Math.Nat.{mul-le-mul_left}
 use Rattle.lt_face.specs.Keys.{end_key, least_from, IsPlace}
@@ -30,7 +30,7 @@ use Rattle.lt_join.specs.Leaper.{leaper_keys, leaper_here, leaper_still}
 use Rattle.lt_join.specs.Explored.{Fits, prefix_at}
 use Rattle.lt_leap.specs.Common.{has_key, common_keys}
 use Rattle.lt_leap.specs.Potential.{least_length, join_cost}
-use Rattle.lt_join.specs.Cost.{iterator_keys, iterators_at, LevelGains}
+use Rattle.lt_join.specs.Cost.{GainsFewer, iterator_keys, iterators_at, LevelGains}
 use Rattle.lt_join.specs.Walked.{at, Grows, IsSkipped}
 use Rattle.lt_join.specs.Holders.{Holder, OfAtom, OfKey, IsKept, IsLeaperOf, IsOpenKept, IsNotedKept, AreOpened, AreKept, IsOpen, IsJoined, atoms_at, holders_at, alone, left_of}
 use Rattle.lt_join.proofs.Gaps.{has_key-true}
@@ -67,7 +67,7 @@ zip_maps R S f g t [] (y ∷ ys) h = absurd h
 zip_maps R S f g t (x ∷ xs) [] h = absurd h
 zip_maps R S f g t (x ∷ xs) (y ∷ ys) h = (t x y h.0, zip_maps R S f g t xs ys h.1)
 
-all_append : {X : Type 0} (P : X → Type 0) (xs ys : List X) → AllByRecursion P xs → AllByRecursion P ys → AllByRecursion P (xs ++ ys)
+pub all_append : {X : Type 0} (P : X → Type 0) (xs ys : List X) → AllByRecursion P xs → AllByRecursion P ys → AllByRecursion P (xs ++ ys)
 all_append P [] ys h k = k
 all_append P (x ∷ xs) ys h k = (h.0, all_append P xs ys h.1 k)
 
@@ -381,6 +381,27 @@ joined_begun R plan state keys level old mid new walks leapers begun between now
       | inr late ↦ skipped_by_notes plan state keys level mid new (map leaper_keys leapers) noted.0 leap.here count none gs empty noted.2 kept k late (omega arith)
     ]) cost
 
+-- the moves of a level to its least key at or above a number
+pub joined_sought : (R : Type 0) (plan : Plan) (state : State) (keys : List ℕ) (level : Level) (mid new : Sense) (begun now count : ℕ) (none gs : List (ℕ × Gap)) (leap leap' : LeapView (Leaper R)) (key to key' : ℕ)
+    → 0 < length (atoms_at plan.guides (length keys)) → IsOpen plan state keys level leap key → to < 2 ^ 128 - 1
+    → map leaper_keys leap'.iters ≡ map leaper_keys leap.iters → map leaper_still leap'.iters ≡ map leaper_still leap.iters → none ≡ []
+    → leap'.here ≡ least_from (common_keys (map leaper_keys leap.iters)) to
+    → NotesGaps (map leaper_keys leap.iters) to leap'.here (Some none) (Some gs) count
+    → now + left_of leap' ≤ begun + left_of leap
+    → AreKept plan state keys level mid new gs → key' ≡ leap'.here → (leap'.here ≢ end_key → IsFound (map leaper_keys leap'.iters) (map leaper_here leap'.iters) leap'.ring leap'.here)
+    → IsJoined plan state mid new keys level to (begun + left_of leap) now leap' key' × (to ≤ key')
+joined_sought R plan state keys level mid new begun now count none gs leap leap' key to key' held is low same_keys still empty here noted left kept key_is found =
+    let l = length keys in
+    let hs = holders_at plan.guides level l (at keys) in
+    let real = map leaper_keys leap'.iters in
+    let sits = still_leapers R plan state l (at keys) hs leap.iters leap'.iters still is.leapers in
+    let is' : IsOpen plan state keys level leap' key' = record { leapers = sits; here = λ e. sym key_is; found = λ e. subst (IsFound real (map leaper_here leap'.iters) leap'.ring) (sym key_is) (found (λ f. e (key_is ∙ f))) } in
+    let up = least_above (common_keys (map leaper_keys leap.iters)) to (omega arith) in (
+      joined R plan state mid new keys level to (begun + left_of leap) now leap' key' held is' kept.grows kept.tight
+          (λ k cell from below. skipped_by_notes plan state keys level mid new (map leaper_keys leap.iters) to leap'.here count none gs empty noted kept k from (omega arith)) left,
+      (let e = here in omega arith),
+    )
+
 -- the moves to the next key of a level
 pub joined_next : (R : Type 0) (plan : Plan) (state : State) (keys : List ℕ) (level : Level) (mid new : Sense) (begun now count : ℕ) (none gs : List (ℕ × Gap)) (leap leap' : LeapView (Leaper R)) (key key' : ℕ)
     → 0 < length (atoms_at plan.guides (length keys)) → IsOpen plan state keys level leap key → key ≢ end_key
@@ -391,18 +412,12 @@ pub joined_next : (R : Type 0) (plan : Plan) (state : State) (keys : List ℕ) (
     → AreKept plan state keys level mid new gs → key' ≡ leap'.here → (leap'.here ≢ end_key → IsFound (map leaper_keys leap'.iters) (map leaper_here leap'.iters) leap'.ring leap'.here)
     → IsJoined plan state mid new keys level (key + 1) (begun + left_of leap) now leap' key' × (key < key')
 joined_next R plan state keys level mid new begun now count none gs leap leap' key key' held is goes same_keys still empty here noted left kept key_is found =
-    let l = length keys in
-    let hs = holders_at plan.guides level l (at keys) in
-    let lists = iterators_at state plan.guides level l (at keys) in
-    let real = map leaper_keys leap'.iters in
     let was = is.here goes in
     let low = (is.found goes).low in
-    let sits = still_leapers R plan state l (at keys) hs leap.iters leap'.iters still is.leapers in
-    let is' : IsOpen plan state keys level leap' key' = record { leapers = sits; here = λ e. sym key_is; found = λ e. subst (IsFound real (map leaper_here leap'.iters) leap'.ring) (sym key_is) (found (λ f. e (key_is ∙ f))) } in
-    let up = least_above (common_keys (map leaper_keys leap.iters)) (leap.here + 1) (omega arith) in (
-      joined R plan state mid new keys level (key + 1) (begun + left_of leap) now leap' key' held is' kept.grows kept.tight
-          (λ k cell from below. skipped_by_notes plan state keys level mid new (map leaper_keys leap.iters) (leap.here + 1) leap'.here count none gs empty noted kept k (omega arith) (omega arith)) left,
-      (let e = here in omega arith),
+    let moved = joined_sought R plan state keys level mid new begun now count none gs leap leap' key (leap.here + 1) key' held is (omega arith) same_keys still empty here noted left kept key_is found in
+    let up = moved.1 in (
+      subst (λ n. IsJoined plan state mid new keys level n (begun + left_of leap) now leap' key') (ap (λ k. k + 1) was) moved.0,
+      omega arith,
     )
 
 unfit : (level : Level) (keys : Keys) (a b : ℕ) → 0 < length level.pins + length level.ties → Fits level keys a → Fits level keys b → a ≡ b
@@ -459,6 +474,16 @@ gains_next R plan state keys level mid new begun now lists start stop none gs le
       rises = rises;
       paid = λ at_key. (let m = at_least (λ ended. (let f = key_is ∙ ended in omega arith)) in omega arith);
     }
+
+-- what the moves to a key that was sought left
+pub gains_sought : (plan : Plan) (state : State) (keys : List ℕ) (level : Level) (mid new : Sense) (begun now : ℕ) (lists : List (List ℕ)) (start stop : ℕ) (none gs : List (ℕ × Gap))
+    → none ≡ [] → NotesGaps lists start stop (Some none) (Some gs) (now - begun) → begun ≤ now → AreKept plan state keys level mid new gs → GainsFewer mid new begun now
+gains_sought plan state keys level mid new begun now lists start stop none gs empty noted rises kept =
+    let e = ap length (gaps_are none gs noted.gaps empty noted.is) in
+    let h = ap length kept.hits in
+    let b = kept.few in
+    let c = noted.few in
+    record { gaps = omega arith; hits = omega arith }
 
 -- no moves at all, to the end
 pub gains_ended : (atoms : ℕ) (sense : Sense) (now : ℕ) → LevelGains atoms sense sense now now end_key

@@ -40,3 +40,8 @@ pub mod Alike
 mod MendSamples
 pub mod Looked
 pub mod LookingUp
+pub mod OpenedFrom
+pub mod PartLaws
+pub mod BoundLaws
+pub mod PartCosts
+pub mod RangeLaws

@@ -1,5 +1,5 @@
 -- A body that fits its state, and a plan of it, can be walked.
-use Rattle.std.specs.Prelude.{◌<◌, ◌≤◌, ℕ, List, length}
+use Rattle.std.specs.Prelude.{◌≡◌, ◌<◌, ◌≤◌, ℕ, Bool, true, List, length}
 use Rattle.std.specs.List.{AllByRecursion}
 use Rattle.std.proofs.Common.{arith}
 use Rattle.lt_face.specs.State.{State}
@@ -7,7 +7,6 @@ use Rattle.lt_face.proofs.RowLemmas.{each_weaker}
 use Rattle.lt_model.specs.declared.normal.Term.{Term}
 use Rattle.lt_model.specs.declared.normal.Term.TheVariants.{Var, Cell}
 use Rattle.lt_model.specs.declared.normal.Atom.{Atom}
-use Rattle.lt_model.specs.declared.normal.Test.{Test}
 use Rattle.lt_model.specs.declared.normal.Body.{Body}
 use Rattle.lt_model.specs.Fits.{IsTermOf, IsAtomOf, IsBodyOf, test_terms}
 use Rattle.lt_query.specs.declared.plans.Level.{Level}
@@ -15,7 +14,11 @@ use Rattle.lt_query.specs.declared.plans.Guide.{Guide}
 use Rattle.lt_query.specs.declared.plans.Plan.{Plan}
 use Rattle.lt_query.specs.Runnable.{IsRunnable, IsWidth}
 use Rattle.lt_join.specs.Values.{IsTest}
+use Rattle.lt_model.specs.Bound.{are_bound}
+use Rattle.lt_query.specs.Lists.{below}
+use Rattle.lt_query.specs.Plan.{IsPlanOf}
 use Rattle.lt_join.specs.Holders.{IsPrepared}
+use Rattle.lt_join.specs.Parts.{IsJoinable}
 
 small_term : (vars : ℕ) → vars ≤ 16 → (t : Term) → IsTermOf vars t → IsTermOf 16 t
 small_term vars few (Var v) h = omega arith
@@ -31,6 +34,20 @@ IsPrepared-from state body plan terms fits runnable narrow = record {
   variables = each_weaker (λ (level : Level). IsTermOf body.vars level.term) (λ (level : Level). IsTermOf 16 level.term)
       (λ level h. small_term body.vars fits.has_few_variables level.term h) plan.levels runnable.variables;
   narrow = narrow;
+}
+
+-- a body and a plan with a level can be walked by ranges of its keys
+pub IsJoinable-from : (state : State) (has_index : ℕ → List ℕ → Bool) (body : Body) (plan : Plan) (terms : List Term) → IsPlanOf body plan → IsRunnable body plan → IsBodyOf state body
+    → AllByRecursion (λ (guide : Guide). has_index guide.relation guide.columns ≡ true) plan.guides → AllByRecursion (λ (atom : Atom). has_index atom.relation (below (length atom.terms)) ≡ true) body.absents
+    → are_bound body terms ≡ true → length terms ≤ 8 → 0 < length plan.levels → IsJoinable state has_index body plan terms
+IsJoinable-from state has_index body plan terms of_body runnable fits indexes firsts heads narrow some = record {
+  of_body = of_body;
+  prepared = IsPrepared-from state body plan terms fits runnable narrow;
+  has_indexes = indexes;
+  has_firsts = firsts;
+  tests = (fits.is_bound, fits.are_absents_bound);
+  heads = heads;
+  has_levels = some;
 }
 
 -- each atom has columns

@@ -1,25 +1,23 @@
 -- A body's first level, and its slices.
 use Rattle.std.specs.Prelude.{◌≡◌, ℕ, zero, suc, ◌+◌, ◌<◌, ◌≤◌, true, List, [], ◌∷◌, ◌++◌, length, drop, slice_get, Some, ◌⊎◌}
 use Rattle.std.specs.List.{AllByRecursion, flat_map}
-use Rattle.std.proofs.Common.{refl, sym, ap, ◌∙◌, subst, inl, inr, arith}
+use Rattle.std.proofs.Common.{refl, sym, ◌∙◌, subst, inl, inr, arith}
 use Rattle.lt_face.specs.Lists.{IsIn, AnyByRecursion}
 use Rattle.lt_face.specs.State.{Row, State, Has}
-use Rattle.lt_face.proofs.Membership.{IsIn-append_left, IsIn-append_right, IsIn-append_cases, IsIn-map, IsIn-map_from, IsIn-flat_map, IsIn-flat_map_from}
+use Rattle.lt_face.proofs.Membership.{IsIn-append_left, IsIn-append_right, IsIn-append_cases, IsIn-map_from, IsIn-flat_map, IsIn-flat_map_from}
 use Rattle.lt_face.proofs.RowLemmas.{each_weaker}
 use Rattle.lt_model.specs.declared.normal.Term.{Term}
 use Rattle.lt_model.specs.declared.normal.Atom.{Atom}
 use Rattle.lt_model.specs.declared.normal.Body.{Body}
 use Rattle.lt_model.specs.Answers.{Assignment, cell_of, cells_of, holds, terms_of, answers, ascending}
 use Rattle.lt_model.specs.Bound.{are_bound}
-use Rattle.lt_model.specs.Cells.{is_cell}
-use Rattle.lt_query.specs.Answering.{Stands, Lacks, IsAnswer, AreTestsBound}
+use Rattle.lt_query.specs.Answering.{Stands, Lacks, AreTestsBound}
 use Rattle.lt_query.proofs.Ascending.{IsAscending-ascending, IsIn-ascending, IsIn-ascending_from, ascending_same}
 use Rattle.lt_query.proofs.Given.{IsIn-answers_of, IsAnswer-from_answers}
 use Rattle.lt_query.specs.declared.plans.Level.{Level}
 use Rattle.lt_query.specs.declared.plans.Guide.{Guide}
 use Rattle.lt_query.specs.declared.plans.Plan.{Plan}
 use Rattle.lt_query.specs.Plan.{term_at, keys_under, IsPlanOf, IsLevelOf, AreLevelsFrom}
-use Rattle.lt_sense.specs.declared.covering.KeptGap.{KeptGap}
 use Rattle.lt_sense.specs.declared.covering.Hit.{Hit}
 use Rattle.lt_sense.specs.Kept.{Sense}
 use Rattle.lt_sense.specs.Sense.{IsTight}
@@ -51,6 +49,16 @@ some_met_grows : (s t : Sense) → Grows s t → (state : State) (a : Assignment
 some_met_grows s t grows state a [] h = h
 some_met_grows s t grows state a (atom ∷ atoms) h = elim h [ inl m ↦ inl (m.0, covers_grows s t grows atom.relation (cells_of a atom.terms) m.1) | inr r ↦ inr (some_met_grows s t grows state a atoms r) ]
 
+-- what stands for an assignment still does
+pub stands_for_grows : (s t : Sense) → Grows s t → (state : State) (a : Assignment) (body : Body)
+    → (AllByRecursion (IsMet s state a) body.atoms × AllByRecursion (IsMissed s state a) body.absents) ⊎ (AnyByRecursion (IsMissed s state a) body.atoms ⊎ AnyByRecursion (IsMet s state a) body.absents)
+    → (AllByRecursion (IsMet t state a) body.atoms × AllByRecursion (IsMissed t state a) body.absents) ⊎ (AnyByRecursion (IsMissed t state a) body.atoms ⊎ AnyByRecursion (IsMet t state a) body.absents)
+stands_for_grows s t grows state a body h =
+    elim h [
+      | inl met ↦ inl (met_grows s t grows state a body.atoms met.0, all_missed_grow s t grows state a body.absents met.1)
+      | inr other ↦ elim other [ inl missed ↦ inr (inl (missed_grows s t grows state a body.atoms missed)) | inr met ↦ inr (inr (some_met_grows s t grows state a body.absents met)) ]
+    ]
+
 pub grows_root : (root : Sense) (slices : List Slice) → Grows root (united root slices)
 grows_root root slices = record {
   gaps = λ gap h. IsIn-append_left gap root.gaps (flat_map (λ (slice : Slice). slice.sense.gaps) slices) h;
@@ -69,14 +77,7 @@ certified_whole root slices term body state but each a held =
       | inl there ↦
           let s = IsIn-map_from (λ (slice : Slice). slice.key) (cell_of a term) slices there in
           let certified = All_at (λ (slice : Slice). Certifies slice.sense (pinned term slice.key body) state) slices s.0 each s.1 in
-          let grows = grows_slice root slices s.0 s.1 in
-          elim (certified a (pinned_holds a term s.0.key body held (sym s.2))) [
-            | inl met ↦ inl (met_grows s.0.sense (united root slices) grows state a body.atoms met.0, all_missed_grow s.0.sense (united root slices) grows state a body.absents met.1)
-            | inr other ↦ elim other [
-              | inl missed ↦ inr (inl (missed_grows s.0.sense (united root slices) grows state a body.atoms missed))
-              | inr met ↦ inr (inr (some_met_grows s.0.sense (united root slices) grows state a body.absents met))
-            ]
-          ]
+          stands_for_grows s.0.sense (united root slices) (grows_slice root slices s.0 s.1) state a body (certified a (pinned_holds a term s.0.key body held (sym s.2)))
       | inr missed ↦ inr (inl (missed_grows root (united root slices) (grows_root root slices) state a body.atoms missed))
     ]
 
@@ -146,11 +147,11 @@ but_rooted body plan root state keys of_body some tight rooted a held =
 
 -- ---- one slice
 
-levels_below : (body : Body) (all levels : List Level) → AreLevelsFrom body all 0 levels → AreLevelsFrom body all 1 (drop 1 levels)
+pub levels_below : (body : Body) (all levels : List Level) → AreLevelsFrom body all 0 levels → AreLevelsFrom body all 1 (drop 1 levels)
 levels_below body all [] are = tt
 levels_below body all (level ∷ levels) are = are.1
 
-one_less : (levels : List Level) → 0 < length levels → 1 + length (drop 1 levels) ≡ length levels
+pub one_less : (levels : List Level) → 0 < length levels → 1 + length (drop 1 levels) ≡ length levels
 one_less [] lt = absurd (omega arith)
 one_less (level ∷ levels) lt = omega arith
 

@@ -2,7 +2,7 @@
 use Rattle.std.specs.Prelude.{◌≡◌, ℕ, zero, suc, ◌+◌, ◌-◌, ◌^◌, ◌<◌, ◌≤◌, Bool, true, false, ◌==◌, List, [], ◌∷◌, ◌++◌, map, length, slice_get, take, drop, ◌⊎◌, Some, None, nat_lt, if◌then◌else◌}
 use Rattle.std.specs.List.{AllByRecursion, AllZip, list_any, list_all}
 use Rattle.lt_model.specs.declared.normal.Atom.{Atom}
-use Rattle.lt_face.proofs.Membership.{IsIn-append_left, IsIn-append_right, IsIn-append_cases}
+use Rattle.lt_face.proofs.Membership.{IsIn-append_right, IsIn-append_cases}
 use Rattle.lt_sense.specs.declared.covering.KeptGap.{KeptGap}
 use Rattle.lt_join.proofs.Repair.{All_at, list_any_from, list_any_of, Lacks-from_missed}
 use Rattle.lt_join.proofs.Leaves.{holds_at_leaf, term_fits, stands_at, IsWitness-at_leaf, IsAnswer-from_witness, answers_are, Certifies-from_explored}
@@ -105,12 +105,17 @@ unfolding IsDone
 IsDone-grows body plan terms f g grows keys k h =
     Explored-grows f.sense g.sense grows.sense plan.guides (IsCollected body plan terms f) (IsCollected body plan terms g) (IsCollected-grows body plan terms f g grows) (drop (length keys + 1) plan.levels) (length keys + 1) (with_key (at keys) (length keys) k) h
 
--- what the loop over a level's keys keeps
-pub record IsUnderWay {S N : Type 0} (body : Body) (plan : Plan) (terms : List Term) (state : State) (begun : Found S N) (keys0 : List ℕ) (level : Level) (found : Found S N) (keys : List ℕ) (key : ℕ) : Type 0 where
+pub explored_under : {S N : Type 0} → (body : Body) (plan : Plan) (terms : List Term) (found : Found S N) (keys : List ℕ) (k : ℕ) → IsDone body plan terms found keys k
+    → Explored found.sense plan.guides (IsCollected body plan terms found) (drop (length keys + 1) plan.levels) (length keys + 1) (with_key (at keys) (length keys) k)
+unfolding IsDone
+explored_under body plan terms found keys k h = h
+
+-- what the loop over a level's keys keeps, which began at the least from a number on
+pub record IsUnderWay {S N : Type 0} (body : Body) (plan : Plan) (terms : List Term) (state : State) (begun : Found S N) (keys0 : List ℕ) (level : Level) (from : ℕ) (found : Found S N) (keys : List ℕ) (key : ℕ) : Type 0 where
   pub same : keys ≡ keys0
   pub grows : FoundGrows begun found
   pub right : IsRight body terms state found
-  pub done : (k : ℕ) → is_cell k ≡ true → k < key → IsSkipped plan found.sense keys0 level k ⊎ IsDone body plan terms found keys0 k
+  pub done : (k : ℕ) → is_cell k ≡ true → from ≤ k → k < key → IsSkipped plan found.sense keys0 level k ⊎ IsDone body plan terms found keys0 k
   pub at_key : key < 2 ^ 128 - 1 → (is_cell key ≡ true) × Fits level (at keys0) key
 
 pub at_push_below : (keys : List ℕ) (k m : ℕ) → m < length keys → at (keys ++ k ∷ []) m ≡ at keys m
@@ -118,7 +123,7 @@ at_push_below [] k m h = absurd (omega arith)
 at_push_below (x ∷ keys) k zero h = refl
 at_push_below (x ∷ keys) k (suc m) h = at_push_below keys k m (omega arith)
 
-at_push_last : (keys : List ℕ) (k : ℕ) → at (keys ++ k ∷ []) (length keys) ≡ k
+pub at_push_last : (keys : List ℕ) (k : ℕ) → at (keys ++ k ∷ []) (length keys) ≡ k
 at_push_last [] k = refl
 at_push_last (x ∷ keys) k = at_push_last keys k
 
@@ -194,30 +199,30 @@ drop_at (x ∷ levels) zero level e = let same : x ≡ level = cc in ap (λ w. w
 drop_at (x ∷ levels) (suc n) level e = drop_at levels n level e ∙ (let s : suc (n + 1) ≡ suc n + 1 = omega arith in ap (λ m. level ∷ drop m (x ∷ levels)) s)
 
 -- the loop begins
-pub IsUnderWay-begun : {S N : Type 0} → (body : Body) (plan : Plan) (terms : List Term) (state : State) (begun : Found S N) (keys : List ℕ) (level : Level) (sense : Sense) (key : ℕ) → IsRight body terms state begun → StandsAt plan state begun.sense sense keys level 0 key → IsUnderWay body plan terms state begun keys level (record { sense = sense; rows = begun.rows }) keys key
-IsUnderWay-begun body plan terms state begun keys level sense key right stands = record {
+pub IsUnderWay-begun : {S N : Type 0} → (body : Body) (plan : Plan) (terms : List Term) (state : State) (begun : Found S N) (keys : List ℕ) (level : Level) (from : ℕ) (sense : Sense) (key : ℕ) → IsRight body terms state begun → StandsAt plan state begun.sense sense keys level from key → IsUnderWay body plan terms state begun keys level from (record { sense = sense; rows = begun.rows }) keys key
+IsUnderWay-begun body plan terms state begun keys level from sense key right stands = record {
   same = refl;
   grows = record { sense = stands.grows; rows = λ row h. h };
   right = record { tight = stands.tight; answers = witnesses_grow begun.sense sense stands.grows terms body state begun.rows right.answers };
-  done = λ k cell lt. inl (stands.skipped k cell (omega arith) lt);
+  done = λ k cell le lt. inl (stands.skipped k cell le lt);
   at_key = stands.found;
 }
 
 -- one key was explored, and the level went to its next
-pub IsUnderWay-more : {S N : Type 0} → (body : Body) (plan : Plan) (terms : List Term) (state : State) (begun f h g : Found S N) (keys0 keys back : List ℕ) (level : Level) (key : ℕ) (sense : Sense) (key' : ℕ) → IsUnderWay body plan terms state begun keys0 level f keys key → FoundGrows f h → FoundGrows h g → IsRight body terms state g → IsExploredBelow body plan terms g (keys0 ++ key ∷ []) → back ≡ keys0 → StandsAt plan state g.sense sense keys0 level (key + 1) key' → IsUnderWay body plan terms state begun keys0 level (record { sense = sense; rows = g.rows }) back key'
-IsUnderWay-more body plan terms state begun f h g keys0 keys back level key sense key' way first second right explored is_back stands =
+pub IsUnderWay-more : {S N : Type 0} → (body : Body) (plan : Plan) (terms : List Term) (state : State) (begun f h g : Found S N) (keys0 keys back : List ℕ) (level : Level) (from key : ℕ) (sense : Sense) (key' : ℕ) → IsUnderWay body plan terms state begun keys0 level from f keys key → FoundGrows f h → FoundGrows h g → IsRight body terms state g → IsExploredBelow body plan terms g (keys0 ++ key ∷ []) → back ≡ keys0 → StandsAt plan state g.sense sense keys0 level (key + 1) key' → IsUnderWay body plan terms state begun keys0 level from (record { sense = sense; rows = g.rows }) back key'
+IsUnderWay-more body plan terms state begun f h g keys0 keys back level from key sense key' way first second right explored is_back stands =
     let last : FoundGrows g (record { sense = sense; rows = g.rows }) = record { sense = stands.grows; rows = λ row r. r } in
     let whole : FoundGrows f (record { sense = sense; rows = g.rows }) = FoundGrows-chain f h (record { sense = sense; rows = g.rows }) first (FoundGrows-chain h g (record { sense = sense; rows = g.rows }) second last) in
     record {
       same = is_back;
       grows = FoundGrows-chain begun f (record { sense = sense; rows = g.rows }) way.grows whole;
       right = record { tight = stands.tight; answers = witnesses_grow g.sense sense stands.grows terms body state g.rows right.answers };
-      done = λ k cell lt.
+      done = λ k cell le lt.
           elim (cases_order k key) [
             | inl e ↦ inr (IsDone-grows body plan terms g (record { sense = sense; rows = g.rows }) last keys0 k
                 (subst (λ n. IsDone body plan terms g keys0 n) (sym e) (IsDone-of_child body plan terms g keys0 key explored)))
             | inr r ↦ elim r [
-              | inl below ↦ elim (way.done k cell below) [
+              | inl below ↦ elim (way.done k cell le below) [
                 | inl skipped ↦ inl (IsSkipped-grows plan f.sense sense whole.sense keys0 level k skipped)
                 | inr done ↦ inr (IsDone-grows body plan terms f (record { sense = sense; rows = g.rows }) whole keys0 k done)
               ]
@@ -228,11 +233,11 @@ IsUnderWay-more body plan terms state begun f h g keys0 keys back level key sens
     }
 
 -- all keys of the level are done
-pub IsExploredBelow-all : {S N : Type 0} → (body : Body) (plan : Plan) (terms : List Term) (state : State) (begun found : Found S N) (keys0 keys : List ℕ) (level : Level) (key : ℕ) → IsUnderWay body plan terms state begun keys0 level found keys key → slice_get plan.levels (length keys0) ≡ Some level → 2 ^ 128 - 1 ≤ key → IsExploredBelow body plan terms found keys0
+pub IsExploredBelow-all : {S N : Type 0} → (body : Body) (plan : Plan) (terms : List Term) (state : State) (begun found : Found S N) (keys0 keys : List ℕ) (level : Level) (key : ℕ) → IsUnderWay body plan terms state begun keys0 level 0 found keys key → slice_get plan.levels (length keys0) ≡ Some level → 2 ^ 128 - 1 ≤ key → IsExploredBelow body plan terms found keys0
 IsExploredBelow-all body plan terms state begun found keys0 keys level key way here ended =
     rw (drop_at plan.levels (length keys0) level here) (λ k cell.
     let small : k < 2 ^ 120 = ltb-true k (2 ^ 120) (and_parts (nat_lt 0 k) (nat_lt k (2 ^ 120)) cell).1 in
-    elim (way.done k cell (omega arith)) [
+    elim (way.done k cell (omega arith) (omega arith)) [
       | inl skipped ↦ elim skipped [ inl p ↦ inl p | inr u ↦ inr (inl u) ]
       | inr done ↦ inr (inr (unfold IsDone in done))
     ])

@@ -7,6 +7,7 @@ pub mod Mended
 pub mod MendedKeys
 pub mod MendedMerge
 pub mod MendedPlan
+pub mod Parts
 pub mod Leaper
 pub mod Sliced
 pub mod Values

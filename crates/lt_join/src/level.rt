@@ -5,7 +5,7 @@ ghost use Rattle.lt_face.specs.Keys.{end_key};
 ghost use Rattle.lt_sense.specs.Sense.{IsTight};
 ghost use Rattle.lt_leap.specs.Common.{has_key};
 ghost use Rattle.lt_leap.specs.Potential.{join_cost};
-ghost use Rattle.lt_join.specs.Cost.{iterators_at, LevelGains};
+ghost use Rattle.lt_join.specs.Cost.{iterators_at, GainsFewer, LevelGains};
 ghost use Rattle.lt_join.specs.Walked.{at};
 ghost use Rattle.lt_join.specs.Holders.{IsUsable, IsOpen, IsJoined, left_of, IsWalkable, IsTrieOf, AreUnder, AreOpened, atoms_at, alone};
 
@@ -163,4 +163,82 @@ pub(crate) fn next_key<'a, I: Indexes, S: Senses, L>(
     keep_gaps(tables, &joined.leap, noted, plan, level, keys, sense)?;
     joined.key = joined.leap.key();
     Ok(())
+}
+
+/// Goes to the level's least key at or above the bound, which is above where it stands.
+fn seek_key<'a, I: Indexes, S: Senses, L>(
+    tables: &'a I,
+    joined: &mut Joined<'a, I::Rows>,
+    plan: &Plan,
+    level: &Level,
+    keys: &Items<Key>,
+    noted: &mut Noting<S::Noted>,
+    sense: &mut Sensed<S>,
+    moves: &mut Moves<L>,
+    bound: Key,
+) -> Result<(), NoMemory>
+    requires is_open { IsOpen plan.now (I.state tables.now) keys.now level.now joined.old.leap joined.old.key }
+    requires ahead { joined.old.key < bound }
+    requires bound { bound ≤ 2 ^ 120 }
+    requires usable { IsUsable plan.now.guides level.now keys.now }
+    requires tight { IsTight sense.old (I.state tables.now) }
+    ensures gains { OnOk result (GainsFewer sense.old sense.new moves.old moves.new) }
+    ensures hits { OnOk result (sense.new.hits ≡ sense.old.hits) }
+    ensures stands { OnOk result (IsJoined plan.now (I.state tables.now) sense.old sense.new keys.now level.now bound (moves.old + left_of joined.old.leap) moves.new joined.new.leap joined.new.key) }
+    ensures reaches { OnOk result (bound ≤ joined.new.key) }
+    ensures under { OnOk result (AreUnder keys.now sense.old sense.new) }
+    // also where memory is refused
+    ensures within { moves.new ≤ moves.old + left_of joined.old.leap }
+    ensures moves { moves.old ≤ moves.new }
+{
+    noted.clear();
+    joined.leap.seek(bound, noted, moves)?;
+    keep_gaps(tables, &joined.leap, noted, plan, level, keys, sense)?;
+    joined.key = joined.leap.key();
+    Ok(())
+}
+
+/// Opens the level below the keys, and goes to its first key at or above the bound.
+pub(crate) fn open_from<'a, I: Indexes, S: Senses, L>(
+    alloc: Global,
+    tables: &'a I,
+    iters: &[TrieIter<'a, I::Rows>],
+    plan: &Plan,
+    level: &Level,
+    keys: &Items<Key>,
+    noted: &mut Noting<S::Noted>,
+    sense: &mut Sensed<S>,
+    moves: &mut Moves<L>,
+    bound: Key,
+) -> Result<Joined<'a, I::Rows>, NoMemory>
+    requires walkable { AllByRecursion IsWalkable plan.now.guides }
+    requires iters { AllZip (IsTrieOf (I.state tables.now) (length keys.now) (at keys.now)) plan.now.guides iters.now }
+    requires usable { IsUsable plan.now.guides level.now keys.now }
+    requires tight { IsTight sense.old (I.state tables.now) }
+    requires bound { bound ≤ 2 ^ 120 }
+    ensures gains { IfOk result (λ joined. LevelGains (length (atoms_at plan.now.guides (length keys.now))) sense.old sense.new moves.old moves.new joined.key) }
+    ensures stands { IfOk result (λ joined. IsJoined plan.now (I.state tables.now) sense.old sense.new keys.now level.now bound
+        (moves.old + join_cost (iterators_at (I.state tables.now) plan.now.guides level.now (length keys.now) (at keys.now))) moves.new joined.leap joined.key) }
+    ensures reaches { IfOk result (λ joined. bound ≤ joined.key) }
+    ensures under { IfOk result (λ _. AreUnder keys.now sense.old sense.new) }
+    // also where memory is refused
+    ensures within { moves.new ≤ moves.old + join_cost (iterators_at (I.state tables.now) plan.now.guides level.now (length keys.now) (at keys.now)) }
+    ensures moves { moves.old ≤ moves.new }
+{
+    let mut joined = open_level(alloc, tables, iters, plan, level, keys, noted, sense, moves)?;
+    if joined.key >= bound {
+        return Ok(joined);
+    }
+    seek_key(
+        tables,
+        &mut joined,
+        plan,
+        level,
+        keys,
+        noted,
+        sense,
+        moves,
+        bound,
+    )?;
+    Ok(joined)
 }

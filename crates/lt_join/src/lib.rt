@@ -3,8 +3,10 @@
 
 mod answer;
 pub mod ascending;
+mod bounds;
 pub mod conditions;
 mod covering;
+mod exploring;
 mod keeping;
 mod leaf;
 mod leaper;
@@ -18,7 +20,12 @@ mod mending_plan;
 mod mending_read;
 mod mending_shared;
 mod mending_touched;
+mod parts;
+mod ranging;
 mod slicing;
+mod splitting;
+mod splitting_alone;
+mod splitting_slices;
 pub mod values;
 mod walk;
 
@@ -34,6 +41,9 @@ pub use mending_read::{rows_of_slices, spot_in};
 pub use mending_shared::{SharedSlice, SharedSlices};
 pub use mending_touched::touched_keys;
 pub use slicing::{Slice, slices, slices_make_the_whole, slices_unsealed};
+pub use splitting::{answers_split, answers_split_unsealed};
+pub use splitting_alone::answers_split_alone;
+pub use splitting_slices::{slices_split, slices_split_unsealed};
 
 /// What a walk has found so far: what it sensed, and rows that are answers.
 #[derive(Drop)]

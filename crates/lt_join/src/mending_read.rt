@@ -1,6 +1,5 @@
 //! What slices have: their rows, and what of them covers a row.
-ghost use Rattle.std.specs.Prelude.{◌≡◌, ◌++◌, true, is_some, IfOk, IfSome, OnOk};
-ghost use Rattle.lt_face.specs.Rows.{IsAscending};
+ghost use Rattle.std.specs.Prelude.{◌≡◌, ◌++◌, is_some, IfOk, IfSome, OnOk};
 ghost use Rattle.lt_model.specs.Answers.{ascending as ascending_rows};
 ghost use Rattle.lt_sense.specs.Sense.{covers};
 ghost use Rattle.lt_sense.specs.Spots.{IsSpotOf};
@@ -8,23 +7,11 @@ ghost use Rattle.lt_join.specs.Sliced.{united, sliced_rows};
 
 use crate::ascending::ascending;
 use crate::mending_shared::SharedSlice;
-use lt_face::items::{Items, RowList};
+use lt_face::items::RowList;
 use lt_face::memory::NoMemory;
 use lt_face::row::Row;
 use lt_sense::{Sense, Spot};
 use std::alloc::Global;
-
-/// Whether each row is below the next.
-fn are_ascending(rows: &[Row]) -> bool
-    ensures { result ≡ true → IsAscending rows.now }
-{
-    for i in 1..rows.len() {
-        if !rows[i - 1].cmp(&rows[i]).is_lt() {
-            return false;
-        }
-    }
-    true
-}
 
 /// Adds the rows at the end.
 fn add_rows(out: &mut Vec<Row>, rows: &[Row]) -> Result<(), NoMemory>
@@ -49,14 +36,11 @@ fn rows_by_key(alloc: Global, slices: &[SharedSlice]) -> Result<Vec<Row>, NoMemo
     Ok(rows)
 }
 
-/// The rows of the slices in ascending order, each once. Rows that are in order already aren't sorted.
+/// The rows of the slices in ascending order, each once.
 pub fn rows_of_slices(alloc: Global, slices: &[SharedSlice]) -> Result<RowList, NoMemory>
     ensures { IfOk result (λ rows. rows ≡ ascending_rows (sliced_rows slices.now)) }
 {
     let rows = rows_by_key(alloc, slices)?;
-    if are_ascending(&rows) {
-        return Ok(Items::from_vec(rows));
-    }
     let rows = ascending(rows)?;
     Ok(rows)
 }

@@ -1,6 +1,7 @@
 //! The answers of a body, key by key of its first variable.
 ghost use Rattle.std.specs.Prelude.{◌≡◌, ◌≤◌, ◌<◌, ◌+◌, ◌-◌, ◌^◌, ◌∷◌, [], ℕ, List, true, length, slice_get, drop, Some, IfOk, IsTrue};
 ghost use Rattle.std.specs.List.{AllByRecursion, AllZip};
+ghost use Rattle.lt_face.specs.Keys.{end_key};
 ghost use Rattle.lt_face.specs.Limits.{most_columns};
 ghost use Rattle.lt_face.specs.Lists.{IsIn};
 ghost use Rattle.lt_face.specs.State.{Row as RowView, State};
@@ -14,6 +15,7 @@ ghost use Rattle.lt_query.specs.Answering.{AreTestsBound};
 ghost use Rattle.lt_query.specs.Lists.{IsRising, below};
 ghost use Rattle.lt_query.specs.Plan.{IsPlanOf, term_at};
 ghost use Rattle.lt_query.specs.Runnable.{IsRunnable};
+ghost use Rattle.lt_query.specs.declared.plans.Plan.{Plan as PlanView};
 ghost use Rattle.lt_sense.specs.Cells.{HaveSameCells};
 ghost use Rattle.lt_sense.specs.Kept.{Sense as SenseView};
 ghost use Rattle.lt_sense.specs.Ordered.{IsSealed};
@@ -24,14 +26,17 @@ ghost use Rattle.lt_join.specs.Explored.{Fits};
 ghost use Rattle.lt_join.specs.Holders.{IsPrepared, IsTrieOf, IsOpen, IsLookUpOf, atoms_at};
 ghost use Rattle.lt_join.specs.Walked.{at};
 ghost use Rattle.lt_join.specs.declared.slicing.Slice.{Slice as SliceView};
+ghost use Rattle.lt_join.specs.Mended.{AreSlicesOn};
+ghost use Rattle.lt_join.specs.Parts.{IsAtMost, IsJoinable, AreSlicesWithin};
 ghost use Rattle.lt_join.specs.Sliced.{pinned, slice_keys, united, sliced_rows, AreSealed, CertifiesBut, IsSliceOf, AreRooted, AreRootGaps, AreFoundKeys};
 
 use crate::Found;
 use crate::ascending::ascending;
-use crate::level::{Joined, next_key, open_level};
+use crate::exploring::explore_key;
+use crate::level::{Joined, next_key, open_from};
 use crate::looking_up::{LookUp, look_ups_of};
 use crate::mending_shared::{SharedSlice, SharedSlices};
-use crate::walk::{add_hits, descend, enter, leave, roots_of};
+use crate::walk::roots_of;
 use lt_face::indexes::Indexes;
 use lt_face::items::{Items, RowList};
 use lt_face::key::{END, Key};
@@ -58,16 +63,15 @@ pub fn slices_make_the_whole()
     ensures answers { (root : SenseView) (slices : List SliceView) (terms : List TermView) (term : TermView) (body : BodyView) (state : State) → AreTestsBound body → are_bound body terms ≡ true → IsIn term (terms_of body.atoms) → CertifiesBut (slice_keys slices) term root body state → AllByRecursion (IsSliceOf terms body term state) slices → answers_of terms body state ≡ ascending_rows (sliced_rows slices) }
 {}
 
-/// What was sensed, put in order where that is asked for.
-fn sealed_if(sensed: Sensed<Sense>, sealing: bool) -> Result<Sense, NoMemory>
-    ensures sealed { IfOk result (λ sense. sealing ≡ true → IsSealed sense) }
-    ensures cells { IfOk result (λ sense. HaveSameCells sensed.gaps sense.gaps) }
-    ensures covers { IfOk result (λ sense. (relation : ℕ) (row : RowView) → covers sense relation row ≡ covers sensed relation row) }
-    ensures gaps { IfOk result (λ sense. length sense.gaps ≤ length sensed.gaps) }
-    ensures hits { IfOk result (λ sense. length sense.hits ≤ length sensed.hits) }
-    ensures tight { IfOk result (λ sense. (state : State) → IsTight sensed state → IsTight sense state) }
+/// A sense put in order where that is asked for.
+fn sealed_if(mut sense: Sense, sealing: bool) -> Result<Sense, NoMemory>
+    ensures sealed { IfOk result (λ kept. sealing ≡ true → IsSealed kept) }
+    ensures cells { IfOk result (λ kept. HaveSameCells sense.gaps kept.gaps) }
+    ensures covers { IfOk result (λ kept. (relation : ℕ) (row : RowView) → covers kept relation row ≡ covers sense relation row) }
+    ensures gaps { IfOk result (λ kept. length kept.gaps ≤ length sense.gaps) }
+    ensures hits { IfOk result (λ kept. length kept.hits ≤ length sense.hits) }
+    ensures tight { IfOk result (λ kept. (state : State) → IsTight sense state → IsTight kept state) }
 {
-    let mut sense = sensed.into_senses();
     if !sealing {
         return Ok(sense);
     }
@@ -118,16 +122,12 @@ fn slice_at<'a, I: Indexes, L>(
         sense: Sensed::none(alloc),
         rows: empty,
     };
-    enter(tables, iters, joined, plan, level, keys);
-    keys.push(joined.key)?;
-    add_hits(alloc, tables, iters, plan, keys, &mut found.sense)?;
-    descend(
-        alloc, tables, iters, look_ups, body, plan, terms, keys, noted, &mut found, moves, false,
+    explore_key(
+        alloc, tables, iters, joined, look_ups, body, plan, level, terms, keys, noted, &mut found,
+        moves,
     )?;
-    keys.pop();
-    leave(tables, iters, plan, keys, joined.key);
     let rows = ascending(found.rows.into_vec())?;
-    let sense = sealed_if(found.sense, sealing)?;
+    let sense = sealed_if(found.sense.into_senses(), sealing)?;
     Ok(Slice {
         key: joined.key,
         rows,
@@ -135,8 +135,78 @@ fn slice_at<'a, I: Indexes, L>(
     })
 }
 
+/// What was gathered of a range of keys: the root gaps, and the slices of the keys that were found in it.
+#[derive(Drop)]
+pub(crate) struct Gathered {
+    pub(crate) root: Sense,
+    pub(crate) slices: SharedSlices,
+}
+
+/// Gathers the slices of the keys from `lo` to below `hi`.
+pub(crate) fn gather_range<I: Indexes, L>(
+    alloc: Global,
+    body: &Body,
+    plan: &Plan,
+    terms: &TermList,
+    indexes: &I,
+    lo: Key,
+    hi: Key,
+    moves: &mut Moves<L>,
+    sealing: bool,
+) -> Result<Gathered, NoMemory>
+    requires ready { IsJoinable (I.state indexes.now) (I.has_index indexes.now) body.now plan.now terms.now }
+    requires bound { lo ≤ 2 ^ 120 }
+    ensures slices { IfOk result (λ found. AreSlicesWithin terms.now body.now plan.now (I.state indexes.now) lo hi found.root found.slices) }
+    ensures few { IfOk result (λ found. IsAtMost (united found.root found.slices) (moves.new - moves.old)) }
+    ensures sealed { IfOk result (λ found. sealing ≡ true → AllByRecursion (λ slice. IsSealed slice.sense) found.slices) }
+    // also where memory is refused
+    ensures cost { moves.new ≤ moves.old + bound body.now plan.now (I.state indexes.now) }
+    ensures moves { moves.old ≤ moves.new }
+{
+    let mut keys = Items::new(alloc);
+    let mut noted = Noting::new(alloc);
+    let mut iters = roots_of(alloc, indexes, plan)?;
+    let look_ups = look_ups_of(alloc, indexes, body)?;
+    let mut root: Sensed<Sense> = Sensed::none(alloc);
+    let mut slices = Items::new(alloc);
+    let level = &plan.levels.as_slice()[0];
+    let mut joined = open_from(
+        alloc, indexes, &iters, plan, level, &keys, &mut noted, &mut root, moves, lo,
+    )?;
+    while joined.key < hi {
+        let slice = slice_at(
+            alloc, indexes, &mut iters, &joined, &look_ups, body, plan, level, terms, &mut keys,
+            &mut noted, moves, sealing,
+        )?;
+        let shared = SharedSlice::new(alloc, slice)?;
+        slices.push(shared)?;
+        next_key(
+            indexes,
+            &mut joined,
+            plan,
+            level,
+            &keys,
+            &mut noted,
+            &mut root,
+            moves,
+        )?;
+    }
+    let root = root.into_senses();
+    Ok(Gathered { root, slices })
+}
+
+/// The slices of a range that all keys are in, and its root gaps, put in order where that is asked for.
+pub(crate) fn whole_of(found: Gathered, sealing: bool) -> Result<(Sense, SharedSlices), NoMemory>
+    ensures slices { IfOk result (λ whole. (terms : List TermView) (body : BodyView) (plan : PlanView) (state : State) → AreSlicesWithin terms body plan state 0 end_key found.root found.slices → AreSlicesOn terms body plan state whole.0 whole.1 × AreFoundKeys plan state (slice_keys whole.1)) }
+    ensures few { IfOk result (λ whole. (n : ℕ) → IsAtMost (united found.root found.slices) n → IsAtMost (united whole.0 whole.1) n) }
+    ensures sealed { IfOk result (λ whole. sealing ≡ true → AllByRecursion (λ slice. IsSealed slice.sense) found.slices → AreSealed whole.0 whole.1) }
+{
+    let root = sealed_if(found.root, sealing)?;
+    Ok((root, found.slices))
+}
+
 /// As `slices`, which seals, and `slices_unsealed`, which doesn't.
-fn gather_slices<I: Indexes, L>(
+pub(crate) fn gather_slices<I: Indexes, L>(
     alloc: Global,
     body: &Body,
     plan: &Plan,
@@ -169,36 +239,9 @@ fn gather_slices<I: Indexes, L>(
     ensures moves { moves.old ≤ moves.new }
     ensures sealed { IfOk result (λ found. sealing ≡ true → AreSealed found.0 found.1) }
 {
-    let mut keys = Items::new(alloc);
-    let mut noted = Noting::new(alloc);
-    let mut iters = roots_of(alloc, indexes, plan)?;
-    let look_ups = look_ups_of(alloc, indexes, body)?;
-    let mut root: Sensed<Sense> = Sensed::none(alloc);
-    let mut slices = Items::new(alloc);
-    let level = &plan.levels.as_slice()[0];
-    let mut joined = open_level(
-        alloc, indexes, &iters, plan, level, &keys, &mut noted, &mut root, moves,
-    )?;
-    while joined.key < END {
-        let slice = slice_at(
-            alloc, indexes, &mut iters, &joined, &look_ups, body, plan, level, terms, &mut keys,
-            &mut noted, moves, sealing,
-        )?;
-        let shared = SharedSlice::new(alloc, slice)?;
-        slices.push(shared)?;
-        next_key(
-            indexes,
-            &mut joined,
-            plan,
-            level,
-            &keys,
-            &mut noted,
-            &mut root,
-            moves,
-        )?;
-    }
-    let root = sealed_if(root, sealing)?;
-    Ok((root, slices))
+    let found = gather_range(alloc, body, plan, terms, indexes, 0, END, moves, sealing)?;
+    let whole = whole_of(found, sealing)?;
+    Ok(whole)
 }
 
 /// As `slices`, with the senses in the order in which they were gathered.

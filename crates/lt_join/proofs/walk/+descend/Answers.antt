@@ -37,7 +37,7 @@ open_level-requires-clause-usable g t c =
 
 pub loop-joined-init : goal.loop-joined-init
 loop-joined-init g t c = record {
-  way = IsUnderWay-begun c.args.body.now c.args.plan.now c.args.terms.now (g.I.Indexes.state c.args.tables.now) c.args.found.now c.args.keys.now c.index-as_slice-depth.result c.open_level.new.sense c.in_ok-joined.joined.key c.requires.right c.in_ok-joined.ensures.stands.stands;
+  way = IsUnderWay-begun c.args.body.now c.args.plan.now c.args.terms.now (g.I.Indexes.state c.args.tables.now) c.args.found.now c.args.keys.now c.index-as_slice-depth.result 0 c.open_level.new.sense c.in_ok-joined.joined.key c.requires.right c.in_ok-joined.ensures.stands.stands;
   paid = IsPaid-begun (length c.args.body.now.absents) c.args.plan.now (g.I.Indexes.state c.args.tables.now) c.args.keys.now c.index-as_slice-depth.result c.args.moves.now c.open_level.new.moves (left_of c.in_ok-joined.joined.leap) c.in_ok-joined.joined.key c.in_ok-joined.ensures.stands.cost;
   credited = IsCredited-begun (length (atoms_at c.args.plan.now.guides (length c.args.keys.now))) c.args.found.now.sense c.open_level.new.sense c.args.moves.now c.open_level.new.moves c.in_ok-joined.joined.key c.in_ok-joined.ensures.gains;
   under = λ row there. inl there;
@@ -83,7 +83,7 @@ loop-joined-preserved g t c =
     let few = subst (λ n. length c.add_hits.new.sense.hits ≤ length c.loop-joined.found.sense.hits + length (atoms_at c.args.plan.now.guides n)) last c.in_ok-add_hits.ensures.few in
     let gains = subst (λ (ks : List ℕ). LevelGains (length (atoms_at c.args.plan.now.guides (length ks))) c.descend.new.found.sense c.next_key.new.sense c.descend.new.moves c.next_key.new.moves c.next_key.new.joined.key) back c.in_ok-next_key.ensures.gains in
     record {
-      way = IsUnderWay-more c.args.body.now c.args.plan.now c.args.terms.now (g.I.Indexes.state c.args.tables.now) c.args.found.now c.loop-joined.found (record { sense = c.add_hits.new.sense; rows = c.loop-joined.found.rows }) c.descend.new.found c.args.keys.now c.loop-joined.keys c.pop.new.self c.index-as_slice-depth.result c.loop-joined.joined.key c.next_key.new.sense c.next_key.new.joined.key
+      way = IsUnderWay-more c.args.body.now c.args.plan.now c.args.terms.now (g.I.Indexes.state c.args.tables.now) c.args.found.now c.loop-joined.found (record { sense = c.add_hits.new.sense; rows = c.loop-joined.found.rows }) c.descend.new.found c.args.keys.now c.loop-joined.keys c.pop.new.self c.index-as_slice-depth.result 0 c.loop-joined.joined.key c.next_key.new.sense c.next_key.new.joined.key
           inv.way (record { sense = c.in_ok-add_hits.ensures.grows; rows = λ row h. h }) c.in_ok-stopped.ensures.grows c.in_ok-stopped.ensures.right
           (subst (IsExploredBelow c.args.body.now c.args.plan.now c.args.terms.now c.descend.new.found) pushed (c.in_ok-stopped.ensures.explored c.if-stopped.false)) back next.stands;
       paid = IsPaid-more (length c.args.body.now.absents) c.args.plan.now (g.I.Indexes.state c.args.tables.now) c.args.keys.now c.loop-joined.keys c.index-as_slice-depth.result c.args.moves.now c.loop-joined.moves (left_of c.loop-joined.joined.leap) c.loop-joined.joined.key c.descend.new.moves c.next_key.new.moves (left_of c.next_key.new.joined.leap) c.next_key.new.joined.key (omega arith) c.in_ok-next_key.ensures.rises inv.paid

@@ -11,7 +11,7 @@ decreases-descend g l = length l.plan.now.levels - length l.keys.now
 
 abbrev pub invariant-loop-joined : goal.invariant-loop-joined
 invariant-loop-joined g l = record {
-  way : IsUnderWay l.fn.body l.fn.plan l.fn.terms (g.I.Indexes.state l.fn.tables) l.fn.found l.fn.keys l.level l.found l.keys l.joined.key;
+  way : IsUnderWay l.fn.body l.fn.plan l.fn.terms (g.I.Indexes.state l.fn.tables) l.fn.found l.fn.keys l.level 0 l.found l.keys l.joined.key;
   paid : IsPaid (length l.fn.body.absents) l.fn.plan (g.I.Indexes.state l.fn.tables) l.fn.keys l.level l.fn.moves l.moves (left_of l.joined.leap) l.joined.key;
   credited : IsCredited (length (atoms_at l.fn.plan.guides (length l.fn.keys))) l.fn.found.sense l.found.sense l.fn.moves l.moves l.joined.key;
   under : AreFoundUnder l.fn.terms l.fn.body l.fn.plan (g.I.Indexes.state l.fn.tables) l.fn.keys l.fn.found l.found;

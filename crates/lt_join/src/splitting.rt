@@ -1,0 +1,168 @@
+//! The answers of a body by ranges of the keys of its first level.
+ghost use Rattle.std.specs.Prelude.{◌≡◌, ◌<◌, ◌≤◌, ◌+◌, ◌*◌, ℕ, true, length, IfOk, IsTrue};
+ghost use Rattle.std.specs.List.{AllByRecursion};
+ghost use Rattle.lt_face.specs.Limits.{most_columns};
+ghost use Rattle.lt_model.specs.Answers.{answers as answers_of};
+ghost use Rattle.lt_model.specs.Bound.{are_bound};
+ghost use Rattle.lt_model.specs.Fits.{IsBodyOf};
+ghost use Rattle.lt_query.specs.Lists.{below};
+ghost use Rattle.lt_query.specs.Plan.{IsPlanOf};
+ghost use Rattle.lt_query.specs.Runnable.{IsRunnable};
+ghost use Rattle.lt_sense.specs.Ordered.{IsSealed};
+ghost use Rattle.lt_sense.specs.Sense.{IsTight};
+ghost use Rattle.lt_join.specs.Certify.{Certifies};
+ghost use Rattle.lt_join.specs.Cost.{bound};
+
+use crate::answer::answers_unsealed;
+use crate::ascending::ascending;
+use crate::parts::{Ranged, find_whole};
+use crate::ranging::explore_range;
+use lt_edges::Gate;
+use lt_face::indexes::Indexes;
+use lt_face::items::{Items, RowList};
+use lt_face::key::Key;
+use lt_face::memory::NoMemory;
+use lt_face::moves::Moves;
+use lt_query::{Body, Plan, TermList};
+use lt_sense::Sense;
+use std::alloc::Global;
+use std::sync::Wait;
+use std::thread::Threads;
+
+/// Answers, and what they were sensitive to.
+#[derive(Drop)]
+pub(crate) struct Answered {
+    rows: RowList,
+    sense: Sense,
+}
+
+/// The way to join for answers.
+#[derive(Drop)]
+pub(crate) struct Answering;
+
+impl Ranged for Answering {
+    ghost use Rattle.lt_query.specs.Plan.{term_at};
+    ghost use Rattle.lt_join.specs.Parts.{IsPartOf, IsAtMost};
+
+    type Found = Answered;
+
+    ghost is_found = { λ way terms body plan state lo hi found. IsPartOf terms body state (term_at plan.levels 0) lo hi found.rows found.sense };
+
+    ghost is_paid = { λ found n. IsAtMost found.sense n };
+
+    fn find<I: Indexes, L>(
+        &self,
+        alloc: Global,
+        body: &Body,
+        plan: &Plan,
+        terms: &TermList,
+        indexes: &I,
+        lo: Key,
+        hi: Key,
+        moves: &mut Moves<L>,
+    ) -> Result<Answered, NoMemory> {
+        let found = explore_range(alloc, body, plan, terms, indexes, lo, hi, moves)?;
+        let rows = ascending(found.rows.into_vec())?;
+        Ok(Answered {
+            rows,
+            sense: found.sense.into_senses(),
+        })
+    }
+
+    fn unite(&self, one: Answered, next: Answered) -> Result<Answered, NoMemory> {
+        let Answered { rows, mut sense } = one;
+        let mut rows = rows.into_vec();
+        let mut more = next.rows.into_vec();
+        rows.append(&mut more)?;
+        sense.add_all(&next.sense)?;
+        Ok(Answered {
+            rows: Items::from_vec(rows),
+            sense,
+        })
+    }
+}
+
+/// As `answers_split`, with the gaps and hits in the order in which they were found.
+pub fn answers_split_unsealed<R: Threads + Wait + Sync, I: Indexes + Sync, G: Gate, L: Send>(
+    rt: &R,
+    alloc: Global,
+    body: &Body,
+    plan: &Plan,
+    terms: &TermList,
+    indexes: &I,
+    parts: u32,
+    gate: &G,
+    moves: &mut Moves<L>,
+) -> Result<(RowList, Sense), NoMemory>
+where
+    I::Rows: Sync,
+    requires of_body { IsPlanOf body.now plan.now }
+    requires runnable { IsRunnable body.now plan.now }
+    requires fits { IsBodyOf (I.state indexes.now) body.now }
+    requires has_indexes { AllByRecursion (λ guide. I.has_index indexes.now guide.relation guide.columns ≡ true) plan.now.guides }
+    requires has_firsts { AllByRecursion (λ atom. I.has_index indexes.now atom.relation (below (length atom.terms)) ≡ true) body.now.absents }
+    requires are_bound { IsTrue (are_bound body.now terms.now) }
+    requires narrow { length terms.now ≤ most_columns }
+    requires some { 0 < parts }
+    requires few { parts ≤ 16 }
+    ensures rows { IfOk result (λ found. found.0 ≡ answers_of terms.now body.now (I.state indexes.now)) }
+    ensures certified { IfOk result (λ found. Certifies found.1 body.now (I.state indexes.now)) }
+    ensures tight { IfOk result (λ found. IsTight found.1 (I.state indexes.now)) }
+    ensures gaps { IfOk result (λ found. moves.old + length found.1.gaps ≤ moves.new) }
+    ensures hits { IfOk result (λ found. moves.old + length found.1.hits ≤ moves.new) }
+    // also where memory is refused
+    ensures cost { moves.new ≤ moves.old + parts * bound body.now plan.now (I.state indexes.now) }
+    ensures moves { moves.old ≤ moves.new }
+{
+    if plan.levels.len() == 0 {
+        gate.pass(rt, 0, 0);
+        return answers_unsealed(alloc, body, plan, terms, indexes, moves);
+    }
+    let found = find_whole::<R, L, I, Answering, Answered, G>(
+        rt, &Answering, alloc, body, plan, terms, indexes, parts, gate, moves,
+    )?;
+    let rows = ascending(found.rows.into_vec())?;
+    Ok((rows, found.sense))
+}
+
+/// The answers of a body and what they were sensitive to, as of `answers`, by at most so many parts: each joins for a range of the
+/// first level's keys, in a thread of its own where there can be one. Before its work a part passes the gate with its number, from
+/// 0, as worker and as job. Where the first level has at most one key there is one part.
+pub fn answers_split<R: Threads + Wait + Sync, I: Indexes + Sync, G: Gate, L: Send>(
+    rt: &R,
+    alloc: Global,
+    body: &Body,
+    plan: &Plan,
+    terms: &TermList,
+    indexes: &I,
+    parts: u32,
+    gate: &G,
+    moves: &mut Moves<L>,
+) -> Result<(RowList, Sense), NoMemory>
+where
+    I::Rows: Sync,
+    requires of_body { IsPlanOf body.now plan.now }
+    requires runnable { IsRunnable body.now plan.now }
+    requires fits { IsBodyOf (I.state indexes.now) body.now }
+    requires has_indexes { AllByRecursion (λ guide. I.has_index indexes.now guide.relation guide.columns ≡ true) plan.now.guides }
+    requires has_firsts { AllByRecursion (λ atom. I.has_index indexes.now atom.relation (below (length atom.terms)) ≡ true) body.now.absents }
+    requires are_bound { IsTrue (are_bound body.now terms.now) }
+    requires narrow { length terms.now ≤ most_columns }
+    requires some { 0 < parts }
+    requires few { parts ≤ 16 }
+    ensures rows { IfOk result (λ found. found.0 ≡ answers_of terms.now body.now (I.state indexes.now)) }
+    ensures certified { IfOk result (λ found. Certifies found.1 body.now (I.state indexes.now)) }
+    ensures tight { IfOk result (λ found. IsTight found.1 (I.state indexes.now)) }
+    ensures gaps { IfOk result (λ found. moves.old + length found.1.gaps ≤ moves.new) }
+    ensures hits { IfOk result (λ found. moves.old + length found.1.hits ≤ moves.new) }
+    // also where memory is refused
+    ensures cost { moves.new ≤ moves.old + parts * bound body.now plan.now (I.state indexes.now) }
+    ensures moves { moves.old ≤ moves.new }
+    ensures sealed { IfOk result (λ found. IsSealed found.1) }
+{
+    let (rows, mut sense) = answers_split_unsealed(
+        rt, alloc, body, plan, terms, indexes, parts, gate, moves,
+    )?;
+    sense.seal()?;
+    Ok((rows, sense))
+}

@@ -1,0 +1,226 @@
+//! The answers of a body, key by key of its first variable, by ranges of these keys.
+ghost use Rattle.std.specs.Prelude.{◌≡◌, ◌<◌, ◌≤◌, ◌+◌, ◌*◌, ℕ, [], true, length, IfOk, IsTrue};
+ghost use Rattle.std.specs.List.{AllByRecursion};
+ghost use Rattle.lt_face.specs.Limits.{most_columns};
+ghost use Rattle.lt_model.specs.Answers.{answers as answers_of, ascending as ascending_rows};
+ghost use Rattle.lt_model.specs.Bound.{are_bound};
+ghost use Rattle.lt_model.specs.Fits.{IsBodyOf};
+ghost use Rattle.lt_query.specs.Lists.{IsRising, below};
+ghost use Rattle.lt_query.specs.Plan.{IsPlanOf, term_at};
+ghost use Rattle.lt_query.specs.Runnable.{IsRunnable};
+ghost use Rattle.lt_sense.specs.Sense.{IsTight};
+ghost use Rattle.lt_join.specs.Certify.{Certifies};
+ghost use Rattle.lt_join.specs.Cost.{bound};
+ghost use Rattle.lt_join.specs.Sliced.{slice_keys, united, sliced_rows, AreSealed, IsSliceOf, AreRooted, AreRootGaps, AreFoundKeys};
+
+use crate::mending_shared::SharedSlices;
+use crate::parts::{Ranged, find_whole};
+use crate::slicing::{Gathered, gather_range, whole_of};
+use lt_edges::Gate;
+use lt_face::indexes::Indexes;
+use lt_face::items::Items;
+use lt_face::key::Key;
+use lt_face::memory::NoMemory;
+use lt_face::moves::Moves;
+use lt_query::{Body, Plan, TermList};
+use lt_sense::Sense;
+use std::alloc::Global;
+use std::sync::Wait;
+use std::thread::Threads;
+
+/// The way to join for slices, whose senses are put in order where that is asked for.
+#[derive(Drop)]
+pub(crate) struct Slicing {
+    sealing: bool,
+}
+
+impl Ranged for Slicing {
+    ghost use Rattle.std.specs.Prelude.{◌≡◌, true};
+    ghost use Rattle.std.specs.List.{AllByRecursion};
+    ghost use Rattle.lt_sense.specs.Ordered.{IsSealed};
+    ghost use Rattle.lt_join.specs.Parts.{IsAtMost, AreSlicesWithin};
+    ghost use Rattle.lt_join.specs.Sliced.{united};
+
+    type Found = Gathered;
+
+    ghost is_found = { λ way terms body plan state lo hi found. AreSlicesWithin terms body plan state lo hi found.root found.slices × (way.sealing ≡ true → AllByRecursion (λ slice. IsSealed slice.sense) found.slices) };
+
+    ghost is_paid = { λ found n. IsAtMost (united found.root found.slices) n };
+
+    fn find<I: Indexes, L>(
+        &self,
+        alloc: Global,
+        body: &Body,
+        plan: &Plan,
+        terms: &TermList,
+        indexes: &I,
+        lo: Key,
+        hi: Key,
+        moves: &mut Moves<L>,
+    ) -> Result<Gathered, NoMemory> {
+        let found = gather_range(
+            alloc,
+            body,
+            plan,
+            terms,
+            indexes,
+            lo,
+            hi,
+            moves,
+            self.sealing,
+        )?;
+        Ok(found)
+    }
+
+    fn unite(&self, one: Gathered, next: Gathered) -> Result<Gathered, NoMemory> {
+        let Gathered { mut root, slices } = one;
+        let mut slices = slices.into_vec();
+        let mut more = next.slices.into_vec();
+        slices.append(&mut more)?;
+        root.add_all(&next.root)?;
+        Ok(Gathered {
+            root,
+            slices: Items::from_vec(slices),
+        })
+    }
+}
+
+/// As `slices_split`, which seals, and `slices_split_unsealed`, which doesn't.
+fn split_slices<R: Threads + Wait + Sync, I: Indexes + Sync, G: Gate, L: Send>(
+    rt: &R,
+    alloc: Global,
+    body: &Body,
+    plan: &Plan,
+    terms: &TermList,
+    indexes: &I,
+    parts: u32,
+    gate: &G,
+    moves: &mut Moves<L>,
+    sealing: bool,
+) -> Result<(Sense, SharedSlices), NoMemory>
+where
+    I::Rows: Sync,
+    requires of_body { IsPlanOf body.now plan.now }
+    requires runnable { IsRunnable body.now plan.now }
+    requires fits { IsBodyOf (I.state indexes.now) body.now }
+    requires has_indexes { AllByRecursion (λ guide. I.has_index indexes.now guide.relation guide.columns ≡ true) plan.now.guides }
+    requires has_firsts { AllByRecursion (λ atom. I.has_index indexes.now atom.relation (below (length atom.terms)) ≡ true) body.now.absents }
+    requires are_bound { IsTrue (are_bound body.now terms.now) }
+    requires narrow { length terms.now ≤ most_columns }
+    requires has_levels { 0 < length plan.now.levels }
+    requires some { 0 < parts }
+    requires few { parts ≤ 16 }
+    ensures ascending { IfOk result (λ found. IsRising (slice_keys found.1)) }
+    ensures slices { IfOk result (λ found. AllByRecursion (IsSliceOf terms.now body.now (term_at plan.now.levels 0) (I.state indexes.now)) found.1) }
+    ensures found { IfOk result (λ found. AreFoundKeys plan.now (I.state indexes.now) (slice_keys found.1)) }
+    ensures rooted { IfOk result (λ found. AreRooted plan.now found.0 (slice_keys found.1)) }
+    ensures root_gaps { IfOk result (λ found. AreRootGaps found.0) }
+    ensures root_hits { IfOk result (λ found. found.0.hits ≡ []) }
+    ensures rows { IfOk result (λ found. ascending_rows (sliced_rows found.1) ≡ answers_of terms.now body.now (I.state indexes.now)) }
+    ensures certified { IfOk result (λ found. Certifies (united found.0 found.1) body.now (I.state indexes.now)) }
+    ensures tight { IfOk result (λ found. IsTight (united found.0 found.1) (I.state indexes.now)) }
+    ensures gaps { IfOk result (λ found. moves.old + length (united found.0 found.1).gaps ≤ moves.new) }
+    ensures hits { IfOk result (λ found. moves.old + length (united found.0 found.1).hits ≤ moves.new) }
+    // also where memory is refused
+    ensures cost { moves.new ≤ moves.old + parts * bound body.now plan.now (I.state indexes.now) }
+    ensures moves { moves.old ≤ moves.new }
+    ensures sealed { IfOk result (λ found. sealing ≡ true → AreSealed found.0 found.1) }
+{
+    let way = Slicing { sealing };
+    let found = find_whole::<R, L, I, Slicing, Gathered, G>(
+        rt, &way, alloc, body, plan, terms, indexes, parts, gate, moves,
+    )?;
+    let whole = whole_of(found, sealing)?;
+    Ok(whole)
+}
+
+/// As `slices_split`, with the senses in the order in which they were gathered.
+pub fn slices_split_unsealed<R: Threads + Wait + Sync, I: Indexes + Sync, G: Gate, L: Send>(
+    rt: &R,
+    alloc: Global,
+    body: &Body,
+    plan: &Plan,
+    terms: &TermList,
+    indexes: &I,
+    parts: u32,
+    gate: &G,
+    moves: &mut Moves<L>,
+) -> Result<(Sense, SharedSlices), NoMemory>
+where
+    I::Rows: Sync,
+    requires of_body { IsPlanOf body.now plan.now }
+    requires runnable { IsRunnable body.now plan.now }
+    requires fits { IsBodyOf (I.state indexes.now) body.now }
+    requires has_indexes { AllByRecursion (λ guide. I.has_index indexes.now guide.relation guide.columns ≡ true) plan.now.guides }
+    requires has_firsts { AllByRecursion (λ atom. I.has_index indexes.now atom.relation (below (length atom.terms)) ≡ true) body.now.absents }
+    requires are_bound { IsTrue (are_bound body.now terms.now) }
+    requires narrow { length terms.now ≤ most_columns }
+    requires has_levels { 0 < length plan.now.levels }
+    requires some { 0 < parts }
+    requires few { parts ≤ 16 }
+    ensures ascending { IfOk result (λ found. IsRising (slice_keys found.1)) }
+    ensures slices { IfOk result (λ found. AllByRecursion (IsSliceOf terms.now body.now (term_at plan.now.levels 0) (I.state indexes.now)) found.1) }
+    ensures found { IfOk result (λ found. AreFoundKeys plan.now (I.state indexes.now) (slice_keys found.1)) }
+    ensures rooted { IfOk result (λ found. AreRooted plan.now found.0 (slice_keys found.1)) }
+    ensures root_gaps { IfOk result (λ found. AreRootGaps found.0) }
+    ensures root_hits { IfOk result (λ found. found.0.hits ≡ []) }
+    ensures rows { IfOk result (λ found. ascending_rows (sliced_rows found.1) ≡ answers_of terms.now body.now (I.state indexes.now)) }
+    ensures certified { IfOk result (λ found. Certifies (united found.0 found.1) body.now (I.state indexes.now)) }
+    ensures tight { IfOk result (λ found. IsTight (united found.0 found.1) (I.state indexes.now)) }
+    ensures gaps { IfOk result (λ found. moves.old + length (united found.0 found.1).gaps ≤ moves.new) }
+    ensures hits { IfOk result (λ found. moves.old + length (united found.0 found.1).hits ≤ moves.new) }
+    // also where memory is refused
+    ensures cost { moves.new ≤ moves.old + parts * bound body.now plan.now (I.state indexes.now) }
+    ensures moves { moves.old ≤ moves.new }
+{
+    split_slices(
+        rt, alloc, body, plan, terms, indexes, parts, gate, moves, false,
+    )
+}
+
+/// The body's answers and what they were sensitive to, key by key of its first variable, as of `slices`, by at most so many parts:
+/// each joins for a range of these keys, in a thread of its own where there can be one, and passes the gate before that with its
+/// number, from 0, as worker and as job. Where the first level has at most one key there is one part.
+pub fn slices_split<R: Threads + Wait + Sync, I: Indexes + Sync, G: Gate, L: Send>(
+    rt: &R,
+    alloc: Global,
+    body: &Body,
+    plan: &Plan,
+    terms: &TermList,
+    indexes: &I,
+    parts: u32,
+    gate: &G,
+    moves: &mut Moves<L>,
+) -> Result<(Sense, SharedSlices), NoMemory>
+where
+    I::Rows: Sync,
+    requires of_body { IsPlanOf body.now plan.now }
+    requires runnable { IsRunnable body.now plan.now }
+    requires fits { IsBodyOf (I.state indexes.now) body.now }
+    requires has_indexes { AllByRecursion (λ guide. I.has_index indexes.now guide.relation guide.columns ≡ true) plan.now.guides }
+    requires has_firsts { AllByRecursion (λ atom. I.has_index indexes.now atom.relation (below (length atom.terms)) ≡ true) body.now.absents }
+    requires are_bound { IsTrue (are_bound body.now terms.now) }
+    requires narrow { length terms.now ≤ most_columns }
+    requires has_levels { 0 < length plan.now.levels }
+    requires some { 0 < parts }
+    requires few { parts ≤ 16 }
+    ensures ascending { IfOk result (λ found. IsRising (slice_keys found.1)) }
+    ensures slices { IfOk result (λ found. AllByRecursion (IsSliceOf terms.now body.now (term_at plan.now.levels 0) (I.state indexes.now)) found.1) }
+    ensures found { IfOk result (λ found. AreFoundKeys plan.now (I.state indexes.now) (slice_keys found.1)) }
+    ensures rooted { IfOk result (λ found. AreRooted plan.now found.0 (slice_keys found.1)) }
+    ensures root_gaps { IfOk result (λ found. AreRootGaps found.0) }
+    ensures root_hits { IfOk result (λ found. found.0.hits ≡ []) }
+    ensures rows { IfOk result (λ found. ascending_rows (sliced_rows found.1) ≡ answers_of terms.now body.now (I.state indexes.now)) }
+    ensures certified { IfOk result (λ found. Certifies (united found.0 found.1) body.now (I.state indexes.now)) }
+    ensures tight { IfOk result (λ found. IsTight (united found.0 found.1) (I.state indexes.now)) }
+    ensures gaps { IfOk result (λ found. moves.old + length (united found.0 found.1).gaps ≤ moves.new) }
+    ensures hits { IfOk result (λ found. moves.old + length (united found.0 found.1).hits ≤ moves.new) }
+    // also where memory is refused
+    ensures cost { moves.new ≤ moves.old + parts * bound body.now plan.now (I.state indexes.now) }
+    ensures moves { moves.old ≤ moves.new }
+    ensures sealed { IfOk result (λ found. AreSealed found.0 found.1) }
+{
+    split_slices(
+        rt, alloc, body, plan, terms, indexes, parts, gate, moves, true,
+    )
+}
