@@ -5,6 +5,7 @@ use Rattle.std.proofs.lemmas.Bool.{or_parts, or_cases, eqb-true, eq-eqb, true≢
 use Rattle.std.proofs.lemmas.List.{take_all}
 use Rattle.std.proofs.lemmas.Option.{slice_get_within, slice_get-get_or}
 use Rattle.lt_face.specs.State.{State}
+use Rattle.lt_model.specs.declared.normal.Body.{Body}
 use Rattle.lt_model.specs.declared.normal.Stmt.{Stmt}
 use Rattle.lt_model.specs.declared.reply.Reply.{Reply}
 use Rattle.lt_model.specs.declared.reply.Reply.TheVariants.{Done}
@@ -17,11 +18,13 @@ use Rattle.lt_base.specs.Tables.{Table, state_of}
 use Rattle.lt_program.specs.declared.going.Going.{Going}
 use Rattle.lt_program.specs.Alone.{GoesOn, IsFirst}
 use Rattle.lt_program.specs.Run.{AreReplied, reads_rows}
-use Rattle.lt_program.specs.Tally.{IsLaid, IsLaidOn, is_refused, next, run_of_first, state_before, statement_cost, cost_on, cost_of_first, ends_at}
+use Rattle.lt_program.specs.Split.{statement_cost_by, cost_on_by, cost_of_first_by}
+use Rattle.lt_program.specs.Tally.{IsLaid, IsLaidOn, is_refused, next, run_of_first, state_before, ends_at}
 use Rattle.lt_program.proofs.Bare.{reads_none}
 use Rattle.lt_program.proofs.NoAtoms.{effect_same}
 use Rattle.lt_program.proofs.RunGrows.{first_more, refused_whole}
-use Rattle.lt_program.proofs.TallyCosts.{first_end, first_goes_on, cost_within}
+use Rattle.lt_program.proofs.SplitCosts.{cost_within}
+use Rattle.lt_program.proofs.TallyCosts.{first_end, first_goes_on}
 use Rattle.lt_program.proofs.TallyGrows.{first_fits}
 
 -- ---- one more statement
@@ -82,10 +85,10 @@ module _ (program : List Stmt) (base : List Table) (n : ℕ) (going : Going) (fi
       same : (out : Reply × Marks) → going.reply ≡ out.0 → going.marks ≡ out.1 → next (n + 1) (effect stmt (laid (state_of base) out.1)) out ≡ next (n + 1) (effect stmt (laid (state_of base) going.marks)) (going.reply, going.marks)
       same (reply, marks) a b = cc
 
-  pub first_cost : (stmt : Stmt) (old new : ℕ) → slice_get program n ≡ Some stmt → new ≤ old + statement_cost stmt (laid (state_of base) going.marks) → new ≤ old + cost_on (slice_get program n) (state_before n program (state_of base))
-  first_cost stmt old new there cost =
-      let before : new ≤ old + statement_cost stmt (state_before n program (state_of base)) = subst (λ m. new ≤ old + statement_cost stmt (laid (state_of base) m)) first.marks cost in
-      subst (λ o. new ≤ old + cost_on o (state_before n program (state_of base))) (sym there) before
+  pub first_cost : (most : Body → State → ℕ) (stmt : Stmt) (old new : ℕ) → slice_get program n ≡ Some stmt → new ≤ old + statement_cost_by most stmt (laid (state_of base) going.marks) → new ≤ old + cost_on_by most (slice_get program n) (state_before n program (state_of base))
+  first_cost most stmt old new there cost =
+      let before : new ≤ old + statement_cost_by most stmt (state_before n program (state_of base)) = subst (λ m. new ≤ old + statement_cost_by most stmt (laid (state_of base) m)) first.marks cost in
+      subst (λ o. new ≤ old + cost_on_by most o (state_before n program (state_of base))) (sym there) before
 
   -- none is left, or the last of them was refused
   pub first_whole : (is_refused going.reply || n == length program) ≡ true → run_of_first n program (state_of base) ≡ run program (state_of base)
@@ -110,9 +113,9 @@ module _ (program : List Stmt) (base : List Table) (n : ℕ) (going : Going) (fi
     | inr le ↦ let e : n ≡ length program = omega (arith, first.within) in absurd (true≢false (sym (eq-eqb n (length program) e) ∙ (or_parts (is_refused going.reply) (n == length program) on).1))
   ]
 
-  pub first_begun : (is_refused going.reply || n == length program) ≡ false → (begun mid now : ℕ) → mid ≤ begun + cost_of_first n program (state_of base) → now ≤ mid + cost_on (slice_get program n) (state_before n program (state_of base))
-      → now ≤ begun + cost_of_first (ends_at program (state_of base)) program (state_of base)
-  first_begun on begun mid now before step = cost_within begun mid now n program (state_of base) (first_goes_on program (state_of base) n first.within first.went_on (ap is_refused (sym first.reply) ∙ first_goes on) (first_more_left on)) before step
+  pub first_begun : (most : Body → State → ℕ) → (is_refused going.reply || n == length program) ≡ false → (begun mid now : ℕ) → mid ≤ begun + cost_of_first_by most n program (state_of base)
+      → now ≤ mid + cost_on_by most (slice_get program n) (state_before n program (state_of base)) → now ≤ begun + cost_of_first_by most (ends_at program (state_of base)) program (state_of base)
+  first_begun most on begun mid now before step = cost_within most program (state_of base) begun mid now n (first_goes_on program (state_of base) n first.within first.went_on (ap is_refused (sym first.reply) ∙ first_goes on) (first_more_left on)) before step
 
 -- the statement at a place
 pub first_there : (program xs : List Stmt) (n : ℕ) (stmt : Stmt) → xs ≡ program → n < length program → stmt ≡ get_or xs n stmt → slice_get program n ≡ Some stmt

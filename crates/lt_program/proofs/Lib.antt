@@ -33,3 +33,4 @@ pub mod Firsts
 pub mod SenseGrows
 pub mod Alike
 pub mod ReadingMarked
+pub mod SplitCosts

@@ -27,6 +27,26 @@ use Rattle.lt_program.proofs.KeptSlices.{not_sliced, kept_whole}
 abbrev pub nothing : Sense
 nothing = record { gaps = []; hits = [] }
 
+no_bound : (body : Body) (state : State) → IsBare body → bound body (stated_plan body) state ≡ 0
+no_bound body state e = subst (λ (b : Body). bound b (stated_plan b) state ≡ 0) (sym (bare_is body e)) refl
+
+no_look_up : (head : Atom) (keys : ℕ) (rows : List Row) → (if is_plain head keys then [] else head ∷ []) ≡ [] → looked_up head keys rows ≡ []
+no_look_up head keys rows e = elim (is_plain head keys) as (λ p. cond p [] (head ∷ []) ≡ [] → cond p [] (cond (has_clash keys rows) [] rows) ≡ []) [ true ↦ λ none. refl | false ↦ λ none. absurd (cc) ] e
+
+no_keys_cost : (head : Atom) (keys : ℕ) (rows : List Row) (state : State) → (if is_plain head keys then [] else head ∷ []) ≡ [] → keys_cost head keys rows state ≡ 0
+no_keys_cost head keys rows state e = ap (sum_by (λ row. 1 + length (answers (key_terms keys row) (key_body head.relation keys row) state))) (no_look_up head keys rows e)
+
+-- it takes no moves
+pub costs_nothing : (s : State) (stmt : Stmt) → IsUnread stmt → statement_cost stmt s ≡ 0
+costs_nothing s (Insert head keys body) e = (let a = no_bound body s e.0 in let c = no_keys_cost head keys (answers head.terms body s) s e.1 in omega (arith, a, c))
+costs_nothing s (Delete head body) e = no_bound body s e.0
+costs_nothing s (Replace gone come keys body) e = (let a = no_bound body s e.0 in let c = no_keys_cost come keys (answers come.terms body s) s e.1 in omega (arith, a, c))
+costs_nothing s (Require some body) e = no_bound body s e.0
+costs_nothing s (Print terms kinds body) e = no_bound body s e.0
+
+pub cost_same : (s t : State) (stmt : Stmt) → IsUnread stmt → statement_cost stmt s ≡ statement_cost stmt t
+cost_same s t stmt e = costs_nothing s stmt e ∙ sym (costs_nothing t stmt e)
+
 module _ (s t : State) where
   answers_same : (terms : List Term) (body : Body) → IsBare body → answers terms body s ≡ answers terms body t
   answers_same terms body e = answers_alike s t terms body (bare_alike s t body e)
@@ -48,24 +68,6 @@ module _ (s t : State) where
       plain_same come keys _ _ _ _ e.1 (ap (λ rows. Both rows (answers come.terms body s)) (answers_same gone.terms body e.0) ∙ ap (Both (answers gone.terms body t)) (answers_same come.terms body e.0))
   outcome_same (Require some body) e = ap Truth (some_same body e.0)
   outcome_same (Print terms kinds body) e = ap Rows (answers_same terms body e.0)
-
-  no_bound : (body : Body) (state : State) → IsBare body → bound body (stated_plan body) state ≡ 0
-  no_bound body state e = subst (λ (b : Body). bound b (stated_plan b) state ≡ 0) (sym (bare_is body e)) refl
-
-  no_look_up : (head : Atom) (keys : ℕ) (rows : List Row) → (if is_plain head keys then [] else head ∷ []) ≡ [] → looked_up head keys rows ≡ []
-  no_look_up head keys rows e = elim (is_plain head keys) as (λ p. cond p [] (head ∷ []) ≡ [] → cond p [] (cond (has_clash keys rows) [] rows) ≡ []) [ true ↦ λ none. refl | false ↦ λ none. absurd (cc) ] e
-
-  no_keys_cost : (head : Atom) (keys : ℕ) (rows : List Row) (state : State) → (if is_plain head keys then [] else head ∷ []) ≡ [] → keys_cost head keys rows state ≡ 0
-  no_keys_cost head keys rows state e = ap (sum_by (λ row. 1 + length (answers (key_terms keys row) (key_body head.relation keys row) state))) (no_look_up head keys rows e)
-
-  pub cost_same : (stmt : Stmt) → IsUnread stmt → statement_cost stmt s ≡ statement_cost stmt t
-  cost_same (Insert head keys body) e =
-      let a = no_bound body s e.0 in let b = no_bound body t e.0 in let c = no_keys_cost head keys (answers head.terms body s) s e.1 in let d = no_keys_cost head keys (answers head.terms body t) t e.1 in omega (arith, a, b, c, d)
-  cost_same (Delete head body) e = no_bound body s e.0 ∙ sym (no_bound body t e.0)
-  cost_same (Replace gone come keys body) e =
-      let a = no_bound body s e.0 in let b = no_bound body t e.0 in let c = no_keys_cost come keys (answers come.terms body s) s e.1 in let d = no_keys_cost come keys (answers come.terms body t) t e.1 in omega (arith, a, b, c, d)
-  cost_same (Require some body) e = no_bound body s e.0 ∙ sym (no_bound body t e.0)
-  cost_same (Print terms kinds body) e = no_bound body s e.0 ∙ sym (no_bound body t e.0)
 
   certifies_same : (body : Body) → IsBare body → Certifies nothing body t
   certifies_same body e a holds = inl (subst (AllByRecursion (IsMet nothing t a)) (sym e.0) tt, subst (AllByRecursion (IsMissed nothing t a)) (sym e.1) tt)

@@ -7,3 +7,4 @@ pub mod Sound
 pub mod Alone
 pub mod Kept
 pub mod Displacing
+pub mod Split

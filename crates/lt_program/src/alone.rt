@@ -10,15 +10,15 @@ ghost use Rattle.lt_base.specs.Tables.{state_of};
 ghost use Rattle.lt_query.specs.Needs.{body_of as body_in};
 ghost use Rattle.lt_query.specs.Planned.{route_of};
 ghost use Rattle.lt_query.specs.Runnable.{AreWide};
-ghost use Rattle.lt_query.specs.Stated.{stated_plan};
-ghost use Rattle.lt_join.specs.Cost.{bound};
 ghost use Rattle.lt_program.specs.Effect.{view};
 ghost use Rattle.lt_program.specs.Planned.{IsPlanned, ArePicked};
-ghost use Rattle.lt_program.specs.Tally.{HasIndexesOf, keyed_on, keys_cost, outcome_on, statement_cost};
+ghost use Rattle.lt_program.specs.Split.{statement_cost_by, whole_cost};
+ghost use Rattle.lt_program.specs.Tally.{HasIndexesOf, keyed_on, keys_cost, outcome_on};
 
 use crate::effect::Effect;
 use crate::evaluation::{keyed, planned};
 use crate::heads::{split_answers, terms_of_both};
+use crate::joining::Joiner;
 use crate::kept::effect_by;
 use crate::part::{Found, Part};
 use crate::slicing::{have_room, is_plain};
@@ -26,32 +26,11 @@ use lt_base::Database;
 use lt_face::items::{Items, RowList};
 use lt_face::memory::NoMemory;
 use lt_face::moves::Moves;
-use lt_join::{answers_alone, some_alone};
+use lt_join::some_alone;
 use lt_model::normal::{Atom, Body, Stmt, TermList};
 use lt_query::{Plan, Route, body_of};
 use lt_sense::Sense;
 use std::alloc::Global;
-
-/// The terms' answers on the database.
-fn rows_alone<L>(
-    alloc: Global,
-    tables: &Database,
-    body: &Body,
-    plan: &Plan,
-    terms: &TermList,
-    moves: &mut Moves<L>,
-) -> Result<RowList, NoMemory>
-    requires plan { IsPlanned body.now plan.now }
-    requires indexes { HasIndexesOf tables.now body.now }
-    requires fits { IsBodyOf (state_of tables.now) body.now }
-    requires terms { ArePicked body.now terms.now }
-    ensures rows { IfOk result (λ rows. rows ≡ answers_of terms.now body.now (state_of tables.now)) }
-    ensures cost { moves.new ≤ moves.old + bound body.now (stated_plan body.now) (state_of tables.now) }
-    ensures moves { moves.old ≤ moves.new }
-{
-    let rows = answers_alone(alloc, body, plan, terms, tables, moves)?;
-    Ok(rows)
-}
 
 /// Whether the body's conditions can be met on the database.
 fn truth_alone<L>(
@@ -65,7 +44,7 @@ fn truth_alone<L>(
     requires indexes { HasIndexesOf tables.now body.now }
     requires fits { IsBodyOf (state_of tables.now) body.now }
     ensures truth { IfOk result (λ truth. truth ≡ some_answer body.now (state_of tables.now)) }
-    ensures cost { moves.new ≤ moves.old + bound body.now (stated_plan body.now) (state_of tables.now) }
+    ensures cost { moves.new ≤ moves.old + whole_cost body.now (state_of tables.now) }
     ensures moves { moves.old ≤ moves.new }
 {
     let truth = some_alone(alloc, body, plan, tables, moves)?;
@@ -73,7 +52,8 @@ fn truth_alone<L>(
 }
 
 /// The answers of two heads: by one join for the terms of both, where their cells have room in one row.
-fn both_alone<L>(
+fn both_alone<J: Joiner<L>, L>(
+    by: &J,
     alloc: Global,
     tables: &Database,
     body: &Body,
@@ -82,6 +62,7 @@ fn both_alone<L>(
     come: &TermList,
     moves: &mut Moves<L>,
 ) -> Result<(RowList, RowList), NoMemory>
+    requires ready { J.is_ready by.now }
     requires plan { IsPlanned body.now plan.now }
     requires indexes { HasIndexesOf tables.now body.now }
     requires fits { IsBodyOf (state_of tables.now) body.now }
@@ -89,17 +70,17 @@ fn both_alone<L>(
     requires come { ArePicked body.now come.now }
     ensures gone { IfOk result (λ both. both.0 ≡ answers_of gone.now body.now (state_of tables.now)) }
     ensures come { IfOk result (λ both. both.1 ≡ answers_of come.now body.now (state_of tables.now)) }
-    ensures cost { moves.new ≤ moves.old + (bound body.now (stated_plan body.now) (state_of tables.now) + bound body.now (stated_plan body.now) (state_of tables.now)) }
+    ensures cost { moves.new ≤ moves.old + (J.most by.now body.now (state_of tables.now) + J.most by.now body.now (state_of tables.now)) }
     ensures moves { moves.old ≤ moves.new }
 {
     if have_room(gone, come) {
         let terms = terms_of_both(gone, come)?;
-        let rows = rows_alone(alloc, tables, body, plan, &terms, moves)?;
+        let rows = by.rows(alloc, tables, body, plan, &terms, moves)?;
         let both = split_answers(alloc, &rows, gone.len())?;
         return Ok(both);
     }
-    let first = rows_alone(alloc, tables, body, plan, gone, moves)?;
-    let second = rows_alone(alloc, tables, body, plan, come, moves)?;
+    let first = by.rows(alloc, tables, body, plan, gone, moves)?;
+    let second = by.rows(alloc, tables, body, plan, come, moves)?;
     Ok((first, second))
 }
 
@@ -141,7 +122,8 @@ fn keyed_alone<L>(
 }
 
 /// The outcome of an `insert`.
-fn inserted_alone<L>(
+fn inserted_alone<J: Joiner<L>, L>(
+    by: &J,
     alloc: Global,
     tables: &Database,
     head: &Atom,
@@ -150,6 +132,7 @@ fn inserted_alone<L>(
     plan: &Plan,
     moves: &mut Moves<L>,
 ) -> Result<Found, NoMemory>
+    requires ready { J.is_ready by.now }
     requires plan { IsPlanned body.now plan.now }
     requires wide { AreWide (state_of tables.now) }
     requires indexes { HasIndexesOf tables.now body.now }
@@ -157,11 +140,11 @@ fn inserted_alone<L>(
     requires head { IsHeadOf (state_of tables.now) body.now head.now }
     requires keys { AreKeysOf head.now keys }
     ensures outcome { IfOk result (λ outcome. outcome ≡ outcome_on (Stmt.Insert head.now keys body.now) (state_of tables.now)) }
-    ensures cost { moves.new ≤ moves.old + statement_cost (Stmt.Insert head.now keys body.now) (state_of tables.now) }
+    ensures cost { moves.new ≤ moves.old + statement_cost_by (J.most by.now) (Stmt.Insert head.now keys body.now) (state_of tables.now) }
     ensures moves { moves.old ≤ moves.new }
 {
     tables.look_over();
-    let come = rows_alone(alloc, tables, body, plan, &head.terms, moves)?;
+    let come = by.rows(alloc, tables, body, plan, &head.terms, moves)?;
     if is_plain(head, keys) {
         return Ok(Found::Rows(come));
     }
@@ -170,7 +153,8 @@ fn inserted_alone<L>(
 }
 
 /// The outcome of a `replace`.
-fn replaced_alone<L>(
+fn replaced_alone<J: Joiner<L>, L>(
+    by: &J,
     alloc: Global,
     tables: &Database,
     gone: &Atom,
@@ -180,6 +164,7 @@ fn replaced_alone<L>(
     plan: &Plan,
     moves: &mut Moves<L>,
 ) -> Result<Found, NoMemory>
+    requires ready { J.is_ready by.now }
     requires plan { IsPlanned body.now plan.now }
     requires wide { AreWide (state_of tables.now) }
     requires indexes { HasIndexesOf tables.now body.now }
@@ -188,11 +173,20 @@ fn replaced_alone<L>(
     requires come { IsHeadOf (state_of tables.now) body.now come.now }
     requires keys { AreKeysOf come.now keys }
     ensures outcome { IfOk result (λ outcome. outcome ≡ outcome_on (Stmt.Replace gone.now come.now keys body.now) (state_of tables.now)) }
-    ensures cost { moves.new ≤ moves.old + statement_cost (Stmt.Replace gone.now come.now keys body.now) (state_of tables.now) }
+    ensures cost { moves.new ≤ moves.old + statement_cost_by (J.most by.now) (Stmt.Replace gone.now come.now keys body.now) (state_of tables.now) }
     ensures moves { moves.old ≤ moves.new }
 {
     tables.look_over();
-    let both = both_alone(alloc, tables, body, plan, &gone.terms, &come.terms, moves)?;
+    let both = both_alone(
+        by,
+        alloc,
+        tables,
+        body,
+        plan,
+        &gone.terms,
+        &come.terms,
+        moves,
+    )?;
     let (first, second) = both;
     if is_plain(come, keys) {
         return Ok(Found::Both(first, second));
@@ -202,28 +196,30 @@ fn replaced_alone<L>(
 }
 
 /// What the evaluation of a statement on the database gives.
-fn outcome_alone<L>(
+fn outcome_alone<J: Joiner<L>, L>(
+    by: &J,
     alloc: Global,
     tables: &Database,
     stmt: &Stmt,
     plan: &Plan,
     moves: &mut Moves<L>,
 ) -> Result<Found, NoMemory>
+    requires ready { J.is_ready by.now }
     requires plan { IsPlanned (body_in stmt.now) plan.now }
     requires wide { AreWide (state_of tables.now) }
     requires indexes { HasIndexesOf tables.now (body_in stmt.now) }
     requires fits { FitsStatement (state_of tables.now) stmt.now }
     ensures outcome { IfOk result (λ outcome. outcome ≡ outcome_on stmt.now (state_of tables.now)) }
-    ensures cost { moves.new ≤ moves.old + statement_cost stmt.now (state_of tables.now) }
+    ensures cost { moves.new ≤ moves.old + statement_cost_by (J.most by.now) stmt.now (state_of tables.now) }
     ensures moves { moves.old ≤ moves.new }
 {
     match stmt {
         Stmt::Insert { head, keys, body } => {
-            let outcome = inserted_alone(alloc, tables, head, *keys, body, plan, moves)?;
+            let outcome = inserted_alone(by, alloc, tables, head, *keys, body, plan, moves)?;
             Ok(outcome)
         }
         Stmt::Delete { head, body } => {
-            let rows = rows_alone(alloc, tables, body, plan, &head.terms, moves)?;
+            let rows = by.rows(alloc, tables, body, plan, &head.terms, moves)?;
             Ok(Found::Rows(rows))
         }
         Stmt::Replace {
@@ -232,7 +228,7 @@ fn outcome_alone<L>(
             keys,
             body,
         } => {
-            let outcome = replaced_alone(alloc, tables, gone, come, *keys, body, plan, moves)?;
+            let outcome = replaced_alone(by, alloc, tables, gone, come, *keys, body, plan, moves)?;
             Ok(outcome)
         }
         Stmt::Require { some: _, body } => {
@@ -244,30 +240,32 @@ fn outcome_alone<L>(
             kinds: _,
             body,
         } => {
-            let rows = rows_alone(alloc, tables, body, plan, terms, moves)?;
+            let rows = by.rows(alloc, tables, body, plan, terms, moves)?;
             Ok(Found::Rows(rows))
         }
     }
 }
 
 /// What the statement does on the database.
-pub(crate) fn effect_alone<L>(
+pub(crate) fn effect_alone<J: Joiner<L>, L>(
+    by: &J,
     alloc: Global,
     tables: &Database,
     stmt: &Stmt,
     route: &Route,
     moves: &mut Moves<L>,
 ) -> Result<Effect, NoMemory>
+    requires ready { J.is_ready by.now }
     requires route { route.now ≡ route_of (body_in stmt.now) }
     requires wide { AreWide (state_of tables.now) }
     requires indexes { HasIndexesOf tables.now (body_in stmt.now) }
     requires fits { FitsStatement (state_of tables.now) stmt.now }
     ensures effect { IfOk result (λ e. view e ≡ effect_of stmt.now (state_of tables.now)) }
-    ensures cost { moves.new ≤ moves.old + statement_cost stmt.now (state_of tables.now) }
+    ensures cost { moves.new ≤ moves.old + statement_cost_by (J.most by.now) stmt.now (state_of tables.now) }
     ensures moves { moves.old ≤ moves.new }
 {
     let plan = planned(route, body_of(stmt))?;
-    let outcome = outcome_alone(alloc, tables, stmt, &plan, moves)?;
+    let outcome = outcome_alone(by, alloc, tables, stmt, &plan, moves)?;
     let effect = effect_by(alloc, stmt, &outcome)?;
     Ok(effect)
 }

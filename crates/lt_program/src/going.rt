@@ -12,11 +12,13 @@ ghost use Rattle.lt_query.specs.Runnable.{AreWide};
 ghost use Rattle.lt_program.specs.Alone.{GoesOn, IsFirst};
 ghost use Rattle.lt_program.specs.Effect.{view};
 ghost use Rattle.lt_program.specs.Run.{AreReplied, reads_rows};
-ghost use Rattle.lt_program.specs.Tally.{HasIndexes, HasIndexesOf, IsLaid, IsLaidOn, cost_of_first, cost_on, ends_at, is_refused, next, state_before, statement_cost, with_print};
+ghost use Rattle.lt_program.specs.Split.{cost_of_first_by, cost_on_by, statement_cost_by};
+ghost use Rattle.lt_program.specs.Tally.{HasIndexes, HasIndexesOf, IsLaid, IsLaidOn, cost_of_first, ends_at, is_refused, next, state_before, with_print};
 
 use crate::alone::effect_alone;
 use crate::course::{Laid, all_laid, followed_by, print};
 use crate::effect::Effect;
+use crate::joining::{Joiner, Whole};
 use crate::reading::reads_some;
 use crate::tally::is_refusal;
 use lt_base::Database;
@@ -148,18 +150,19 @@ impl Going {
         requires fits { FitsStatement (state_of base.now) stmt.now }
         requires laid { IsLaid base.now self.old.marks self.old.laid }
         ensures ok { OnOk result (GoesOn number stmt.now (state_of base.now) self.old self.new) }
-        ensures cost { moves.new ≤ moves.old + statement_cost stmt.now (laid (state_of base.now) self.old.marks) }
+        ensures cost { moves.new ≤ moves.old }
         ensures moves { moves.old ≤ moves.new }
         ensures laid { OnOk result (IsLaid base.now self.new.marks self.new.laid) }
     {
-        let effect = effect_alone(alloc, base, stmt, route, moves)?;
+        let effect = effect_alone(&Whole, alloc, base, stmt, route, moves)?;
         self.accept(alloc, number, effect)?;
         Ok(())
     }
 
     /// One more statement, on the database with the marks so far laid on it.
-    fn evaluate_laid<L>(
+    fn evaluate_laid<J: Joiner<L>, L>(
         &mut self,
+        by: &J,
         alloc: Global,
         base: &Database,
         number: u32,
@@ -167,6 +170,7 @@ impl Going {
         route: &Route,
         moves: &mut Moves<L>,
     ) -> Result<(), NoMemory>
+        requires ready { J.is_ready by.now }
         requires route { route.now ≡ route_of (body_in stmt.now) }
         requires going { is_refused self.old.reply ≡ false }
         requires wide { AreWide (state_of base.now) }
@@ -175,12 +179,12 @@ impl Going {
         requires marks { FitMarks (state_of base.now) self.old.marks }
         requires laid { IsLaid base.now self.old.marks self.old.laid }
         ensures ok { OnOk result (GoesOn number stmt.now (state_of base.now) self.old self.new) }
-        ensures cost { moves.new ≤ moves.old + statement_cost stmt.now (laid (state_of base.now) self.old.marks) }
+        ensures cost { moves.new ≤ moves.old + statement_cost_by (J.most by.now) stmt.now (laid (state_of base.now) self.old.marks) }
         ensures moves { moves.old ≤ moves.new }
         ensures laid { OnOk result (IsLaid base.now self.new.marks self.new.laid) }
     {
         let tables = self.take_laid(base)?;
-        let effect = effect_alone(alloc, &tables, stmt, route, moves)?;
+        let effect = effect_alone(by, alloc, &tables, stmt, route, moves)?;
         self.laid = Some(Laid {
             tables,
             later: None,
@@ -190,8 +194,9 @@ impl Going {
     }
 
     /// One more statement.
-    fn evaluate<L>(
+    fn evaluate<J: Joiner<L>, L>(
         &mut self,
+        by: &J,
         alloc: Global,
         base: &Database,
         number: u32,
@@ -199,6 +204,7 @@ impl Going {
         route: &Route,
         moves: &mut Moves<L>,
     ) -> Result<(), NoMemory>
+        requires ready { J.is_ready by.now }
         requires route { route.now ≡ route_of (body_in stmt.now) }
         requires going { is_refused self.old.reply ≡ false }
         requires wide { AreWide (state_of base.now) }
@@ -207,12 +213,12 @@ impl Going {
         requires marks { FitMarks (state_of base.now) self.old.marks }
         requires laid { IsLaid base.now self.old.marks self.old.laid }
         ensures ok { OnOk result (GoesOn number stmt.now (state_of base.now) self.old self.new) }
-        ensures cost { moves.new ≤ moves.old + statement_cost stmt.now (laid (state_of base.now) self.old.marks) }
+        ensures cost { moves.new ≤ moves.old + statement_cost_by (J.most by.now) stmt.now (laid (state_of base.now) self.old.marks) }
         ensures moves { moves.old ≤ moves.new }
         ensures laid { OnOk result (IsLaid base.now self.new.marks self.new.laid) }
     {
         if reads_some(stmt) {
-            self.evaluate_laid(alloc, base, number, stmt, route, moves)?;
+            self.evaluate_laid(by, alloc, base, number, stmt, route, moves)?;
         } else {
             self.evaluate_bare(alloc, base, number, stmt, route, moves)?;
         }
@@ -220,13 +226,15 @@ impl Going {
     }
 
     /// One more of the program's statements.
-    fn go_on<L>(
+    fn go_on<J: Joiner<L>, L>(
         &mut self,
+        by: &J,
         prog: &Arc<Planned>,
         base: &Database,
         number: usize,
         moves: &mut Moves<L>,
     ) -> Result<(), NoMemory>
+        requires ready { J.is_ready by.now }
         requires first { IsFirst (arc_value prog.now) base.now number self.old }
         requires more { number < length (arc_value prog.now) }
         requires going { is_refused self.old.reply ≡ false }
@@ -235,13 +243,13 @@ impl Going {
         requires state { IsState (state_of base.now) }
         requires wide { AreWide (state_of base.now) }
         ensures first { OnOk result (IsFirst (arc_value prog.now) base.now (number + 1) self.new) }
-        ensures cost { moves.new ≤ moves.old + cost_on (slice_get (arc_value prog.now) number) (state_before number (arc_value prog.now) (state_of base.now)) }
+        ensures cost { moves.new ≤ moves.old + cost_on_by (J.most by.now) (slice_get (arc_value prog.now) number) (state_before number (arc_value prog.now) (state_of base.now)) }
         ensures moves { moves.old ≤ moves.new }
     {
         let stmt: &Stmt = &prog.statements()[number];
         let route: &Route = &prog.routes()[number];
         let alloc = prog.allocator();
-        self.evaluate(alloc, base, number as u32 + 1, stmt, route, moves)?;
+        self.evaluate(by, alloc, base, number as u32 + 1, stmt, route, moves)?;
         Ok(())
     }
 }
@@ -263,12 +271,32 @@ pub fn run_alone<L>(
     ensures moves { moves.new ≤ moves.old + cost_of_first (ends_at (arc_value prog.now) (state_of base.now)) (arc_value prog.now) (state_of base.now) }
     ensures rises { moves.old ≤ moves.new }
 {
+    run_by(&Whole, prog, base, moves)
+}
+
+/// As `run_alone`, with its joins done in this way.
+pub(crate) fn run_by<J: Joiner<L>, L>(
+    by: &J,
+    prog: &Arc<Planned>,
+    base: &Database,
+    moves: &mut Moves<L>,
+) -> Result<Ran, NoMemory>
+    requires ready { J.is_ready by.now }
+    requires fits { Fits (state_of base.now) (arc_value prog.now) }
+    requires indexes { HasIndexes base.now (arc_value prog.now) }
+    ensures reply { IfOk result (λ ran. ran.reply ≡ (run_of (arc_value prog.now) (state_of base.now)).0) }
+    ensures marks { IfOk result (λ ran. ran.marks ≡ (run_of (arc_value prog.now) (state_of base.now)).1) }
+    ensures fits { IfOk result (λ ran. FitMarks (state_of base.now) ran.marks) }
+    ensures printed { IfOk result (λ ran. AreReplied ran.reply) }
+    ensures moves { moves.new ≤ moves.old + cost_of_first_by (J.most by.now) (ends_at (arc_value prog.now) (state_of base.now)) (arc_value prog.now) (state_of base.now) }
+    ensures rises { moves.old ≤ moves.new }
+{
     base.look_over();
     let count = prog.statements().len();
     let mut going = Going::new(prog.allocator())?;
     let mut number = 0;
     'steps: while !is_over(&going, number, count) {
-        going.go_on(prog, base, number, moves)?;
+        going.go_on(by, prog, base, number, moves)?;
         number += 1;
     }
     let Going {

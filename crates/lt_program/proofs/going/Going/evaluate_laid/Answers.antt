@@ -4,9 +4,10 @@ use Rattle.lt_query.specs.Needs.{body_of}
 use Rattle.lt_program.specs.declared.going.Going.{Going}
 use Rattle.lt_program.specs.Effect.{view}
 use Rattle.lt_program.specs.Tally.{IsLaidUpTo}
-use Rattle.lt_program.proofs.CourseSteps.{wide_on, fits_on, indexes_on, cost_on}
+use Rattle.lt_program.proofs.CourseSteps.{wide_on, fits_on, indexes_on}
 use Rattle.lt_program.proofs.Firsts.{goes_taken}
 use Rattle.lt_program.proofs.LaterMarks.{laid_begun}
+use Rattle.lt_program.proofs.SplitCosts.{cost_laid}
 use Rattle.lt_program.proofs.going.Going.evaluate_laid.Goals as goal
 
 pub effect_alone-requires-clause-wide : goal.effect_alone-requires-clause-wide
@@ -24,7 +25,7 @@ returns-clause-ok g c =
     c.in_ok-tables.ensures.laid (ap (λ (x : Going). x.reply) c.in_ok-tables.ensures.rest) (ap (λ (x : Going). x.marks) c.in_ok-tables.ensures.rest) c.in_ok-effect.ensures.effect c.in_ok-accept.ensures.reply c.in_ok-accept.ensures.marks
 
 pub returns-clause-cost : goal.returns-clause-cost
-returns-clause-cost g c = cost_on c.args.base.now c.args.self.now.marks c.in_ok-tables.tables c.in_ok-tables.ensures.laid c.args.stmt.now c.args.moves.now c.effect_alone.new.moves c.effect_alone.ensures.cost
+returns-clause-cost g c = cost_laid (g.J.Joiner.most c.args.by.now) c.args.base.now c.args.self.now.marks c.in_ok-tables.tables c.args.stmt.now c.args.moves.now c.effect_alone.new.moves c.in_ok-tables.ensures.laid c.effect_alone.ensures.cost
 
 pub returns-clause-laid : goal.returns-clause-laid
 returns-clause-laid g c =

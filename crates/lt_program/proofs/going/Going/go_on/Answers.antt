@@ -35,9 +35,9 @@ returns-clause-first g c =
 pub returns-clause-cost : goal.returns-clause-cost
 returns-clause-cost g c =
     let there = first_there (arc_value c.args.prog.now) c.statements.result.now c.args.number c.index-statements-number.result (c.statements.ensures ∙ c.deref.ensures) c.requires.more c.index-statements-number.is in
-    first_cost (arc_value c.args.prog.now) c.args.base.now c.args.number c.args.self.now c.requires.first c.index-statements-number.result c.args.moves.now c.evaluate.new.moves there c.evaluate.ensures.cost
+    first_cost (arc_value c.args.prog.now) c.args.base.now c.args.number c.args.self.now c.requires.first (g.J.Joiner.most c.args.by.now) c.index-statements-number.result c.args.moves.now c.evaluate.new.moves there c.evaluate.ensures.cost
 
 pub returns-in_err-evaluate-clause-cost : goal.returns-in_err-evaluate-clause-cost
 returns-in_err-evaluate-clause-cost g c =
     let there = first_there (arc_value c.args.prog.now) c.statements.result.now c.args.number c.index-statements-number.result (c.statements.ensures ∙ c.deref.ensures) c.requires.more c.index-statements-number.is in
-    first_cost (arc_value c.args.prog.now) c.args.base.now c.args.number c.args.self.now c.requires.first c.index-statements-number.result c.args.moves.now c.evaluate.new.moves there c.evaluate.ensures.cost
+    first_cost (arc_value c.args.prog.now) c.args.base.now c.args.number c.args.self.now c.requires.first (g.J.Joiner.most c.args.by.now) c.index-statements-number.result c.args.moves.now c.evaluate.new.moves there c.evaluate.ensures.cost

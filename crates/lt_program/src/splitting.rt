@@ -1,0 +1,86 @@
+//! The run of a program whose long joins are worked on by parts, each in a thread of its own.
+ghost use Rattle.std.specs.Prelude.{◌≡◌, ◌≤◌, ◌+◌, IfOk};
+ghost use Rattle.std.specs.Arc.{arc_value};
+ghost use Rattle.lt_face.specs.Limits.{most_workers};
+ghost use Rattle.lt_model.specs.Fits.{Fits, FitMarks};
+ghost use Rattle.lt_model.specs.Run.{run as run_of};
+ghost use Rattle.lt_base.specs.Tables.{state_of};
+ghost use Rattle.lt_program.specs.Run.{AreReplied};
+ghost use Rattle.lt_program.specs.Split.{cost_of_first_by, split_cost};
+ghost use Rattle.lt_program.specs.Tally.{HasIndexes, ends_at};
+
+use crate::going::{Ran, run_by};
+use crate::joining::Joiner;
+use crate::worth::is_worth;
+use lt_base::Database;
+use lt_edges::OpenGate;
+use lt_face::items::RowList;
+use lt_face::memory::NoMemory;
+use lt_face::moves::Moves;
+use lt_join::{answers_alone, answers_split_alone};
+use lt_model::normal::{Body, TermList};
+use lt_query::{Plan, Planned};
+use std::alloc::Global;
+use std::sync::{Arc, Wait};
+use std::thread::Threads;
+
+/// Each long join is worked on by so many parts, each in a thread of its own where there can be one. Whether it is long is judged by
+/// the database that the run begins on.
+#[derive(Drop)]
+pub(crate) struct ByParts<'a, R: Threads + Wait + Sync> {
+    rt: &'a R,
+    base: &'a Database,
+    parts: u32,
+}
+
+impl<'a, R: Threads + Wait + Sync, L: Send> Joiner<L> for ByParts<'a, R> {
+    ghost use Rattle.std.specs.Thread.{IsSend, IsSync};
+    ghost use Rattle.lt_face.specs.Limits.{most_workers};
+    ghost use Rattle.lt_program.specs.Split.{split_cost};
+
+    ghost is_ready = { λ by. IsSync R.row × IsSend L.row × (1 ≤ by.parts) × (by.parts ≤ most_workers) };
+
+    ghost most = { λ by body state. split_cost by.parts body state };
+
+    fn rows(
+        &self,
+        alloc: Global,
+        tables: &Database,
+        body: &Body,
+        plan: &Plan,
+        terms: &TermList,
+        moves: &mut Moves<L>,
+    ) -> Result<RowList, NoMemory> {
+        if is_worth(self.base, body, plan.guides.as_slice()) {
+            let rows = answers_split_alone(
+                self.rt, alloc, body, plan, terms, tables, self.parts, &OpenGate, moves,
+            )?;
+            return Ok(rows);
+        }
+        let rows = answers_alone(alloc, body, plan, terms, tables, moves)?;
+        Ok(rows)
+    }
+}
+
+/// As `run_alone`, with each long join worked on by so many parts, each in a thread of its own. `moves` rises by at most so many
+/// times what the joins of the statements up to the program's end may take.
+pub fn run_split_alone<R: Threads + Wait + Sync, L: Send>(
+    rt: &R,
+    prog: &Arc<Planned>,
+    base: &Database,
+    parts: u32,
+    moves: &mut Moves<L>,
+) -> Result<Ran, NoMemory>
+    requires fits { Fits (state_of base.now) (arc_value prog.now) }
+    requires indexes { HasIndexes base.now (arc_value prog.now) }
+    requires parts { (1 ≤ parts) × (parts ≤ most_workers) }
+    ensures reply { IfOk result (λ ran. ran.reply ≡ (run_of (arc_value prog.now) (state_of base.now)).0) }
+    ensures marks { IfOk result (λ ran. ran.marks ≡ (run_of (arc_value prog.now) (state_of base.now)).1) }
+    ensures fits { IfOk result (λ ran. FitMarks (state_of base.now) ran.marks) }
+    ensures printed { IfOk result (λ ran. AreReplied ran.reply) }
+    ensures moves { moves.new ≤ moves.old + cost_of_first_by (split_cost parts) (ends_at (arc_value prog.now) (state_of base.now)) (arc_value prog.now) (state_of base.now) }
+    ensures rises { moves.old ≤ moves.new }
+{
+    let by = ByParts { rt, base, parts };
+    run_by(&by, prog, base, moves)
+}
