@@ -10,6 +10,7 @@ pub mod LineOpened
 pub mod Indexed
 pub mod Leaves
 pub mod Runs
+pub mod EarlyRuns
 mod JobsInside
 mod InHand
 mod Following

@@ -11,7 +11,7 @@ use Rattle.lt_base.specs.Tables.{state_of}
 use Rattle.lt_batch.specs.declared.leaf.LeafTally.{LeafTally}
 use Rattle.lt_batch.specs.declared.spans.Span.{Span}
 use Rattle.lt_batch.specs.Batch.{program_at}
-use Rattle.lt_batch.specs.LeafRun.{effect_of, reply_of, IsRunIfKept, StandsFor}
+use Rattle.lt_batch.specs.LeafRun.{effect_of, reply_of, IsOfRun, StandsFor}
 use Rattle.lt_batch.specs.Line.{batch_at}
 use Rattle.lt_batch.specs.LineWork.{FitsLine, IsLineLeaf, LineWorkView, StandsInLine, batch_in, line_leaf_bound}
 use Rattle.lt_batch.specs.Priors.{leaf_bound, run_bound, kept_in}
@@ -28,7 +28,7 @@ place_in leaf is same = is ∙ ap (λ ss. (get_or ss (leaf / 256) no_span).start
 -- what the program's tally stands for
 abbrev pub StandsAs : State → List Stmt → LeafTally → Marks → Type 0
 StandsAs snapshot program tally on =
-    IsRunIfKept program snapshot (marks_for program on) tally
+    IsOfRun program snapshot (marks_for program on) tally
     × (reply_of tally ≡ (run program (laid snapshot on)).0)
     × (effect_of tally ≡ (run program (laid snapshot on)).1)
 

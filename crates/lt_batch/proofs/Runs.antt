@@ -22,7 +22,8 @@ use Rattle.lt_batch.specs.declared.leaf.KeptTally.{KeptTally}
 use Rattle.lt_batch.specs.declared.leaf.LeafTally.{LeafTally}
 use Rattle.lt_batch.specs.declared.leaf.LeafTally.TheVariants.{Kept, Bare}
 use Rattle.lt_batch.specs.Batch.{program_at}
-use Rattle.lt_batch.specs.LeafRun.{IsTallyOn, IsRunOn, StandsFor}
+use Rattle.lt_batch.specs.Early.{AreEarly, IsSomeRun, early_at}
+use Rattle.lt_batch.specs.LeafRun.{IsTallyOn, IsRunOn, IsBareOn, StandsFor}
 use Rattle.lt_batch.specs.Priors.{IsPriorOf, IsRestated, IsRestatedFrom, kept_in, run_bound, leaf_bound}
 use Rattle.lt_batch.specs.Work.{BatchView, FitsBatch, marks_for, base_on, batch_does}
 
@@ -129,16 +130,39 @@ stands_is work i program snapshot laid_on on tally is snapshot_is on_is runs h =
     here = (subst (λ (c : Marks). IsRunOn program snapshot c tally) on_is h, h.run.reply ∙ ap (λ (out : Reply × Marks). out.0) runs, h.effect ∙ (h.run.marks ∙ ap (λ (out : Reply × Marks). out.1) runs))
 
 -- so does what is kept without the run
-pub stands_bare : (work : BatchView) (i : ℕ) (program : List Stmt) (snapshot : State) (laid_on on : Marks) (tally : BareTally) → program_at work.programs i ≡ program → state_of work.snapshot ≡ snapshot
-    → run program (laid snapshot laid_on) ≡ run program (laid snapshot on) → tally.reply ≡ (run program (laid snapshot laid_on)).0 → tally.effect ≡ (run program (laid snapshot laid_on)).1 → StandsFor work (Bare tally) i on
-stands_bare work i program snapshot laid_on on tally is snapshot_is runs reply effect =
-    (let all = subst (λ (p : List Stmt). Answers p (state_of work.snapshot)) (sym is) (subst (Answers program) (sym snapshot_is) here) in record { ran = tt; reply = all.0; marks = all.1 })
+pub stands_bare : (work : BatchView) (i : ℕ) (program : List Stmt) (snapshot : State) (laid_on on : Marks) (tally : BareTally) → program_at work.programs i ≡ program → state_of work.snapshot ≡ snapshot → laid_on ≡ marks_for program on
+    → run program (laid snapshot laid_on) ≡ run program (laid snapshot on) → IsBareOn program snapshot laid_on tally → StandsFor work (Bare tally) i on
+stands_bare work i program snapshot laid_on on tally is snapshot_is on_is runs h =
+    (let all = subst (λ (p : List Stmt). Stands p (state_of work.snapshot)) (sym is) (subst (Stands program) (sym snapshot_is) here) in record { ran = all.0; reply = all.1; marks = all.2 })
   where
-    Answers : List Stmt → State → Type 0
-    Answers p s = (tally.reply ≡ (run p (laid s on)).0) × (tally.effect ≡ (run p (laid s on)).1)
+    Stands : List Stmt → State → Type 0
+    Stands p s = IsBareOn p s (marks_for p on) tally × (tally.reply ≡ (run p (laid s on)).0) × (tally.effect ≡ (run p (laid s on)).1)
 
-    here : Answers program snapshot
-    here = (reply ∙ ap (λ (out : Reply × Marks). out.0) runs, effect ∙ ap (λ (out : Reply × Marks). out.1) runs)
+    here : Stands program snapshot
+    here = (subst (λ (c : Marks). IsBareOn program snapshot c tally) on_is h, h.reply ∙ ap (λ (out : Reply × Marks). out.0) runs, h.effect ∙ ap (λ (out : Reply × Marks). out.1) runs)
+
+-- what a prior tally stands for is a run of the program
+pub some_run_for : (o : Option (Bor LeafTally)) (work : BatchView) (i : ℕ) (program : List Stmt) (snapshot : State) → program_at work.programs i ≡ program → state_of work.snapshot ≡ snapshot
+    → IfSome o (λ (old : Bor LeafTally). (c : Marks) × FitsBatch work c × StandsFor work old.now i c) → IfSome o (λ (old : Bor LeafTally). IsSomeRun program snapshot old.now)
+some_run_for None work i program snapshot is on h = tt
+some_run_for (Some old) work i program snapshot is on h =
+    subst (λ (s : State). IsSomeRun program s old.now) on
+    (subst (λ (p : List Stmt). IsSomeRun p (state_of work.snapshot) old.now) is (marks_for (program_at work.programs i) h.0, h.2.ran))
+
+-- an early run of the program at the place, as it was read
+pub early_run_for : (early : List (Option BareTally)) (o : Option (Bor BareTally)) (programs : List (List Stmt)) (i : ℕ) (program : List Stmt) (snapshot : State) → option_map (λ (b : Bor BareTally). b.now) o ≡ early_at early i → program_at programs i ≡ program
+    → AreEarly snapshot programs early → IfSome o (λ (b : Bor BareTally). IsBareOn program snapshot [] b.now)
+early_run_for early o programs i program snapshot there is are =
+    read o (subst (λ (e : Option BareTally). IfSome e (IsBareOn program snapshot [])) (sym there) (subst (λ (p : List Stmt). IfSome (early_at early i) (IsBareOn p snapshot [])) is (are i)))
+  where
+    read : (x : Option (Bor BareTally)) → IfSome (option_map (λ (b : Bor BareTally). b.now) x) (IsBareOn program snapshot []) → IfSome x (λ (b : Bor BareTally). IsBareOn program snapshot [] b.now)
+    read None h = tt
+    read (Some b) h = h
+
+-- where a prior run is kept, no other tally is taken for it
+pub none_restated : (k : Option KeptTally) (found : Option (Bor BareTally)) (bare : Bor BareTally) (tally : LeafTally) → IfSome k (λ (old : KeptTally). found ≡ None) → found ≡ Some bare → IfSome k (λ (old : KeptTally). IsRestatedFrom old tally)
+none_restated None found bare tally none is = tt
+none_restated (Some old) found bare tally none is = cc
 
 pub item_at : {X : Type 0} (f : X → List Stmt) (xs : List X) (i : ℕ) (x : X) → i < length xs → x ≡ get_or xs i x → slice_index_or (map f xs) i [] ≡ f x
 item_at f [] i x lt is = absurd (omega arith)

@@ -1,6 +1,7 @@
 pub mod Batch
 pub mod Work
 pub mod LeafRun
+pub mod Early
 pub mod Line
 pub mod Spans
 pub mod LineWork

@@ -46,6 +46,7 @@ fn settled<R: Threads + Wait + Sync, G: Gate>(
     ensures journal { IfOk result (λ out. IsReplay (does_at (map arc_value progs.now) (state_of db.now)) out.1.board out.1.journal) }
 {
     let work = BatchWork::new(rt, alloc, db, progs)?;
+    let work = work.begin_early(rt, alloc, workers)?;
     let work = Arc::new(alloc, work)?;
     let leaves = progs.len() as u32;
     let circuit = Circuit::start(alloc, work.clone()?, leaves)?;
@@ -58,7 +59,9 @@ fn settled<R: Threads + Wait + Sync, G: Gate>(
 /// and the database left are those of the programs one after another. The circuit that did it is settled, and its
 /// journal replays to it.
 ///
-/// So many workers do its jobs, each in a thread of its own. A worker passes `gate` before each of its jobs.
+/// So many workers do its jobs, each in a thread of its own. A worker passes `gate` before each of its jobs. Where there are fewer
+/// programs than workers, the long joins of a program that none before it has a bearing on are first worked on by all of them
+/// together, on the database as it is.
 pub fn run_batch<R: Threads + Wait + Sync, G: Gate>(
     rt: &R,
     alloc: Global,

@@ -15,10 +15,11 @@ pub struct KeptTally {
     pub effect: Marks,
 }
 
-/// The reply of a run of which no more is kept, and what it writes.
+/// The reply of a run of which no more is kept, what of its correction was laid on the snapshot before it, and what it writes.
 #[derive(Drop)]
 pub struct BareTally {
     pub reply: Reply,
+    pub on: Marks,
     pub effect: Marks,
 }
 

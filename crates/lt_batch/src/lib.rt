@@ -1,7 +1,9 @@
 //! A batch of programs: each starts on one snapshot, and is corrected by what those before it do.
 #![tactic(auto)]
 
+mod bare;
 mod batch;
+mod early;
 mod entries;
 mod gathering;
 mod indexing;

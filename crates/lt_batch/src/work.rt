@@ -1,5 +1,6 @@
 //! The work of a batch: its programs as the leaves of a circuit.
-ghost use Rattle.std.specs.Prelude.{◌≡◌, ◌<◌, ◌≤◌, ◌+◌, ℕ, [], None, map, length, IfOk, IfSome, IsTrue};
+ghost use Rattle.std.specs.Prelude.{◌≡◌, ◌≢◌, ◌<◌, ◌≤◌, ◌+◌, ℕ, [], None, map, length, IfOk, IfSome, IsTrue};
+ghost use Rattle.lt_face.specs.Limits.{most_workers};
 ghost use Rattle.lt_face.specs.State.{State};
 ghost use Rattle.std.specs.Arc.{arc_value};
 ghost use Rattle.std.specs.List.{AllByRecursion};
@@ -11,10 +12,13 @@ ghost use Rattle.lt_base.specs.Tables.{state_of};
 ghost use Rattle.lt_program.specs.Tally.{HasIndexes, cost_of_first, ends_at};
 ghost use Rattle.lt_query.specs.Planned.{HaveWidths};
 ghost use Rattle.lt_restate.specs.Touches.{cost_again};
-ghost use Rattle.lt_batch.specs.LeafRun.{IsTallyOn, IsRunOn, StandsFor};
+ghost use Rattle.lt_batch.specs.Batch.{program_at};
+ghost use Rattle.lt_batch.specs.LeafRun.{IsTallyOn, IsRunOn, IsBareOn, StandsFor};
 ghost use Rattle.lt_batch.specs.Priors.{IsPriorOf, IsKept, IsRestated, IsRestatedFrom, kept_in, run_bound, leaf_bound};
 ghost use Rattle.lt_batch.specs.Work.{AreRunnable, FitsBatch, IsLeaf, marks_for};
 
+use crate::bare::{copied_bare, unlaid_for};
+use crate::early::{all_early, early_in};
 use crate::indexing::all_indexed;
 use crate::leaf::{BareTally, KeptTally, LeafTally};
 use crate::ties::{Ties, is_tied, ties_of, weight_of};
@@ -30,7 +34,7 @@ use lt_query::{Planned, plan_all};
 use lt_restate::restate_marks;
 use std::alloc::Global;
 use std::marker::Model;
-use std::sync::Arc;
+use std::sync::{Arc, Wait};
 use std::thread::Threads;
 
 /// The programs of a batch, and the snapshot that each of them starts on, with the indexes that they need.
@@ -39,6 +43,8 @@ pub struct BatchWork {
     snapshot: Database,
     programs: Vec<Arc<Planned>>,
     is_reading: bool,
+    /// The runs of programs on the snapshot that are there from the start, by their places. Past the end there are none.
+    early: Vec<Option<BareTally>>,
     /// Of each program, which of those before it have a bearing on it. No clause speaks of it.
     ties: Vec<Ties>,
 }
@@ -46,13 +52,14 @@ pub struct BatchWork {
 impl Model for BatchWork {
     ghost use Rattle.std.specs.Prelude.{map};
     ghost use Rattle.std.specs.Arc.{arc_value};
-    ghost use Rattle.lt_batch.specs.Work.{BatchView, IsBatch};
+    ghost use Rattle.lt_batch.specs.Early.{IsBegun};
+    ghost use Rattle.lt_batch.specs.Work.{BatchView};
 
     ghost Value = { BatchView };
 
     ghost view = { λ w. record { snapshot = w.snapshot; programs = map arc_value w.programs.items } };
 
-    ghost invariant = { λ w. IsBatch w.snapshot (map arc_value w.programs.items) };
+    ghost invariant = { λ w. IsBegun w.snapshot (map arc_value w.programs.items) w.early.items };
 }
 
 /// Whether one of the programs reads a relation.
@@ -66,7 +73,11 @@ fn reads_any(progs: &[Arc<Prog>]) -> bool {
 }
 
 /// The marks as an effect: with what they do to the snapshot's indexes, where a program may run on them.
-fn effect_of(snapshot: &Database, marks: &Marks, is_reading: bool) -> Result<Marks, NoMemory>
+pub(crate) fn effect_of(
+    snapshot: &Database,
+    marks: &Marks,
+    is_reading: bool,
+) -> Result<Marks, NoMemory>
     requires { FitMarks (state_of snapshot.now) marks.now }
     ensures { IfOk result (λ effect. effect ≡ marks.now) }
 {
@@ -244,24 +255,23 @@ fn kept_of(prior: Option<&LeafTally>) -> Option<&KeptTally>
 fn bare_on<L>(
     prog: &Arc<Planned>,
     snapshot: &Database,
-    on: &Marks,
+    on: Marks,
     is_reading: bool,
     moves: &mut Moves<L>,
 ) -> Result<BareTally, NoMemory>
-    requires marks { FitMarks (state_of snapshot.now) on.now }
+    requires marks { FitMarks (state_of snapshot.now) on }
     requires fits { Fits (state_of snapshot.now) (arc_value prog.now) }
     requires indexes { HasIndexes snapshot.now (arc_value prog.now) }
-    requires written { FitMarks (state_of snapshot.now) (run_of (arc_value prog.now) (laid (state_of snapshot.now) on.now)).1 }
-    ensures reply { IfOk result (λ tally. tally.reply ≡ (run_of (arc_value prog.now) (laid (state_of snapshot.now) on.now)).0) }
-    ensures marks { IfOk result (λ tally. tally.effect ≡ (run_of (arc_value prog.now) (laid (state_of snapshot.now) on.now)).1) }
-    ensures moves { moves.new ≤ moves.old + run_bound None (arc_value prog.now) (laid (state_of snapshot.now) on.now) }
+    requires written { FitMarks (state_of snapshot.now) (run_of (arc_value prog.now) (laid (state_of snapshot.now) on)).1 }
+    ensures run { IfOk result (IsBareOn (arc_value prog.now) (state_of snapshot.now) on) }
+    ensures moves { moves.new ≤ moves.old + run_bound None (arc_value prog.now) (laid (state_of snapshot.now) on) }
     ensures rises { moves.old ≤ moves.new }
 {
-    let base = corrected(snapshot, prog, on)?;
+    let base = corrected(snapshot, prog, &on)?;
     let ran = run_alone(prog, &base, moves)?;
     let effect = effect_of(snapshot, &ran.marks, is_reading)?;
     let Ran { reply, marks: _ } = ran;
-    Ok(BareTally { reply, effect })
+    Ok(BareTally { reply, on, effect })
 }
 
 impl BatchWork {
@@ -287,6 +297,42 @@ impl BatchWork {
             snapshot,
             programs,
             is_reading,
+            early: Vec::new(alloc),
+            ties,
+        })
+    }
+
+    /// The same work, with the early runs that so many workers make together.
+    pub(crate) fn begin_early<R: Threads + Wait + Sync>(
+        self,
+        rt: &R,
+        alloc: Global,
+        workers: u32,
+    ) -> Result<BatchWork, NoMemory>
+        requires workers { (1 ≤ workers) × (workers ≤ most_workers) }
+        ensures { IfOk result (λ work. work ≡ self) }
+    {
+        let BatchWork {
+            snapshot,
+            programs,
+            is_reading,
+            early: _,
+            ties,
+        } = self;
+        let early = all_early(
+            rt,
+            alloc,
+            &snapshot,
+            programs.as_slice(),
+            ties.as_slice(),
+            workers,
+            is_reading,
+        )?;
+        Ok(BatchWork {
+            snapshot,
+            programs,
+            is_reading,
+            early,
             ties,
         })
     }
@@ -342,10 +388,15 @@ impl LeafWork for BatchWork {
         ensures moves { IfSome (leaf_bound self.now (option_map (λ old. old.now) prior.entry) leaf correction.now) (λ most. moves.new ≤ moves.old + most) }
         ensures rises { moves.old ≤ moves.new }
         ensures restated { IfOk result (λ tally. IfSome (kept_in (option_map (λ old. old.now) prior.entry)) (λ old. IsRestatedFrom old tally)) }
-        ensures kept { IfOk result IsKept }
+        ensures kept { IfOk result (λ tally. marks_for (program_at self.now.programs leaf) correction.now ≢ [] → IsKept tally) }
     {
         let prog = &self.programs[leaf as usize];
         let on = marks_to_lay(prog, correction)?;
+        let early = early_in(&self.early, leaf as usize);
+        if let Some(bare) = unlaid_for(prior, early, &on) {
+            let same = copied_bare(prog.allocator(), bare)?;
+            return Ok(LeafTally::Bare(same));
+        }
         let kept = kept_of(prior);
         let tally = tally_on(prog, &self.snapshot, kept, on, self.is_reading, moves)?;
         Ok(LeafTally::Kept(tally))
@@ -365,7 +416,12 @@ impl LeafWork for BatchWork {
     {
         let prog = &self.programs[leaf as usize];
         let on = marks_to_lay(prog, correction)?;
-        let tally = bare_on(prog, &self.snapshot, &on, self.is_reading, moves)?;
+        let early = early_in(&self.early, leaf as usize);
+        if let Some(bare) = unlaid_for(None, early, &on) {
+            let same = copied_bare(prog.allocator(), bare)?;
+            return Ok(LeafTally::Bare(same));
+        }
+        let tally = bare_on(prog, &self.snapshot, on, self.is_reading, moves)?;
         Ok(LeafTally::Bare(tally))
     }
 

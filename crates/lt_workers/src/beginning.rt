@@ -50,8 +50,8 @@ fn called<M: Machine>(machine: &M, pace: &Pace, workers: u32, job: &M::Job) -> B
 
 // Whether a leaf's run is thought to be its last, so that its tally need not tell how dear it was. In walk order it is, while one
 // worker is alone. Where others may be called, some leaves are weighed.
-fn is_last(pace: &Pace, workers: u32) -> bool {
-    workers < 2 || !pace.weighs()
+fn is_last(pace: &Pace, workers: u32, is_free: bool) -> bool {
+    workers < 2 || !pace.weighs(is_free)
 }
 
 // Passes the gate and does the job, which worker 0 claimed. No other claim stands.
@@ -71,7 +71,7 @@ fn work_alone<R: Wait, M: Machine, G: Gate>(
 {
     gate.pass(rt, 0, M::code(&job));
     let mut moves: Moves<()> = Moves::new();
-    let is_last = is_last(pace, workers);
+    let is_last = is_last(pace, workers, M::is_free(&job));
     match M::work(job, is_last, &mut moves) {
         Ok(output) => {
             pace.note::<M>(&output, is_last);

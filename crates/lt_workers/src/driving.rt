@@ -93,7 +93,8 @@ where
         self.work_on(rt, seat, job, gate, luck)
     }
 
-    // Passes the gate, does the job outside the turn, and ends the claim.
+    // Passes the gate, does the job outside the turn, and ends the claim. No leaf before a free one has a bearing on it, so that its
+    // run is thought to be its last.
     fn work_on<R: Wait, G: Gate>(
         &self,
         rt: &R,
@@ -113,7 +114,8 @@ where
     {
         gate.pass(rt, seat.first(), M::code(&job));
         let mut moves: Moves<()> = Moves::new();
-        match M::work(job, false, &mut moves) {
+        let is_last = M::is_free(&job);
+        match M::work(job, is_last, &mut moves) {
             Ok(output) => {
                 luck.note::<M>(seat.first(), gate.waits(), &output);
                 self.finish(rt, seat, output);

@@ -37,9 +37,10 @@ impl Pace {
         }
     }
 
-    /// Whether the next leaf is to be weighed.
-    pub(crate) fn weighs(&self) -> bool {
-        self.ran < LOOKS || self.ran % WEIGHED == 0
+    /// Whether the next leaf is to be weighed. The first ones also tell whether they are tied to those before them, which isn't
+    /// asked of a free one.
+    pub(crate) fn weighs(&self, is_free: bool) -> bool {
+        self.ran % WEIGHED == 0 || (!is_free && self.ran < LOOKS)
     }
 
     /// A job is done. An inner node's tells nothing, and a leaf's last run only that it is done.

@@ -7,24 +7,24 @@ use Rattle.lt_batch.proofs.batch.settled.Goals as goal
 
 pub start-requires-clause-has : goal.start-requires-clause-has
 start-requires-clause-has g c = λ i below.
-    subst (λ (work : BatchView). IsLeaf work i) (sym (c.in_ok-clone.ensures.cases ∙ c.in_ok-work-2.ensures.ok)) (c.in_ok-work.ensures.leaves i (omega arith))
+    subst (λ (work : BatchView). IsLeaf work i) (sym (c.in_ok-clone.ensures.cases ∙ c.in_ok-work-3.ensures.ok ∙ c.in_ok-work-2.ensures)) (c.in_ok-work.ensures.leaves i (omega arith))
 
 pub returns-clause-work : goal.returns-clause-work
 returns-clause-work g c = c.in_ok-circuit-2.ensures.work ∙ c.in_ok-circuit.ensures.work ∙ c.in_ok-clone.ensures.cases
 
 pub returns-clause-programs : goal.returns-clause-programs
-returns-clause-programs g c = ap (λ (work : BatchView). work.programs) (c.in_ok-circuit-2.ensures.work ∙ c.in_ok-circuit.ensures.work ∙ c.in_ok-clone.ensures.cases ∙ c.in_ok-work-2.ensures.ok) ∙ c.in_ok-work.ensures.programs
+returns-clause-programs g c = ap (λ (work : BatchView). work.programs) (c.in_ok-circuit-2.ensures.work ∙ c.in_ok-circuit.ensures.work ∙ c.in_ok-clone.ensures.cases ∙ c.in_ok-work-3.ensures.ok ∙ c.in_ok-work-2.ensures) ∙ c.in_ok-work.ensures.programs
 
 pub returns-clause-snapshot : goal.returns-clause-snapshot
-returns-clause-snapshot g c = ap (λ (work : BatchView). state_of work.snapshot) (c.in_ok-circuit-2.ensures.work ∙ c.in_ok-circuit.ensures.work ∙ c.in_ok-clone.ensures.cases ∙ c.in_ok-work-2.ensures.ok) ∙ c.in_ok-work.ensures.snapshot
+returns-clause-snapshot g c = ap (λ (work : BatchView). state_of work.snapshot) (c.in_ok-circuit-2.ensures.work ∙ c.in_ok-circuit.ensures.work ∙ c.in_ok-clone.ensures.cases ∙ c.in_ok-work-3.ensures.ok ∙ c.in_ok-work-2.ensures) ∙ c.in_ok-work.ensures.snapshot
 
 pub returns-clause-runnable : goal.returns-clause-runnable
-returns-clause-runnable g c = subst (λ (work : BatchView). AreRunnable (state_of work.snapshot) work.programs) (sym (c.in_ok-circuit-2.ensures.work ∙ c.in_ok-circuit.ensures.work ∙ c.in_ok-clone.ensures.cases ∙ c.in_ok-work-2.ensures.ok)) c.in_ok-work.ensures.runnable
+returns-clause-runnable g c = subst (λ (work : BatchView). AreRunnable (state_of work.snapshot) work.programs) (sym (c.in_ok-circuit-2.ensures.work ∙ c.in_ok-circuit.ensures.work ∙ c.in_ok-clone.ensures.cases ∙ c.in_ok-work-3.ensures.ok ∙ c.in_ok-work-2.ensures)) c.in_ok-work.ensures.runnable
 
 pub returns-clause-journal : goal.returns-clause-journal
 returns-clause-journal g c =
     of_programs (λ does. IsReplay does c.in_ok-circuit-2.circuit.board c.in_ok-circuit-2.circuit.journal) c.in_ok-circuit-2.circuit.work c.in_ok-work.work _ _
-    (c.in_ok-circuit-2.ensures.work ∙ c.in_ok-circuit.ensures.work ∙ c.in_ok-clone.ensures.cases ∙ c.in_ok-work-2.ensures.ok)
+    (c.in_ok-circuit-2.ensures.work ∙ c.in_ok-circuit.ensures.work ∙ c.in_ok-clone.ensures.cases ∙ c.in_ok-work-3.ensures.ok ∙ c.in_ok-work-2.ensures)
     c.in_ok-work.ensures.snapshot c.in_ok-work.ensures.programs c.journal-entries.ensures.replay
 
 pub returns-clause-leaves : goal.returns-clause-leaves

@@ -1,4 +1,4 @@
-use Rattle.std.proofs.Common.{◌≤◌, ◌+◌, ◌∙◌, sym, ap, subst}
+use Rattle.std.proofs.Common.{◌≤◌, ◌+◌, ◌∙◌, refl, sym, ap, subst}
 use Rattle.std.specs.Arc.{arc_value}
 use Rattle.lt_face.specs.State.{State}
 use Rattle.lt_model.specs.Fits.{Fits, FitMarks}
@@ -22,11 +22,12 @@ run_alone-requires-clause-indexes g c = subst (HasIndexes c.in_ok-base.base) c.d
 pub effect_of-requires : goal.effect_of-requires
 effect_of-requires g c = subst (FitMarks (state_of c.args.snapshot.now)) (sym (c.in_ok-ran.ensures.marks ∙ ap (λ (s : State). (run (arc_value c.args.prog.now) s).1) c.in_ok-base.ensures.state)) c.requires.written
 
-pub returns-clause-reply : goal.returns-clause-reply
-returns-clause-reply g c = c.in_ok-ran.ensures.reply ∙ ap (λ (s : State). (run (arc_value c.args.prog.now) s).0) c.in_ok-base.ensures.state
-
-pub returns-clause-marks : goal.returns-clause-marks
-returns-clause-marks g c = c.in_ok-effect.ensures ∙ (c.in_ok-ran.ensures.marks ∙ ap (λ (s : State). (run (arc_value c.args.prog.now) s).1) c.in_ok-base.ensures.state)
+pub returns-clause-run : goal.returns-clause-run
+returns-clause-run g c = record {
+  same_on = refl;
+  reply = c.in_ok-ran.ensures.reply ∙ ap (λ (s : State). (run (arc_value c.args.prog.now) s).0) c.in_ok-base.ensures.state;
+  effect = c.in_ok-effect.ensures ∙ (c.in_ok-ran.ensures.marks ∙ ap (λ (s : State). (run (arc_value c.args.prog.now) s).1) c.in_ok-base.ensures.state);
+}
 
 pub returns-clause-moves : goal.returns-clause-moves
 returns-clause-moves g c = subst (λ (s : State). c.run_alone.new.moves ≤ c.args.moves.now + cost_of_first (ends_at (arc_value c.args.prog.now) s) (arc_value c.args.prog.now) s) c.in_ok-base.ensures.state c.run_alone.ensures.moves

@@ -1,0 +1,95 @@
+//! Runs of programs on the snapshot that all workers make together, before a circuit starts.
+ghost use Rattle.std.specs.Prelude.{◌≡◌, ◌≤◌, [], None, map, is_some, IfOk, IfSome};
+ghost use Rattle.std.specs.Arc.{arc_value};
+ghost use Rattle.std.specs.List.{AllByRecursion};
+ghost use Rattle.std.specs.Option.{option_map};
+ghost use Rattle.lt_face.specs.Limits.{most_workers};
+ghost use Rattle.lt_face.specs.State.{State};
+ghost use Rattle.lt_model.specs.Fits.{Fits};
+ghost use Rattle.lt_model.specs.declared.normal.Stmt.{Stmt};
+ghost use Rattle.lt_base.specs.Tables.{state_of};
+ghost use Rattle.lt_program.specs.Tally.{HasIndexes};
+ghost use Rattle.lt_batch.specs.Early.{AreEarly, early_at};
+ghost use Rattle.lt_batch.specs.LeafRun.{IsBareOn};
+ghost use Rattle.lt_batch.specs.Work.{AreRunnable};
+
+use crate::leaf::BareTally;
+use crate::ties::Ties;
+use crate::work::effect_of;
+use lt_base::Database;
+use lt_delta::Marks;
+use lt_face::memory::NoMemory;
+use lt_face::moves::Moves;
+use lt_program::{Ran, has_long_join, run_split_alone};
+use lt_query::Planned;
+use std::alloc::Global;
+use std::sync::{Arc, Wait};
+use std::thread::Threads;
+
+/// The run of a program on the snapshot, by so many parts, where it is free and one of its joins is long.
+fn early_run<R: Threads + Wait + Sync>(
+    rt: &R,
+    prog: &Arc<Planned>,
+    snapshot: &Database,
+    parts: u32,
+    is_reading: bool,
+    is_free: bool,
+) -> Result<Option<BareTally>, NoMemory>
+    requires fits { Fits (state_of snapshot.now) (arc_value prog.now) }
+    requires indexes { HasIndexes snapshot.now (arc_value prog.now) }
+    requires parts { (1 ≤ parts) × (parts ≤ most_workers) }
+    ensures { IfOk result (λ run. IfSome run (IsBareOn (arc_value prog.now) (state_of snapshot.now) [])) }
+{
+    if !is_free || !has_long_join(prog, snapshot) {
+        return Ok(None);
+    }
+    let mut moves: Moves<()> = Moves::new();
+    let ran = run_split_alone(rt, prog, snapshot, parts, &mut moves)?;
+    let effect = effect_of(snapshot, &ran.marks, is_reading)?;
+    let on = Marks::empty(prog.allocator())?;
+    let Ran { reply, marks: _ } = ran;
+    Ok(Some(BareTally { reply, on, effect }))
+}
+
+/// Whether no program before the one at the place has a bearing on it. No clause speaks of it.
+fn is_free_at(ties: &[Ties], place: usize) -> bool {
+    place < ties.len() && ties[place].is_free()
+}
+
+/// The early run of each program with a long join that none before it has a bearing on: it will be asked for as it is. Where there
+/// are as many programs as workers, none is made.
+pub(crate) fn all_early<R: Threads + Wait + Sync>(
+    rt: &R,
+    alloc: Global,
+    snapshot: &Database,
+    progs: &[Arc<Planned>],
+    ties: &[Ties],
+    workers: u32,
+    is_reading: bool,
+) -> Result<Vec<Option<BareTally>>, NoMemory>
+    requires runnable { AreRunnable (state_of snapshot.now) (map arc_value progs.now) }
+    requires indexed { AllByRecursion (HasIndexes snapshot.now) (map arc_value progs.now) }
+    requires workers { (1 ≤ workers) × (workers ≤ most_workers) }
+    ensures { IfOk result (λ early. AreEarly (state_of snapshot.now) (map arc_value progs.now) early.items) }
+{
+    let mut all = Vec::new(alloc);
+    if progs.len() >= workers as usize {
+        return Ok(all);
+    }
+    for prog in progs {
+        let is_free = is_free_at(ties, all.len());
+        let tally = early_run(rt, prog, snapshot, workers, is_reading, is_free)?;
+        all.push(tally)?;
+    }
+    Ok(all)
+}
+
+/// The early run at the place, if there is one.
+pub(crate) fn early_in(early: &Vec<Option<BareTally>>, place: usize) -> Option<&BareTally>
+    ensures { option_map (λ bare. bare.now) result ≡ early_at early.now.items place }
+{
+    if place >= early.len() {
+        return None;
+    }
+    early[place].as_ref()
+}
