@@ -6,7 +6,7 @@ ghost use Rattle.std.specs.List.{AllByRecursion};
 ghost use Rattle.lt_run_trials.specs.Fitting.{FitsBoth};
 
 use crate::agree::{holds, same};
-use crate::comparing::{are_marks, is_same_reply};
+use crate::comparing::{are_marks, count, is_same_reply};
 use crate::serial::{Ran, Serial, one_after_another};
 use crate::texts::{Pairs, ZERO, bare, programs, programs_over, stocked};
 use lt_base::Database;
@@ -18,7 +18,6 @@ use lt_face::items::RowList;
 use lt_face::key::Key;
 use lt_face::memory::NoMemory;
 use lt_face::row::Row;
-use lt_face::row_set::RowReads;
 use lt_model::normal::Prog;
 use lt_model::reply::Reply;
 use std::alloc::Global;
@@ -76,14 +75,6 @@ pub(crate) fn are_same_runs(replies: &[Reply], effects: &[Marks], runs: &[Ran]) 
         }
     }
     true
-}
-
-/// How many rows a relation has.
-fn count(db: &Database, relation: u32) -> usize {
-    match db.rows(relation) {
-        Some(rows) => rows.len(),
-        None => 0,
-    }
 }
 
 /// Whether r has the row of this cell.

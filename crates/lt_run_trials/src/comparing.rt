@@ -1,7 +1,10 @@
-//! Replies, prints, rows and marks, compared.
+//! Replies, prints, rows, marks and databases, compared.
+use lt_base::{Database, Rows};
 use lt_delta::{Mark, Marks};
 use lt_face::key::Key;
 use lt_face::row::Row;
+use lt_face::row_set::RowReads;
+use lt_face::walk::RowWalk;
 use lt_model::reply::{Printed, Reply};
 use lt_values::cell_of_int;
 use std::alloc::Global;
@@ -79,5 +82,42 @@ pub(crate) fn is_same_reply(a: &Reply, b: &Reply) -> bool {
             Reply::Done(_) => false,
             Reply::Refused(k) => *j == *k,
         },
+    }
+}
+
+/// How many rows a relation has.
+pub(crate) fn count(db: &Database, relation: u32) -> usize {
+    match db.rows(relation) {
+        Some(rows) => rows.len(),
+        None => 0,
+    }
+}
+
+/// Whether both have the same rows.
+fn are_same_rows(alloc: Global, some: &Rows, others: &Rows) -> bool {
+    let mut walk = RowWalk::over(alloc, some);
+    for _ in 0..some.len() {
+        match walk.next_row() {
+            Some(row) => {
+                if !others.has(row) {
+                    return false;
+                }
+            }
+            None => return false,
+        }
+    }
+    some.len() == others.len()
+}
+
+/// Whether both have the same rows of a relation.
+pub(crate) fn have_same_rows(
+    alloc: Global,
+    one: &Database,
+    other: &Database,
+    relation: u32,
+) -> bool {
+    match (one.rows(relation), other.rows(relation)) {
+        (Some(some), Some(others)) => are_same_rows(alloc, some, others),
+        _ => false,
     }
 }

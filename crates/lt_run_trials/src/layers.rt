@@ -5,15 +5,14 @@ ghost use Rattle.lt_base.specs.Tables.{state_of};
 ghost use Rattle.lt_run_trials.specs.Fitting.{AreBoth, KeepsWidths};
 
 use crate::agree::holds;
+use crate::comparing::{count, have_same_rows};
 use crate::random::Random;
 use crate::restatement::marks_of;
 use crate::sampled::spreading;
 use crate::texts::bare;
-use lt_base::{Database, Rows};
+use lt_base::Database;
 use lt_delta::Marks;
 use lt_face::memory::NoMemory;
-use lt_face::row_set::RowReads;
-use lt_face::walk::RowWalk;
 use std::alloc::Global;
 use std::thread::Threads;
 
@@ -103,38 +102,12 @@ fn layered<R: Threads + Sync>(
     Ok(layers)
 }
 
-/// Whether both have the same rows.
-fn are_same_rows(alloc: Global, some: &Rows, others: &Rows) -> bool {
-    let mut walk = RowWalk::over(alloc, some);
-    for _ in 0..some.len() {
-        match walk.next_row() {
-            Some(row) => {
-                if !others.has(row) {
-                    return false;
-                }
-            }
-            None => return false,
-        }
-    }
-    some.len() == others.len()
-}
-
-/// Whether both have more than so many rows of e, and the same ones.
-fn have_same_rows(alloc: Global, one: &Database, other: &Database, more_than: usize) -> bool {
-    match (one.rows(1), other.rows(1)) {
-        (Some(some), Some(others)) => {
-            some.len() > more_than && are_same_rows(alloc, some, others)
-        }
-        _ => false,
-    }
-}
-
 /// Whether so many layers leave the rows that their marks leave at once.
-fn lays_alike<R: Threads + Sync>(rt: &R, alloc: Global, count: u32) -> Result<bool, NoMemory> {
+fn lays_alike<R: Threads + Sync>(rt: &R, alloc: Global, lists: u32) -> Result<bool, NoMemory> {
     let base = bare(alloc)?;
-    let layers = layered(rt, alloc, &base, count)?;
+    let layers = layered(rt, alloc, &base, lists)?;
     let once = base.laid(&layers.marks)?;
-    let is_so = have_same_rows(alloc, &layers.db, &once, 256);
+    let is_so = count(&layers.db, 1) > 256 && have_same_rows(alloc, &layers.db, &once, 1);
     drop(layers);
     Ok(is_so)
 }

@@ -18,6 +18,8 @@ mod circuits;
 #[cfg(test)]
 mod comparing;
 #[cfg(test)]
+mod early;
+#[cfg(test)]
 mod finals;
 #[cfg(test)]
 mod floor;
@@ -29,6 +31,8 @@ mod layers;
 mod lines;
 #[cfg(test)]
 mod meeting;
+#[cfg(test)]
+mod parts;
 #[cfg(test)]
 mod random;
 #[cfg(test)]
@@ -47,5 +51,9 @@ mod sampled;
 mod schedules;
 #[cfg(test)]
 mod serial;
+#[cfg(test)]
+mod splitting;
+#[cfg(test)]
+mod taken_again;
 #[cfg(test)]
 mod texts;

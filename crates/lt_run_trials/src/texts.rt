@@ -19,7 +19,7 @@ use lt_face::moves::Moves;
 use lt_model::kind::{Kind, KindList};
 use lt_model::name::Name;
 use lt_model::normal::Prog;
-use lt_program::{Tally, indexed, run, run_alone};
+use lt_program::{Ran, Tally, indexed, run, run_alone};
 use lt_query::Planned;
 use lt_query::laws::plans_of_bodies;
 use lt_script::{Item, ProgramList, Reader, Step};
@@ -175,19 +175,39 @@ pub(crate) fn routed(alloc: Global, base: &Database, prog: Prog) -> Result<Arc<P
     Ok(shared)
 }
 
-/// Whether the run of which the reply and the marks alone are kept answers and writes what this one did.
+/// Whether the run of which the reply and the marks alone are kept answers and writes what the other did.
+pub(crate) fn is_same_ran(ran: &Ran, tally: &Tally) -> bool {
+    is_same_reply(&ran.reply, tally.reply()) && Marks::equal(&ran.marks, tally.marks())
+}
+
+/// Whether the whole run of which the reply and the marks alone are kept answers and writes what this one did.
 fn is_alone(prog: &Arc<Planned>, db: &Database, tally: &Tally) -> Result<bool, NoMemory>
     requires fits { Fits (state_of db.now) (arc_value prog.now) }
     requires indexes { HasIndexes db.now (arc_value prog.now) }
 {
     let mut moves: Moves<()> = Moves::new();
     let ran = run_alone(prog, db, &mut moves)?;
-    let is_so = is_same_reply(&ran.reply, tally.reply()) && Marks::equal(&ran.marks, tally.marks());
+    let is_so = is_same_ran(&ran, tally);
     drop(ran);
     Ok(is_so)
 }
 
-/// The run by joins. Where the run of which the reply and the marks alone are kept isn't alike, the answer is as if memory had ended.
+/// The run by joins on a database with the indexes. Where the run of which the reply and the marks alone are kept isn't alike, the
+/// answer is as if memory had ended.
+pub(crate) fn joined_on(prog: &Arc<Planned>, db: &Database) -> Result<Tally, NoMemory>
+    requires fits { Fits (state_of db.now) (arc_value prog.now) }
+    requires indexes { HasIndexes db.now (arc_value prog.now) }
+    ensures { IfOk result (λ tally. FitMarks (state_of db.now) tally.marks) }
+{
+    let mut moves: Moves<()> = Moves::new();
+    let tally = run(prog, db, &mut moves)?;
+    if !is_alone(prog, db, &tally)? {
+        return Err(NoMemory);
+    }
+    Ok(tally)
+}
+
+/// The same where the indexes are still to be made.
 pub(crate) fn joined<R: Threads + Sync>(
     rt: &R,
     alloc: Global,
@@ -199,12 +219,7 @@ pub(crate) fn joined<R: Threads + Sync>(
 {
     let shared = routed(alloc, base, prog)?;
     let db = indexed(rt, base, &shared)?;
-    let mut moves: Moves<()> = Moves::new();
-    let tally = run(&shared, &db, &mut moves)?;
-    if !is_alone(&shared, &db, &tally)? {
-        return Err(NoMemory);
-    }
-    Ok(tally)
+    joined_on(&shared, &db)
 }
 
 /// The relations with these marks laid on them.

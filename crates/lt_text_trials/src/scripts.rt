@@ -1,6 +1,6 @@
 //! Scripts, bytes in and bytes out.
 use crate::agree::{same, same_at};
-use crate::running::{Case, outcome, reports_in_pieces};
+use crate::running::{Case, outcome, reports_by_workers, reports_in_pieces};
 use lt_edges::{MemSource, Source};
 use std::alloc::Global;
 use std::fmt::Write;
@@ -198,6 +198,18 @@ fn reports_scripts(rt: HostRuntime) -> Result<(), Fail> {
         reports_in_pieces(&rt, alloc, &case)?;
     }
     Ok(())
+}
+
+/// One program, and two, whose joins are long enough for several workers.
+#[test]
+fn reports_long_joins_by_workers(rt: HostRuntime) -> Result<(), Fail> {
+    let case = Case {
+        name: "long joins",
+        script: "relation r(int); relation e(int, int); batch program l insert r(0); insert r(m) where r(n), m = n + 1; insert r(m) where r(n), m = n + 2; insert r(m) where r(n), m = n + 4; insert r(m) where r(n), m = n + 8; insert r(m) where r(n), m = n + 16; insert r(m) where r(n), m = n + 32; insert r(m) where r(n), m = n + 64; insert r(m) where r(n), m = n + 128; insert r(m) where r(n), m = n + 256; insert r(m) where r(n), m = n + 512; insert r(m) where r(n), m = n + 1024; insert r(m) where r(n), m = n + 2048; insert e(n, m) where r(n), m = n + 1; end; commit; batch program p print (x, z) where e(x, y), e(y, z), x < 3; insert r(z) where e(x, y), r(x), z = y + 1; end; program q print (x) where r(x), 4094 < x; end; commit;",
+        report: "batch 1\nl done\nversion 1\nbatch 2\np done\nprint 1 3\n0 2\n1 3\n2 4\nq done\nprint 1 3\n4095\n4096\n4097\nversion 2\n",
+        status: 0,
+    };
+    reports_by_workers(&rt, rt.alloc(), &case)
 }
 
 // So many relations with names of their own.
