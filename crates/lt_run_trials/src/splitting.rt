@@ -11,6 +11,7 @@ use crate::texts::{Pairs, is_same_ran, joined_on, program_over, routed, stocked}
 use lt_base::Database;
 use lt_face::memory::NoMemory;
 use lt_face::moves::Moves;
+use lt_model::normal::Prog;
 use lt_program::{Tally, has_long_join, indexed, run_split_alone};
 use lt_query::Planned;
 use std::alloc::Global;
@@ -67,8 +68,26 @@ fn all_split<R: Threads + Wait + Sync>(
     Ok(true)
 }
 
-/// Whether the program has a long join, or none, as is said, and does by parts what it does as a whole, where e is declared so.
+/// Whether the program has a long join, or none, as is said, and does by parts what it does as a whole.
 fn splits_on<R: Threads + Wait + Sync>(
+    rt: &R,
+    alloc: Global,
+    base: &Database,
+    prog: Prog,
+    is_long: bool,
+) -> Result<bool, NoMemory>
+    requires { Fits (state_of base.now) prog }
+{
+    let prog = routed(alloc, base, prog)?;
+    let db = indexed(rt, base, &prog)?;
+    let whole = joined_on(&prog, &db)?;
+    let all = all_split(rt, &prog, &db, &whole)?;
+    drop(whole);
+    Ok(all && has_long_join(&prog, &db) == is_long)
+}
+
+/// The same of the program of these statements, where e is declared so.
+fn splits_over<R: Threads + Wait + Sync>(
     rt: &R,
     alloc: Global,
     db: &Database,
@@ -79,12 +98,7 @@ fn splits_on<R: Threads + Wait + Sync>(
     requires { AreBoth (state_of db.now) }
 {
     let prog = program_over(alloc, pairs, text)?;
-    let prog = routed(alloc, db, prog)?;
-    let db = indexed(rt, db, &prog)?;
-    let whole = joined_on(&prog, &db)?;
-    let all = all_split(rt, &prog, &db, &whole)?;
-    drop(whole);
-    Ok(all && has_long_join(&prog, &db) == is_long)
+    splits_on(rt, alloc, db, prog, is_long)
 }
 
 #[test]
@@ -96,7 +110,7 @@ fn prints_by_parts_are_prints(rt: HostRuntime) -> Result<(), NoMemory> {
         "print (x) where r(x), x < 100;",
         "print (x, y) where e(x, y), r(y), not r(x);",
     ] {
-        holds(&rt, splits_on(&rt, alloc, &db, Pairs::Plain, text, true)?);
+        holds(&rt, splits_over(&rt, alloc, &db, Pairs::Plain, text, true)?);
     }
     Ok(())
 }
@@ -110,7 +124,7 @@ fn writes_by_parts_are_writes(rt: HostRuntime) -> Result<(), NoMemory> {
         "delete e(x, y) where e(x, y), r(y); require some e(x, y); insert r(-1);",
         "replace e(x, y) by e(y, x) where e(x, y), r(x), x < 9; require none e(5, 6); print (x) where r(x), e(7, x);",
     ] {
-        holds(&rt, splits_on(&rt, alloc, &db, Pairs::Plain, text, true)?);
+        holds(&rt, splits_over(&rt, alloc, &db, Pairs::Plain, text, true)?);
     }
     Ok(())
 }
@@ -120,7 +134,7 @@ fn inserts_that_displace_rows_by_parts(rt: HostRuntime) -> Result<(), NoMemory> 
     let alloc = rt.alloc();
     let db = long(&rt, alloc)?;
     let text = "insert e(x, z) where e(x, y), r(x), z = y + 1;";
-    holds(&rt, splits_on(&rt, alloc, &db, Pairs::Keyed, text, true)?);
+    holds(&rt, splits_over(&rt, alloc, &db, Pairs::Keyed, text, true)?);
     Ok(())
 }
 
@@ -129,7 +143,7 @@ fn replaces_that_displace_rows_by_parts(rt: HostRuntime) -> Result<(), NoMemory>
     let alloc = rt.alloc();
     let db = long(&rt, alloc)?;
     let text = "replace e(x, y) by e(x, z) where e(x, y), r(x), z = y + 1;";
-    holds(&rt, splits_on(&rt, alloc, &db, Pairs::Keyed, text, true)?);
+    holds(&rt, splits_over(&rt, alloc, &db, Pairs::Keyed, text, true)?);
     Ok(())
 }
 
@@ -142,7 +156,10 @@ fn runs_without_long_joins_are_whole(rt: HostRuntime) -> Result<(), NoMemory> {
         "print (y) where e(x, y), x = 5;",
         "require some r(x), x > 100; insert r(-1);",
     ] {
-        holds(&rt, splits_on(&rt, alloc, &db, Pairs::Plain, text, false)?);
+        holds(
+            &rt,
+            splits_over(&rt, alloc, &db, Pairs::Plain, text, false)?,
+        );
     }
     Ok(())
 }
