@@ -9,7 +9,7 @@ use Rattle.std.specs.Ordering.{is_eq}
 use Rattle.lt_face.specs.State.{Row, permuted}
 use Rattle.lt_face.proofs.RowLemmas.{ascending-with_row, ascending-filter, each_weaker}
 use Rattle.lt_model.specs.declared.mark.Mark.{Mark}
-use Rattle.lt_model.specs.Marks.{Marks, write}
+use Rattle.lt_model.specs.Marks.{Marks}
 use Rattle.lt_model.proofs.Composition.{rows_same}
 use Rattle.lt_over.specs.Layers.{Edits, IsLayer, stacked}
 use Rattle.lt_delta.specs.declared.index_edits.IndexEdits.{IndexEdits}

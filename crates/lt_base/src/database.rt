@@ -1,5 +1,5 @@
 //! `Database`: relations by number.
-ghost use Rattle.std.specs.Prelude.{◌≡◌, ◌≢◌, ◌<◌, ◌≤◌, ◌^◌, ◌||◌, ◌&&◌, ◌==◌, ℕ, List, Bool, true, false, [], ◌∷◌, ◌++◌, map, length, nat_lt, is_some, option_map, slice_get, IfOk, IfSome, IsTrue};
+ghost use Rattle.std.specs.Prelude.{◌≡◌, ◌≢◌, ◌<◌, ◌≤◌, ◌^◌, ◌||◌, ◌&&◌, ◌==◌, ℕ, List, true, false, [], ◌∷◌, ◌++◌, map, length, is_some, slice_get, IfOk, IsTrue};
 ghost use Rattle.std.specs.Arc.{arc_value};
 ghost use Rattle.std.specs.List.{AllByRecursion};
 ghost use Rattle.std.specs.Option.{option_copied};
@@ -11,7 +11,6 @@ ghost use Rattle.lt_model.specs.Fits.{FitMarks, IsWide};
 ghost use Rattle.lt_model.specs.Marks.{laid};
 ghost use Rattle.lt_model.specs.State.{IsState};
 ghost use Rattle.lt_delta.specs.IndexEdits.{IsEditsOf};
-ghost use Rattle.lt_delta.specs.Laying.{rows_laid};
 ghost use Rattle.lt_delta.specs.Columns.{IsPermOf};
 ghost use Rattle.lt_base.specs.Tables.{Table, IsTable, state_of, has_index};
 ghost use Rattle.lt_base.specs.Shown.{table_laid, tables_laid};

@@ -1,10 +1,10 @@
 //! One index: the rows of a relation, with their cells in another order of the columns.
-ghost use Rattle.std.specs.Prelude.{◌≡◌, ◌≤◌, ℕ, List, map, IfOk};
+ghost use Rattle.std.specs.Prelude.{◌≡◌, ◌≤◌, ℕ, List, IfOk};
 ghost use Rattle.std.specs.List.{AllByRecursion};
 ghost use Rattle.std.specs.List.Sorted.{IsPermutation, IsSorted};
 ghost use Rattle.lt_face.specs.Limits.{most_columns};
 ghost use Rattle.lt_face.specs.Rows.{IsRow, IsRowSet, row_cmp};
-ghost use Rattle.lt_face.specs.State.{Row as RowView, permuted};
+ghost use Rattle.lt_face.specs.State.{Row as RowView};
 ghost use Rattle.lt_model.specs.declared.mark.Mark.{Mark as MarkType};
 ghost use Rattle.lt_delta.specs.Columns.{IsPermOf, IsPermuted};
 ghost use Rattle.lt_delta.specs.IndexEdits.{IsEditsOf};

@@ -1,5 +1,5 @@
 //! Tallies of which the reply and the effect alone are kept, as help for a later run.
-ghost use Rattle.std.specs.Prelude.{◌≡◌, [], List, None, IfOk, IfSome, IsTrue};
+ghost use Rattle.std.specs.Prelude.{◌≡◌, [], List, None, IfOk, IfSome};
 ghost use Rattle.std.specs.Option.{option_map};
 ghost use Rattle.lt_face.specs.State.{State};
 ghost use Rattle.lt_model.specs.declared.normal.Stmt.{Stmt};

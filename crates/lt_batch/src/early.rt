@@ -1,12 +1,10 @@
 //! Runs of programs on the snapshot that all workers make together, before a circuit starts.
-ghost use Rattle.std.specs.Prelude.{◌≡◌, ◌≤◌, [], None, map, is_some, IfOk, IfSome};
+ghost use Rattle.std.specs.Prelude.{◌≡◌, ◌≤◌, [], None, map, IfOk, IfSome};
 ghost use Rattle.std.specs.Arc.{arc_value};
 ghost use Rattle.std.specs.List.{AllByRecursion};
 ghost use Rattle.std.specs.Option.{option_map};
 ghost use Rattle.lt_face.specs.Limits.{most_workers};
-ghost use Rattle.lt_face.specs.State.{State};
 ghost use Rattle.lt_model.specs.Fits.{Fits};
-ghost use Rattle.lt_model.specs.declared.normal.Stmt.{Stmt};
 ghost use Rattle.lt_base.specs.Tables.{state_of};
 ghost use Rattle.lt_program.specs.Tally.{HasIndexes};
 ghost use Rattle.lt_batch.specs.Early.{AreEarly, early_at};

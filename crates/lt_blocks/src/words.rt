@@ -3,7 +3,7 @@ ghost use Rattle.std.specs.Prelude.{◌≡◌, ◌<◌, ◌^◌, ◌++◌, ◌�
 ghost use Rattle.std.specs.List.{prefix_len};
 ghost use Rattle.lt_blocks.specs.declared.words.Header.{Header as HeaderType};
 ghost use Rattle.lt_batch.specs.declared.replaying.Written.{Written as WrittenType};
-ghost use Rattle.lt_blocks.specs.Lines.{entry_words, header_words, script_words, IsEntry, IsHeader, Lacks, Says};
+ghost use Rattle.lt_blocks.specs.Lines.{entry_words, header_words, IsEntry, IsHeader, Lacks, Says};
 
 use itoa::Buffer;
 use lt_batch::Written;

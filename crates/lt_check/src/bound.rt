@@ -1,5 +1,5 @@
 //! Which variables a body binds.
-ghost use Rattle.std.specs.Prelude.{◌≡◌, ◌==◌, ◌||◌, [], IfOk};
+ghost use Rattle.std.specs.Prelude.{◌≡◌, ◌==◌, ◌||◌, IfOk};
 ghost use Rattle.std.specs.List.{list_any, list_all};
 ghost use Rattle.lt_model.specs.Answers.{terms_of};
 ghost use Rattle.lt_model.specs.Bound.{is_var, stands, is_known, know, know_all, is_bound};

@@ -1,5 +1,5 @@
 //! The kinds of a statement's variables, found from what each condition says of them.
-ghost use Rattle.std.specs.Prelude.{◌≡◌, ◌≤◌, ◌&&◌, ◌++◌, ◌∷◌, ◌<◌, set, if◌then◌else◌, [], Some, None, IfOk, map, length, replicate, unwrap_or, slice_index_or};
+ghost use Rattle.std.specs.Prelude.{◌≡◌, ◌≤◌, ◌++◌, ◌∷◌, ◌<◌, set, if◌then◌else◌, [], Some, None, IfOk, map, length, replicate, unwrap_or, slice_index_or};
 ghost use Rattle.std.specs.List.{list_all};
 ghost use Rattle.lt_face.specs.Limits.{most_columns};
 ghost use Rattle.lt_model.specs.Check.{kind_of, same_kind, same_kinds, atom_fits, literal_fits};

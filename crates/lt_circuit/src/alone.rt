@@ -1,5 +1,5 @@
 //! A worker alone: sweeps over the inner jobs, and rounds that each run one leaf more.
-ghost use Rattle.std.specs.Prelude.{◌≡◌, ◌+◌, ◌-◌, ◌*◌, ◌^◌, ◌≤◌, ◌<◌, ℕ, map, length, OnOk, IfSome};
+ghost use Rattle.std.specs.Prelude.{◌≡◌, ◌+◌, ◌-◌, ◌*◌, ◌^◌, ◌≤◌, ◌<◌, map, length, OnOk, IfSome};
 ghost use Rattle.lt_face.specs.Limits.{most_programs};
 ghost use Rattle.lt_net.specs.Net.{IsSettled};
 ghost use Rattle.lt_net.specs.Tree.{circuit_net, tree_of};

@@ -1,7 +1,7 @@
 //! The state of a circuit as tables.
 #![tactic(auto)]
 
-ghost use Rattle.std.specs.Prelude.{◌≡◌, ℕ, ◌+◌, ◌*◌, ◌<◌, ◌≤◌, List, IfOk, Some, None};
+ghost use Rattle.std.specs.Prelude.{◌<◌};
 ghost use Rattle.lt_circuit.specs.Board.{BoardView, IsBoard};
 
 use crate::holders::Holders;

@@ -1,7 +1,7 @@
 //! What the workers hold.
 #![tactic(auto)]
 
-ghost use Rattle.std.specs.Prelude.{◌≡◌, ◌<◌, ◌≤◌, List, Option, Some, None, IfOk, length, slice_index_or, slice_set};
+ghost use Rattle.std.specs.Prelude.{◌≡◌, ◌<◌, ◌≤◌, List, Option, Some, None, IfOk, slice_index_or, slice_set};
 ghost use Rattle.lt_face.specs.Limits.{most_workers};
 ghost use Rattle.lt_circuit.specs.declared.cells.Held.{Held as HeldType};
 ghost use Rattle.lt_circuit.specs.Board.{one_if, standing, table};

@@ -1,14 +1,14 @@
 //! A job of a line that a worker holds, and what it gives.
 #![tactic(auto)]
 
-ghost use Rattle.std.specs.Prelude.{◌≡◌, ◌≢◌, ◌+◌, ◌*◌, ◌/◌, ◌%◌, ◌<◌, ◌≤◌, ◌^◌, ℕ, IfOk, IfErr, IfSome, length};
+ghost use Rattle.std.specs.Prelude.{◌≡◌, ◌+◌, ◌*◌, ◌/◌, ◌%◌, ◌<◌, ◌≤◌, ◌^◌, ℕ, IfOk, IfErr, IfSome, length};
 ghost use Rattle.std.specs.Arc.{arc_value};
 ghost use Rattle.lt_net.specs.declared.job.JobName.TheVariants.{Leaf};
 ghost use Rattle.lt_circuit.specs.declared.task.Task.{Task as TaskType};
 ghost use Rattle.lt_model.specs.Marks.{and_then};
 ghost use Rattle.lt_circuit.specs.declared.line_job.LineTask.TheVariants.{Tree as TreeTask, Pass as PassTask};
 ghost use Rattle.lt_circuit.specs.declared.line_job.LineDone.TheVariants.{Pass as PassDone};
-ghost use Rattle.lt_net.specs.Codes.{code_of, job_of};
+ghost use Rattle.lt_net.specs.Codes.{job_of};
 ghost use Rattle.lt_net.specs.Line.{line_job};
 ghost use Rattle.lt_circuit.specs.Board.{inputs_list};
 ghost use Rattle.lt_circuit.specs.Job.{task_name};

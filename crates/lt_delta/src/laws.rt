@@ -1,7 +1,6 @@
 //! The laws of marks.
-ghost use Rattle.std.specs.Prelude.{◌≡◌, ◌<◌, ℕ, [], unwrap_or};
-ghost use Rattle.lt_face.specs.Rows.{has_row};
-ghost use Rattle.lt_face.specs.State.{State, Row, rows_in};
+ghost use Rattle.std.specs.Prelude.{◌≡◌, []};
+ghost use Rattle.lt_face.specs.State.{State};
 ghost use Rattle.lt_model.specs.Fits.{FitMarks};
 ghost use Rattle.lt_model.specs.Laws.{LaidHas, LaidTwice};
 ghost use Rattle.lt_model.specs.Marks.{Marks, AreMarks, and_then, laid};

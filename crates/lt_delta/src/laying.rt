@@ -1,5 +1,5 @@
 //! Marks laid on a set of rows.
-ghost use Rattle.std.specs.Prelude.{◌≡◌, ◌<◌, ℕ, length, IfOk, OnOk};
+ghost use Rattle.std.specs.Prelude.{◌≡◌, ◌<◌, length, IfOk, OnOk};
 ghost use Rattle.std.specs.List.{AllByRecursion};
 ghost use Rattle.lt_face.specs.Rows.{IsRow};
 ghost use Rattle.lt_face.specs.State.{State, rows_in};

@@ -1,5 +1,5 @@
 //! Where the gaps of moves are written down.
-ghost use Rattle.std.specs.Prelude.{◌≡◌, ◌≤◌, ℕ, List, Option, None, IsOk, OnOk, OnErr};
+ghost use Rattle.std.specs.Prelude.{◌≡◌, ℕ, List, Option, None, IsOk, OnOk, OnErr};
 ghost use Rattle.lt_face.specs.declared.key.Gap.{Gap};
 ghost use Rattle.lt_face.specs.Noted.{Gains};
 

@@ -1,5 +1,5 @@
 //! Programs that buy.
-ghost use Rattle.std.specs.Prelude.{◌≡◌, ◌++◌, ◌+◌, ◌-◌, ◌*◌, ◌/◌, ◌^◌, ◌<◌, ◌≤◌, min, map, IfOk, OnOk};
+ghost use Rattle.std.specs.Prelude.{◌≡◌, ◌++◌, ◌+◌, ◌-◌, ◌*◌, ◌<◌, ◌≤◌, min, map, IfOk, OnOk};
 ghost use Rattle.lt_gen.specs.Script.{buy_items, buyer, group_at, numbers};
 
 use crate::draws::Draws;

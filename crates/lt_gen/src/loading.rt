@@ -1,5 +1,5 @@
 //! Programs that load a row for each item.
-ghost use Rattle.std.specs.Prelude.{◌≡◌, ◌+◌, ◌-◌, ◌*◌, ◌/◌, ◌^◌, ◌<◌, ◌≤◌, min, map, IfOk, OnOk};
+ghost use Rattle.std.specs.Prelude.{◌≡◌, ◌+◌, ◌-◌, ◌*◌, ◌<◌, ◌≤◌, min, map, IfOk, OnOk};
 ghost use Rattle.lt_gen.specs.Programs.{load};
 ghost use Rattle.lt_gen.specs.Script.{group_at, groups, numbers, stock_of};
 

@@ -1,5 +1,5 @@
 //! The generated script.
-ghost use Rattle.std.specs.Prelude.{◌≡◌, ◌≤◌, ◌++◌, ◌∷◌, [], length, IfOk, OnOk};
+ghost use Rattle.std.specs.Prelude.{◌≡◌, ◌≤◌, ◌∷◌, [], length, IfOk};
 ghost use Rattle.std.specs.List.{AllByRecursion};
 ghost use Rattle.lt_model.specs.Limits.{IsWithinLimits};
 ghost use Rattle.lt_gen.specs.Script.{bench_items, sale_item, stock_item};

@@ -1,6 +1,5 @@
 //! The lines of a summary.
-ghost use Rattle.std.specs.Prelude.{◌≡◌, ◌++◌, ◌∷◌, [], codes, decimal};
-ghost use Rattle.std.specs.Fmt.{signed_decimal};
+ghost use Rattle.std.specs.Prelude.{◌∷◌, []};
 ghost use Rattle.lt_model.specs.Report.{line as line_of};
 ghost use Rattle.lt_report.specs.Puts.{Puts};
 ghost use Rattle.lt_gen.specs.Summaries.{count_text, counts_text, reads_text, sums_text, summary_text};

@@ -23,7 +23,7 @@ use Rattle.lt_model.specs.declared.syntax.Op.TheVariants.{Eq, Ne, Lt, Le, Gt, Ge
 use Rattle.lt_grammar.specs.Grammar.{Term, name, numeral, quoted, Head, Literal, atom, absent, compare, sum, IsLiteral, IsWhere, term_tokens, op_token, plus_token, literal_tokens, where_tokens}
 use Rattle.lt_grammar.specs.Productions.{is_word, name_at, constant_at, term_at, starts_term, terms_at, other_ops, all_ops, other_op_at, op_at, plus_table, plus_at, is_plus, is_left_paren, is_equals, Rest, equation_at, rest_at, is_not, starts_literal, head_at, literal_of, literal_at, body_at, is_where, where_of, where_at}
 use Rattle.lt_grammar.proofs.Shapes.{marks, blamed, same_shape_is}
-use Rattle.lt_grammar.proofs.Terms.{Names, names_read, Constants, constants_read, constants_no_word, constant_term, Terms, terms_read, terms_begin, terms_start, Arguments, arguments_read, Heads_, heads_read}
+use Rattle.lt_grammar.proofs.Terms.{Names, names_read, Constants, constants_read, constants_no_word, constant_term, Terms, terms_read, terms_start, Arguments, arguments_read, Heads_, heads_read}
 
 -- ---- signs of comparisons and sums
 

@@ -1,5 +1,5 @@
 -- The gaps that a level's join noted are kept iterator by iterator.
-use Rattle.std.specs.Prelude.{◌≡◌, ℕ, zero, suc, ◌+◌, ◌<◌, ◌≤◌, nat_lt, ◌==◌, ◌&&◌, Bool, true, false, List, [], ◌∷◌, ◌++◌, map, filter, length, slice_get, Some}
+use Rattle.std.specs.Prelude.{◌≡◌, ℕ, suc, ◌+◌, ◌<◌, ◌≤◌, nat_lt, ◌==◌, true, false, List, [], ◌∷◌, ◌++◌, map, filter, length, slice_get, Some}
 use Rattle.std.specs.List.{AllByRecursion, AllZip}
 use Rattle.std.proofs.Common.{refl, sym, ap, ◌∙◌, subst, inl, inr, cond, arith, get_or}
 use Rattle.std.proofs.lemmas.Bool.{ne_eqb, eqb-true, true≢false, eq-eqb, or_left, and_parts, ltb-true, lt-ltb, cases_lt, cases_Bool}
@@ -29,7 +29,7 @@ use Rattle.lt_join.specs.Explored.{prefix_at}
 use Rattle.lt_join.specs.Walked.{at, Grows}
 use Rattle.lt_join.specs.Holders.{Holder, OfAtom, OfKey, IsOver, IsLeaperOf, IsKept, IsNotedKept, AreUnder, AreKept, holders_at}
 use Rattle.lt_join.proofs.Steps.{Grows-chain}
-use Rattle.lt_join.proofs.Opening.{AddsGap, GapAdded, gap_added, Grows-none, IsKept-grows, under_none, under_chain}
+use Rattle.lt_join.proofs.Opening.{AddsGap, gap_added, Grows-none, IsKept-grows, under_none, under_chain}
 use Rattle.lt_join.proofs.Noting.{leaper_at, atom_of, get_same, keys_at-map, keys_opened, key_of_alone}
 
 -- ---- counts

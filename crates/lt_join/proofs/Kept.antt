@@ -1,21 +1,16 @@
 -- What stays true of a requirement where the states agree.
-use Rattle.std.specs.Prelude.{◌≡◌, ℕ, zero, suc, ◌+◌, Bool, true, false, ◌&&◌, ◌||◌, ◌==◌, List, [], ◌∷◌, if◌then◌else◌}
-use Rattle.std.specs.List.{list_any, list_all}
-use Rattle.std.proofs.Common.{refl, sym, ap, ◌∙◌, subst, inl, inr, cond, arith}
-use Rattle.std.proofs.lemmas.Bool.{and_parts, and_from, cases_Bool, eqb-true, eq-eqb, true≢false, and_cases}
-use Rattle.lt_model.specs.declared.normal.Atom.{Atom}
+use Rattle.std.specs.Prelude.{◌≡◌, true, false}
+use Rattle.std.proofs.Common.{sym, ◌∙◌, inl, inr}
+use Rattle.std.proofs.lemmas.Bool.{cases_Bool, true≢false}
 use Rattle.lt_model.specs.declared.normal.Body.{Body}
 use Rattle.lt_sense.specs.Kept.{Sense}
-use Rattle.lt_face.specs.Lists.{IsIn}
-use Rattle.lt_face.specs.State.{Row, State, row_eq}
-use Rattle.lt_model.specs.Answers.{Assignment, some_answer, fits_pick, assignment_of, holds, passes, cells_of, rows_under, picks}
-use Rattle.lt_model.specs.Cells.{is_cell}
+use Rattle.lt_face.specs.State.{State}
+use Rattle.lt_model.specs.Answers.{some_answer}
 use Rattle.lt_query.specs.Answering.{AreTestsBound}
-use Rattle.lt_face.specs.State.{AgreeOn}
-use Rattle.lt_sense.specs.Sense.{AgreeWhereCovered, covers}
+use Rattle.lt_sense.specs.Sense.{AgreeWhereCovered}
 use Rattle.lt_join.specs.Certify.{Witnesses, Vouches}
 use Rattle.lt_query.proofs.Given.{some_answer-satisfied}
-use Rattle.lt_join.proofs.Repair.{answers_same, some_answer_same, Certifies-moved, Witnesses-moved, IsTight-moved, list_any_of, Stands-from_met, Lacks-from_missed}
+use Rattle.lt_join.proofs.Repair.{some_answer_same, Certifies-moved, Witnesses-moved, Stands-from_met, Lacks-from_missed}
 
 -- one assignment that holds and stands makes it true
 pub some_answer-from_witness : (sense : Sense) (body : Body) (state : State) → AreTestsBound body → Witnesses sense body state → some_answer body state ≡ true

@@ -1,7 +1,7 @@
 -- Absent rows that lie in gaps, or are hits.
 use Rattle.std.specs.Prelude.{◌≡◌, ℕ, Bool, true, ◌==◌, List, [], ◌∷◌}
 use Rattle.std.specs.List.{AllByRecursion, list_all, list_any}
-use Rattle.std.proofs.Common.{refl, sym, ap, ◌∙◌, subst, inl, inr}
+use Rattle.std.proofs.Common.{sym, ◌∙◌, subst, inl, inr}
 use Rattle.std.proofs.lemmas.Bool.{and_parts, eqb-true, or_left, true≢false}
 use Rattle.lt_face.specs.Lists.{AnyByRecursion}
 use Rattle.lt_face.specs.State.{Row, State, Has, permuted}

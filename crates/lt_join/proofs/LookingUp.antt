@@ -1,13 +1,13 @@
 -- Rows that are looked up.
 use Rattle.std.specs.Prelude.{◌≡◌, ℕ, zero, suc, ◌+◌, ◌-◌, ◌<◌, ◌≤◌, ◌^◌, Bool, true, false, ◌==◌, ◌&&◌, nat_lt, nat_le, if◌then◌else◌, List, [], ◌∷◌, ◌++◌, map, length, slice_index, take, Option, Some, None, option_and_then, unwrap_or}
-use Rattle.std.specs.List.{AllByRecursion, AllZip, list_all}
+use Rattle.std.specs.List.{AllByRecursion, AllZip}
 use Rattle.std.specs.Option.{option_to_list}
 use Rattle.std.proofs.Common.{refl, sym, ap, ◌∙◌, subst, inl, inr, cond, arith, get_or}
 use Rattle.std.proofs.lemmas.Bool.{and_parts, and_from, eqb-true, eq-eqb, leb-true, ltb-true, le-leb, lt-ltb, cases_Bool, true≢false}
-use Rattle.std.proofs.lemmas.List.{map-append, length-map, take_more, append-nil}
+use Rattle.std.proofs.lemmas.List.{map-append, take_more, append-nil}
 use Rattle.lt_face.specs.Lists.{IsIn, AnyByRecursion}
-use Rattle.lt_face.specs.Rows.{IsCell, has_row}
-use Rattle.lt_face.specs.State.{Row, State, Has, IsIndexOf, permuted}
+use Rattle.lt_face.specs.Rows.{has_row}
+use Rattle.lt_face.specs.State.{Row, State, Has, permuted}
 use Rattle.lt_face.proofs.Membership.{IsIn-append_left, IsIn-append_right}
 use Rattle.lt_model.specs.declared.normal.Term.{Term}
 use Rattle.lt_model.specs.declared.normal.Term.TheVariants.{Var, Cell}
@@ -19,7 +19,7 @@ use Rattle.lt_model.specs.declared.normal.Body.{Body}
 use Rattle.lt_model.specs.Answers.{Assignment, Values, cell_of, cells_of, or_else, term_value, give_value, give, give_all}
 use Rattle.lt_model.specs.Bound.{is_var}
 use Rattle.lt_model.specs.Cells.{is_cell, last_int, int_or_none, sum_of}
-use Rattle.lt_model.specs.Fits.{IsTermOf, test_terms}
+use Rattle.lt_model.specs.Fits.{IsTermOf}
 use Rattle.lt_query.specs.Lists.{below}
 use Rattle.lt_query.specs.declared.plans.Level.{Level}
 use Rattle.lt_query.specs.Plan.{Keys}
@@ -30,12 +30,11 @@ use Rattle.lt_sense.specs.Kept.{Sense}
 use Rattle.lt_sense.specs.Sense.{IsTight, gap_covers, lies_in}
 use Rattle.lt_join.specs.Certify.{IsGapped, IsHitOf}
 use Rattle.lt_join.specs.Cost.{GainsFewer}
-use Rattle.lt_join.specs.Holders.{IsLookUpFor, IsLookUpOf}
+use Rattle.lt_join.specs.Holders.{IsLookUpFor}
 use Rattle.lt_join.specs.LookUp.{LookUpView}
 use Rattle.lt_join.specs.Values.{IsTest}
 use Rattle.lt_join.specs.Walked.{at, value_from, leaf_assignment, Grows}
-use Rattle.lt_join.proofs.Repair.{All_of, All_at, GapIsTight}
-use Rattle.lt_join.proofs.Looked.{gaps_grow}
+use Rattle.lt_join.proofs.Repair.{GapIsTight}
 
 -- ---- columns in their own order
 

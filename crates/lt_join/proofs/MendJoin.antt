@@ -1,5 +1,5 @@
 -- Slices of touched keys, joined anew.
-use Rattle.std.specs.Prelude.{◌≡◌, ℕ, zero, suc, ◌+◌, ◌^◌, ◌<◌, ◌≤◌, nat_lt, true, ◌==◌, if◌then◌else◌, List, [], ◌∷◌, ◌++◌, length, take, slice_get, Some, ◌⊎◌}
+use Rattle.std.specs.Prelude.{◌≡◌, ℕ, zero, suc, ◌+◌, ◌^◌, ◌<◌, ◌≤◌, nat_lt, true, ◌==◌, if◌then◌else◌, List, [], ◌∷◌, ◌++◌, length, take, slice_get, Some}
 use Rattle.std.specs.List.{AllByRecursion, list_all, sum_by}
 use Rattle.std.proofs.Common.{refl, sym, ap, ◌∙◌, subst, inl, inr, arith, get_or}
 use Rattle.std.proofs.lemmas.Bool.{and_parts, and_from, eq-eqb, ltb-true, lt-ltb, true≢false}
@@ -7,7 +7,6 @@ use Rattle.std.proofs.lemmas.List.Sums.{sum_by-cons, sum_by-append}
 use Rattle.lt_face.specs.Lists.{IsIn, AnyByRecursion}
 use Rattle.lt_face.specs.Rows.{IsCell}
 use Rattle.lt_face.specs.State.{Row, State}
-use Rattle.lt_face.proofs.RowLemmas.{each_weaker}
 use Rattle.lt_model.specs.declared.normal.Term.{Term}
 use Rattle.lt_model.specs.declared.normal.Term.TheVariants.{Var, Cell}
 use Rattle.lt_model.specs.declared.normal.Body.{Body}
@@ -17,7 +16,7 @@ use Rattle.lt_model.specs.Fits.{IsTermOf, IsBodyOf}
 use Rattle.lt_query.proofs.Given.{IsAnswer-from_answers}
 use Rattle.lt_query.specs.declared.plans.Level.{Level}
 use Rattle.lt_query.specs.declared.plans.Plan.{Plan}
-use Rattle.lt_query.specs.Plan.{term_at, IsPinOf, IsDetermined, IsLevelOf, IsPlanOf}
+use Rattle.lt_query.specs.Plan.{term_at, IsDetermined, IsLevelOf, IsPlanOf}
 use Rattle.lt_query.specs.Runnable.{IsRunnable}
 use Rattle.lt_sense.specs.Kept.{Sense}
 use Rattle.lt_sense.specs.Sense.{IsTight}
@@ -27,7 +26,7 @@ use Rattle.lt_join.specs.Cost.{bound}
 use Rattle.lt_join.specs.Holders.{IsPrepared}
 use Rattle.lt_join.specs.MendedPlan.{pinned_plan, MayPin, IsForbidden, first_admits, slice_cost, mending_cost}
 use Rattle.lt_join.specs.Sliced.{pinned, slice_keys, IsSliceOf}
-use Rattle.lt_join.proofs.Opening.{take_more, take_all}
+use Rattle.lt_join.proofs.Opening.{take_more}
 use Rattle.lt_join.proofs.Pinned.{holds_pinned}
 use Rattle.lt_join.proofs.PinnedPlan.{IsRunnable-pinned, variables_pinned}
 use Rattle.lt_join.proofs.Prepared.{IsPrepared-from}

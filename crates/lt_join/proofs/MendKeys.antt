@@ -1,6 +1,6 @@
 -- The touched keys, gathered.
-use Rattle.std.specs.Prelude.{◌≡◌, ℕ, zero, suc, ◌+◌, ◌<◌, ◌≤◌, Bool, true, false, filter, ◌==◌, nat_eq, List, [], ◌∷◌, ◌++◌, length, take, map, nat_le, nat_lt, slice_get, slice_index, Some, None, ◌⊎◌}
-use Rattle.std.specs.List.{AllByRecursion, dedup, dedup_from, list_any}
+use Rattle.std.specs.Prelude.{◌≡◌, ℕ, zero, suc, ◌+◌, ◌<◌, ◌≤◌, Bool, true, false, filter, ◌==◌, nat_eq, List, [], ◌∷◌, ◌++◌, length, take, slice_get, slice_index, Some, None, ◌⊎◌}
+use Rattle.std.specs.List.{dedup, dedup_from, list_any}
 use Rattle.std.specs.List.Retain.{IsFiltered, DiffersFromLast}
 use Rattle.std.specs.List.Sorted.{IsPermutation, IsSorted, IsStrictlySortedBy}
 use Rattle.std.specs.Ordering.{nat_cmp}
@@ -25,7 +25,7 @@ use Rattle.lt_sense.specs.Sense.{lies_in, covers, gap_covers, hit_covers}
 use Rattle.lt_sense.specs.Spots.{AreUncovered}
 use Rattle.lt_join.specs.declared.slicing.Slice.{Slice}
 use Rattle.lt_join.specs.Mended.{LiesAt, Touches, HaveTouched}
-use Rattle.lt_join.specs.MendedKeys.{IsDisturbed, IsSliceTouched, IsRowLying, IsRootTouched, IsTouched, AreTouched, NameCovered, GainsJust, HaveSame}
+use Rattle.lt_join.specs.MendedKeys.{IsDisturbed, IsSliceTouched, IsRowLying, IsRootTouched, AreTouched, NameCovered, GainsJust, HaveSame}
 use Rattle.lt_join.specs.Sliced.{united}
 use Rattle.lt_join.proofs.Spotted.{covered_root, covered_slice}
 use Rattle.lt_join.proofs.Opening.{take_more, take_all}

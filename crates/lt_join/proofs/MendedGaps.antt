@@ -1,8 +1,8 @@
 -- Gaps cut at keys.
 use Rattle.std.specs.Prelude.{◌≡◌, ℕ, ◌+◌, ◌<◌, ◌≤◌, true, false, ◌&&◌, nat_lt, nat_le, List, [], ◌∷◌, filter, ◌⊎◌}
 use Rattle.std.specs.List.{flat_map}
-use Rattle.std.proofs.Common.{refl, sym, ap, ◌∙◌, subst, inl, inr, arith, cond}
-use Rattle.std.proofs.lemmas.Bool.{and_parts, and_from, leb-true, ltb-true, le-leb, lt-ltb, cases_order, cases_lt, true≢false}
+use Rattle.std.proofs.Common.{refl, sym, ◌∙◌, subst, inl, inr, arith, cond}
+use Rattle.std.proofs.lemmas.Bool.{and_parts, and_from, leb-true, ltb-true, le-leb, lt-ltb, cases_order, true≢false}
 use Rattle.lt_face.specs.Lists.{IsIn}
 use Rattle.lt_face.proofs.Membership.{IsIn-flat_map, IsIn-flat_map_from}
 use Rattle.lt_query.proofs.Distinct.{IsIn-filter, IsIn-filter_from}

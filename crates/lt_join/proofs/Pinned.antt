@@ -1,6 +1,6 @@
 -- A body with a term pinned to a key.
 use Rattle.std.specs.Prelude.{◌≡◌, ℕ, ◌<◌, Bool, true, false, ◌&&◌, ◌||◌, ◌==◌, List, [], ◌∷◌, length}
-use Rattle.std.specs.List.{list_all, list_any, AllByRecursion, AllZip}
+use Rattle.std.specs.List.{list_all, AllZip}
 use Rattle.std.proofs.Common.{refl, sym, ap, ◌∙◌, subst, inl, inr}
 use Rattle.std.proofs.lemmas.Bool.{and_parts, and_from, eqb-true, eq-eqb}
 use Rattle.lt_face.specs.Lists.{IsIn}
@@ -18,8 +18,6 @@ use Rattle.lt_model.specs.Cells.{is_cell}
 use Rattle.lt_model.specs.Bound.{is_var, stands, is_known, know, know_all, is_bound, are_bound}
 use Rattle.lt_model.specs.Fits.{test_terms}
 use Rattle.lt_query.specs.Answering.{AreTestsBound}
-use Rattle.lt_query.specs.declared.plans.Level.{Level}
-use Rattle.lt_query.specs.declared.plans.Guide.{Guide}
 use Rattle.lt_query.specs.declared.plans.Plan.{Plan}
 use Rattle.lt_query.specs.Plan.{term_at, IsGuideOf, IsPlanOf}
 use Rattle.lt_query.proofs.Given.{know_all_keeps}

@@ -2,13 +2,13 @@
 use Rattle.std.specs.Prelude.{◌≡◌, Bool, true, false, List, [], ◌∷◌}
 use Rattle.std.specs.List.{AllByRecursion, list_any, filter_map}
 use Rattle.std.proofs.Common.{refl, sym, ap, ◌∙◌, subst, inl, inr}
-use Rattle.std.proofs.lemmas.Bool.{and_parts, and_from, eq-eqb, true≢false, cases_Bool, or_cases, or_left, or_right}
+use Rattle.std.proofs.lemmas.Bool.{and_from, eq-eqb, true≢false, cases_Bool, or_cases, or_left, or_right}
 use Rattle.lt_model.specs.declared.normal.Term.{Term}
 use Rattle.lt_model.specs.declared.normal.Atom.{Atom}
 use Rattle.lt_model.specs.declared.normal.Body.{Body}
 use Rattle.lt_face.specs.Lists.{IsIn}
 use Rattle.lt_face.specs.State.{Row, State, row_eq}
-use Rattle.lt_model.specs.Answers.{Assignment, cells_of, holds, rows_under, picks, assignment_of, answer_of, answers, fits_pick, some_answer, rows_eq}
+use Rattle.lt_model.specs.Answers.{Assignment, cells_of, holds, picks, assignment_of, answer_of, answers, some_answer}
 use Rattle.lt_sense.specs.Kept.{Sense}
 use Rattle.lt_sense.specs.declared.covering.KeptGap.{KeptGap}
 use Rattle.lt_sense.specs.declared.covering.Hit.{Hit}

@@ -2,7 +2,7 @@
 use Rattle.std.specs.Prelude.{◌≡◌, ℕ, ◌<◌, Bool, true, false, List, [], ◌∷◌, length}
 use Rattle.std.specs.List.{AllByRecursion}
 use Rattle.std.proofs.Common.{refl, sym, ◌∙◌, subst, inl, inr, arith}
-use Rattle.std.proofs.lemmas.Bool.{and_parts, cases_Bool, true≢false}
+use Rattle.std.proofs.lemmas.Bool.{cases_Bool, true≢false}
 use Rattle.lt_model.specs.declared.normal.Term.{Term}
 use Rattle.lt_model.specs.declared.normal.Body.{Body}
 use Rattle.lt_query.specs.declared.plans.Plan.{Plan}
@@ -10,14 +10,13 @@ use Rattle.lt_sense.specs.Kept.{Sense}
 use Rattle.lt_join.specs.declared.Found.{Found}
 use Rattle.lt_face.specs.Lists.{IsIn}
 use Rattle.lt_face.specs.State.{Row, State}
-use Rattle.lt_model.specs.Answers.{Assignment, rows_under, rows_eq, holds, picks, fits_pick, assignment_of, some_answer}
+use Rattle.lt_model.specs.Answers.{some_answer}
 use Rattle.lt_query.specs.Answering.{AreTestsBound}
 use Rattle.lt_query.specs.Answering.{IsAnswer}
 use Rattle.lt_join.specs.Certify.{IsWitness, Witnesses, Vouches}
 use Rattle.lt_query.specs.Plan.{IsPlanOf}
 use Rattle.lt_join.specs.Walked.{at, IsRight, IsExploredBelow}
 use Rattle.lt_query.proofs.Given.{IsSatisfied-from_some}
-use Rattle.lt_join.proofs.Repair.{list_any_from}
 use Rattle.lt_join.proofs.Kept.{some_answer-from_witness}
 use Rattle.lt_join.proofs.Leaves.{collected}
 use Rattle.lt_join.proofs.Steps.{found_all}

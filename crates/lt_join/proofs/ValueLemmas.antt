@@ -1,19 +1,13 @@
 -- Values of variables, given one after another.
-use Rattle.std.specs.Prelude.{◌≡◌, ℕ, zero, suc, ◌+◌, ◌-◌, ◌^◌, ◌<◌, ◌≤◌, Bool, true, false, ◌&&◌, ◌==◌, nat_lt, nat_le, List, [], ◌∷◌, ◌++◌, map, length, take, Option, Some, None, replicate}
-use Rattle.std.specs.List.{AllByRecursion, slice_index_or, list_all}
-use Rattle.std.proofs.Common.{refl, sym, ap, ◌∙◌, subst, inl, inr, cond, arith, get_or}
-use Rattle.std.proofs.lemmas.Bool.{and_parts, and_from, leb-true, eqb-true, eq-eqb, cases_Bool, true≢false}
-use Rattle.lt_model.specs.declared.normal.Term.{Term}
+use Rattle.std.specs.Prelude.{◌≡◌, ℕ, ◌+◌, ◌-◌, true, false, ◌==◌, List, [], ◌∷◌, ◌++◌, map, length, Some, None}
+use Rattle.std.proofs.Common.{refl, sym, ap, ◌∙◌, subst, inl, inr, cond, arith}
+use Rattle.std.proofs.lemmas.Bool.{eqb-true, eq-eqb, cases_Bool, true≢false}
 use Rattle.lt_model.specs.declared.normal.Term.TheVariants.{Var, Cell}
-use Rattle.lt_model.specs.declared.syntax.Op.TheVariants.{Eq, Ne, Lt, Le, Gt, Ge}
-use Rattle.lt_model.specs.declared.normal.Test.{Test}
-use Rattle.lt_model.specs.declared.normal.Test.TheVariants.{Cmp, Sum}
 use Rattle.lt_query.specs.declared.plans.Level.{Level}
-use Rattle.lt_model.specs.Answers.{Values, or_else, give_value, give, give_all, term_value}
-use Rattle.lt_model.specs.Cells.{sum_of, int_or_none, zero_cell}
+use Rattle.lt_model.specs.Answers.{or_else, give_value}
 use Rattle.lt_model.specs.Bound.{is_var}
 use Rattle.lt_query.specs.Plan.{Keys}
-use Rattle.lt_join.specs.Walked.{at, value_from}
+use Rattle.lt_join.specs.Walked.{value_from}
 
 eqb_back : (u w : ℕ) → (u == w) ≡ (w == u)
 eqb_back u w =

@@ -18,7 +18,7 @@ use Rattle.lt_sense.specs.Kept.{Sense}
 use Rattle.lt_sense.specs.declared.covering.Hit.{Hit}
 use Rattle.lt_sense.specs.Sense.{covers, lies_in, IsTight}
 use Rattle.lt_face.specs.State.{permuted, Has}
-use Rattle.lt_join.specs.Certify.{IsMet, IsMissed, Certifies}
+use Rattle.lt_join.specs.Certify.{IsMet, IsMissed}
 use Rattle.lt_face.specs.Lists.{AnyByRecursion}
 use Rattle.lt_query.specs.declared.plans.Level.{Level}
 use Rattle.lt_query.specs.declared.plans.Guide.{Guide}

@@ -1,7 +1,6 @@
 -- The moves of a level so far, also where memory is refused.
 use Rattle.std.specs.Prelude.{◌≡◌, ℕ, zero, suc, ◌+◌, ◌*◌, ◌<◌, ◌≤◌, true, false, take, List, [], ◌∷◌, ◌++◌, map, filter, length}
-use Rattle.std.specs.List.{AllZip}
-use Rattle.std.proofs.Common.{ap, ◌∙◌, subst, cond, arith, get_or}
+use Rattle.std.proofs.Common.{ap, ◌∙◌, cond, arith, get_or}
 use Rattle.std.proofs.Math.Nat.{mul-le-mul_left}
 use Rattle.lt_face.specs.State.{State}
 use Rattle.lt_query.specs.declared.plans.Guide.{Guide}
@@ -17,7 +16,7 @@ use Rattle.lt_join.specs.Cost.{iterators_at}
 use Rattle.lt_join.specs.Walked.{at}
 use Rattle.lt_join.specs.Holders.{OfAtom, OfKey, IsLeaperOf, AreOpened, atoms_at, holders_at, alone}
 use Rattle.lt_join.proofs.Opening.{zip_long, take_more, atoms_more}
-use Rattle.lt_join.proofs.Levels.{length_append, length_map, holder_keys, iterators_are, lists_same, cost-least, SameKeys, AreLeapers-of}
+use Rattle.lt_join.proofs.Levels.{length_append, length_map, holder_keys, iterators_are, lists_same, cost-least, AreLeapers-of}
 
 atoms_take : (guides : List Guide) (l i : ℕ) → length (atoms_at (take i guides) l) ≤ length (atoms_at guides l)
 atoms_take [] l zero = omega arith

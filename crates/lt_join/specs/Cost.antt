@@ -1,6 +1,6 @@
 -- How many moves a join may take.
-use Rattle.std.specs.Prelude.{◌≡◌, ◌<◌, ◌≤◌, ◌-◌, ◌^◌, ℕ, ◌+◌, ◌*◌, Bool, ◌==◌, nat_lt, List, [], ◌∷◌, ◌++◌, map, filter, length, if◌then◌else◌}
-use Rattle.std.specs.List.{list_any, list_all, filter_map, sum_by}
+use Rattle.std.specs.Prelude.{◌≡◌, ◌<◌, ◌≤◌, ◌-◌, ◌^◌, ℕ, ◌+◌, List, [], ◌∷◌, ◌++◌, map, filter, length, if◌then◌else◌}
+use Rattle.std.specs.List.{filter_map, sum_by}
 use Rattle.lt_leap.specs.Common.{has_key, common_keys}
 use Rattle.lt_leap.specs.Potential.{join_cost}
 use Rattle.lt_trie.specs.Under.{next_cell}

@@ -1,5 +1,5 @@
 //! What the keys of all levels give.
-ghost use Rattle.std.specs.Prelude.{◌≡◌, ℕ, ◌≤◌, true, length, Some, None, if◌then◌else◌};
+ghost use Rattle.std.specs.Prelude.{◌≡◌, ◌≤◌, length, Some, None, if◌then◌else◌};
 ghost use Rattle.std.specs.List.{AllByRecursion, list_all};
 ghost use Rattle.lt_face.specs.Limits.{most_columns, most_variables};
 ghost use Rattle.lt_model.specs.Answers.{cells_of, passes};

@@ -1,5 +1,5 @@
 //! One level of a walk: its iterators are opened, and joined by a leapfrog.
-ghost use Rattle.std.specs.Prelude.{◌≡◌, ℕ, ◌+◌, ◌<◌, ◌≤◌, ◌++◌, ◌-◌, ◌^◌, length, map, IfOk, OnOk};
+ghost use Rattle.std.specs.Prelude.{◌≡◌, ◌+◌, ◌<◌, ◌≤◌, ◌++◌, ◌-◌, ◌^◌, length, map, IfOk, OnOk};
 ghost use Rattle.std.specs.List.{AllByRecursion, AllZip};
 ghost use Rattle.lt_face.specs.Keys.{end_key};
 ghost use Rattle.lt_sense.specs.Sense.{IsTight};

@@ -1,6 +1,5 @@
 //! A body and a plan with one condition more: the first level's term is a key.
-ghost use Rattle.std.specs.Prelude.{◌≡◌, ◌++◌, ◌∷◌, [], ◌==◌, if◌then◌else◌, IfOk};
-ghost use Rattle.lt_model.specs.declared.normal.Test.{Test as TestView};
+ghost use Rattle.std.specs.Prelude.{◌≡◌, ◌∷◌, [], ◌==◌, if◌then◌else◌, IfOk};
 ghost use Rattle.lt_join.specs.MendedPlan.{pinned_levels, pinned_plan};
 ghost use Rattle.lt_join.specs.Sliced.{pinned};
 

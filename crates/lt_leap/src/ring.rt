@@ -1,7 +1,6 @@
 //! The ring of iterators, in which the one with the least key seeks the greatest.
-ghost use Rattle.std.specs.Prelude.{◌≡◌, ◌≢◌, ◌<◌, ◌≤◌, ◌+◌, ◌^◌, [], ◌∷◌, ◌++◌, length, map, slice_index, slice_set, take, drop, vec_len, OnOk, OnErr, IfOk, ◌-◌, ℕ};
+ghost use Rattle.std.specs.Prelude.{◌≡◌, ◌≢◌, ◌<◌, ◌≤◌, ◌+◌, ◌^◌, ◌++◌, length, map, slice_index, slice_set, take, drop, vec_len, OnOk, OnErr, IfOk, ◌-◌, ℕ};
 ghost use Rattle.lt_face.specs.Keys.{end_key, least_from};
-ghost use Rattle.lt_face.specs.Noted.{Gains};
 ghost use Rattle.lt_leap.specs.Common.{common_keys};
 ghost use Rattle.lt_leap.specs.Moves.{IsMove, AreMade, IsGivenUp};
 ghost use Rattle.lt_leap.specs.Potential.{moves_left};

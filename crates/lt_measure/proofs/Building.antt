@@ -1,10 +1,9 @@
 -- A row above all others goes to the end.
 use Rattle.std.proofs.Common.{◌≡◌, ℕ, ◌+◌, ◌<◌, ◌^◌, List, [], ◌∷◌, ◌++◌, refl, arith}
-use Rattle.std.specs.List.{AllByRecursion}
 use Rattle.std.specs.declared.cmp.Ordering.TheVariants.{Less, Equal}
 use Rattle.std.specs.Ordering.{nat_cmp}
 use Rattle.std.proofs.lemmas.Bool.Decides.{nat_tests}
-use Rattle.lt_face.specs.Rows.{row_cmp, IsRow, IsAscending}
+use Rattle.lt_face.specs.Rows.{row_cmp, IsRow}
 use Rattle.lt_face.proofs.AboveLast.{each-append, ascending-append}
 use Rattle.lt_face.proofs.RowLemmas.{rows_total, each_weaker}
 use Rattle.lt_measure.specs.Built.{IsBuilt}

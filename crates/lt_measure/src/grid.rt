@@ -1,5 +1,5 @@
 //! The rows that are searched.
-ghost use Rattle.std.specs.Prelude.{◌≡◌, IfOk, OnOk};
+ghost use Rattle.std.specs.Prelude.{IfOk, OnOk};
 ghost use Rattle.lt_face.specs.Rows.{IsRowSet};
 ghost use Rattle.lt_measure.specs.Built.{IsBuilt};
 

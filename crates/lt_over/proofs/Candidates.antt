@@ -1,20 +1,20 @@
 -- Searches of rows under layers of edits.
-use Rattle.std.proofs.Common.{◌≡◌, ℕ, zero, suc, ◌+◌, ◌<◌, ◌≤◌, Bool, true, false, cond, not, ◌&&◌, ◌||◌, List, [], ◌∷◌, ◌++◌, length, Option, Some, None, refl, sym, ap, ◌∙◌, subst, arith}
+use Rattle.std.proofs.Common.{◌≡◌, ℕ, ◌+◌, ◌<◌, Bool, true, false, cond, not, ◌&&◌, ◌||◌, List, [], ◌∷◌, ◌++◌, length, Option, Some, None, refl, sym, ap, ◌∙◌, arith}
 use Rattle.std.specs.Prelude.{find, filter}
 use mathlib.Core.Bool.{true≢false}
 use Rattle.std.specs.List.{AllByRecursion}
 use Rattle.std.specs.Ordering.{is_lt, is_eq}
 use Rattle.std.specs.declared.cmp.Ordering.{Ordering}
 use Rattle.std.specs.declared.cmp.Ordering.TheVariants.{Less, Equal, Greater}
-use Rattle.lt_face.specs.Rows.{row_cmp, IsRow, IsRowSet, IsAscending, has_row, first_from, first_above}
+use Rattle.lt_face.specs.Rows.{row_cmp, IsRow, IsRowSet, IsAscending, has_row}
 use Rattle.lt_face.specs.State.{Row}
-use Rattle.lt_face.proofs.RowLemmas.{rows_exact, cmp_itself, less_back, each_weaker, greater_back}
+use Rattle.lt_face.proofs.RowLemmas.{rows_exact, cmp_itself, less_back, greater_back}
 use Rattle.lt_face.proofs.Walked.{each_has}
 use Rattle.lt_face.proofs.Above.{find_agree, from_above}
 use Rattle.lt_model.proofs.Laws.{itself, same_is}
 use Rattle.lt_over.specs.Overlaid.{overlaid, stays, is_reached}
 use Rattle.lt_over.specs.Candidates.{IsAhead, IsCandidate, IsRising, above, from}
-use Rattle.lt_over.proofs.Firsts.{found_has, found_passes, found_each, above_up, from_up, up_from, le_filter}
+use Rattle.lt_over.proofs.Firsts.{found_has, found_passes, above_up, from_up, le_filter}
 use Rattle.lt_over.proofs.Overlays.{has-overlaid}
 
 -- ---- tests

@@ -1,18 +1,15 @@
 -- The regions around rows, gap by gap.
-use Rattle.std.proofs.Common.{◌≡◌, ℕ, zero, suc, ◌+◌, ◌-◌, ◌≤◌, ◌<◌, true, false, List, [], ◌∷◌, ◌++◌, length, get_or, refl, sym, ap, subst, ◌∙◌, arith, inl, inr}
+use Rattle.std.proofs.Common.{◌≡◌, ℕ, zero, suc, ◌+◌, ◌-◌, ◌≤◌, ◌<◌, true, [], ◌∷◌, length, sym, subst, ◌∙◌, arith, inl, inr}
 use Rattle.std.specs.Prelude.{take, slice_index, ◌⊎◌, ◌^◌}
 use Rattle.std.specs.List.{AllByRecursion}
-use Rattle.std.specs.declared.cmp.Ordering.{Ordering}
 use Rattle.std.specs.declared.cmp.Ordering.TheVariants.{Less, Equal, Greater}
 use Rattle.std.proofs.lemmas.Bool.{cases_lt}
-use Rattle.std.proofs.lemmas.List.{take_all}
-use Rattle.lt_face.specs.Lists.{IsIn}
-use Rattle.lt_face.specs.Rows.{row_cmp, IsAscending}
+use Rattle.lt_face.specs.Rows.{row_cmp}
 use Rattle.lt_face.specs.State.{Row}
-use Rattle.lt_face.proofs.RowLemmas.{rows_exact, cmp_itself, greater_back, less_back, below_all, ascending_at}
+use Rattle.lt_face.proofs.RowLemmas.{cmp_itself, less_back, below_all}
 use Rattle.lt_sense.specs.Sense.{lies_in}
-use Rattle.lt_program.specs.Displacing.{IsBeside, Above, Below, Between, AboveIn, BelowIn, Lacking}
-use Rattle.lt_program.proofs.FirstCells.{differs, less_by, fewer, one_more, cell_of_first, lies_of, lies_from}
+use Rattle.lt_program.specs.Displacing.{IsBeside, Above, Below, Between, AboveIn, BelowIn}
+use Rattle.lt_program.proofs.FirstCells.{differs, less_by, fewer, cell_of_first, lies_of, lies_from}
 
 -- ---- the order of rows
 

@@ -1,18 +1,17 @@
 -- What the look-up of a row's key gives.
-use Rattle.std.proofs.Common.{◌≡◌, ℕ, zero, suc, ◌+◌, ◌-◌, ◌≤◌, ◌<◌, Bool, true, false, cond, List, [], ◌∷◌, ◌++◌, map, length, get_or, refl, sym, ap, subst, ◌∙◌, arith, inl, inr}
-use Rattle.std.specs.Prelude.{take, filter, not, ◌^◌, nat_lt, ◌&&◌, ◌⊎◌}
+use Rattle.std.proofs.Common.{◌≡◌, ℕ, zero, suc, ◌+◌, ◌-◌, ◌≤◌, ◌<◌, true, false, cond, List, [], ◌∷◌, ◌++◌, map, length, get_or, refl, sym, ap, subst, ◌∙◌, arith, inl, inr}
+use Rattle.std.specs.Prelude.{take, filter, not, ◌^◌, nat_lt, ◌⊎◌}
 use Rattle.std.specs.List.{AllByRecursion, list_all}
 use Rattle.std.proofs.lemmas.Bool.{and_parts, ltb-true, true≢false}
-use Rattle.std.proofs.lemmas.List.{map-append, length-map, length-append, length-take-le, take_more, take_all, append_assoc, append-nil}
+use Rattle.std.proofs.lemmas.List.{map-append, length-append, length-take-le, take_more, take_all, append_assoc}
 use Rattle.std.proofs.lemmas.List.Elements.{filter-append}
 use Rattle.std.proofs.Math.Seq.{take-append_seam}
 use Rattle.lt_face.specs.Lists.{IsIn}
 use Rattle.lt_face.specs.Rows.{IsCell, IsRow, IsAscending, has_row}
 use Rattle.lt_face.specs.State.{Row, State, Has, rows_in}
 use Rattle.lt_face.proofs.RowLemmas.{ascending-filter, each_weaker}
-use Rattle.lt_model.specs.declared.normal.Term.{Term}
-use Rattle.lt_model.specs.declared.normal.Term.TheVariants.{Var, Cell}
-use Rattle.lt_model.specs.Answers.{Assignment, cell_of, cells_of, holds, rows_under, passes}
+use Rattle.lt_model.specs.declared.normal.Term.TheVariants.{Cell}
+use Rattle.lt_model.specs.Answers.{Assignment, cell_of, cells_of, rows_under, passes}
 use Rattle.lt_model.specs.Cells.{is_cell}
 use Rattle.lt_model.specs.Effect.{same_row, fresh, key_terms, key_body}
 use Rattle.lt_model.specs.Fits.{IsWide}
@@ -26,7 +25,6 @@ use Rattle.lt_sense.specs.Kept.{Sense}
 use Rattle.lt_sense.specs.Sense.{covers, IsTight}
 use Rattle.lt_join.specs.Certify.{Certifies}
 use Rattle.lt_join.specs.Walked.{Grows}
-use Rattle.lt_join.proofs.LookingUp.{Grows-both}
 use Rattle.lt_join.proofs.Repair.{All_of, GapIsTight, hit_row_covered}
 use Rattle.lt_join.proofs.Steps.{covers_grows}
 use Rattle.lt_face.proofs.Membership.{IsIn-append_left, IsIn-append_right, IsIn-map}

@@ -1,6 +1,6 @@
 -- What a sense gains by gaps around rows.
 use Rattle.std.proofs.Common.{◌≡◌, ℕ, zero, suc, ◌+◌, ◌-◌, ◌≤◌, ◌<◌, Bool, true, false, ◌&&◌, List, [], ◌∷◌, ◌++◌, length, get_or, refl, sym, ap, subst, ◌∙◌, arith, inl, inr}
-use Rattle.std.specs.Prelude.{take, slice_index, ◌⊎◌, ◌^◌, ◌==◌, nat_le, nat_lt, nat_eq}
+use Rattle.std.specs.Prelude.{take, slice_index, ◌⊎◌, ◌^◌, ◌==◌, nat_le, nat_lt}
 use Rattle.std.specs.List.{AllByRecursion}
 use Rattle.std.specs.declared.cmp.Ordering.TheVariants.{Less}
 use Rattle.std.proofs.lemmas.Bool.{cases_lt, cases_Bool, leb-true, ltb-true}
@@ -13,10 +13,10 @@ use Rattle.lt_query.specs.Lists.{below}
 use Rattle.lt_sense.specs.declared.covering.KeptGap.{KeptGap}
 use Rattle.lt_sense.specs.declared.covering.Hit.{Hit}
 use Rattle.lt_sense.specs.Kept.{Sense}
-use Rattle.lt_sense.specs.Sense.{covers, lies_in, IsTight}
+use Rattle.lt_sense.specs.Sense.{lies_in}
 use Rattle.lt_join.specs.Walked.{Grows}
 use Rattle.lt_join.proofs.LookingUp.{permuted_own, Grows-none, Grows-both}
-use Rattle.lt_join.proofs.Repair.{All_of, All_at, GapIsTight, gap_row_covered}
+use Rattle.lt_join.proofs.Repair.{All_at, GapIsTight, gap_row_covered}
 use Rattle.lt_join.proofs.Steps.{covers_grows}
 use Rattle.lt_program.specs.Displacing.{AreOwn, IsBeside, Notes, Within, Above, Below, Between, AboveIn, BelowIn, Lacking, LackingBelow}
 use Rattle.lt_program.proofs.Around.{not_both, not_itself, above_in, above_of, above_split, above_join, below_in, below_of, below_split, below_join, between_split, between_join}

@@ -1,12 +1,11 @@
 -- The parts of statements that aren't kept by slices.
-use Rattle.std.proofs.Common.{◌≡◌, ℕ, ◌+◌, ◌≤◌, true, false, cond, List, [], length, refl, sym, ap, subst, ◌∙◌, arith}
+use Rattle.std.proofs.Common.{◌≡◌, ℕ, ◌+◌, ◌≤◌, true, false, cond, List, [], length, sym, ap, subst, ◌∙◌}
 use Rattle.std.specs.List.{AllByRecursion, sum_by}
 use Rattle.lt_face.specs.Rows.{IsRow}
 use Rattle.lt_face.proofs.RowLemmas.{each_weaker}
 use Rattle.lt_face.specs.State.{Row, State}
 use Rattle.lt_model.specs.declared.normal.Atom.{Atom}
 use Rattle.lt_model.specs.declared.normal.Body.{Body}
-use Rattle.lt_model.specs.declared.normal.Stmt.{Stmt}
 use Rattle.lt_model.specs.declared.normal.Stmt.TheVariants.{Insert, Replace}
 use Rattle.lt_model.specs.Answers.{answers}
 use Rattle.lt_model.specs.Effect.{has_clash, key_terms, key_body, is_plain}
@@ -16,7 +15,7 @@ use Rattle.lt_sense.specs.Kept.{Sense}
 use Rattle.lt_sense.specs.Sense.{IsTight}
 use Rattle.lt_join.specs.Certify.{Certifies}
 use Rattle.lt_program.specs.Displacing.{HaveOneWidth}
-use Rattle.lt_program.specs.declared.part.Found.TheVariants.{Rows, Both, Keyed}
+use Rattle.lt_program.specs.declared.part.Found.TheVariants.{Rows, Both}
 use Rattle.lt_program.specs.declared.part.Part.{Part}
 use Rattle.lt_program.specs.Tally.{IsPartOn, CertifiesKeys, looked_up, keyed_on, keys_cost, is_sliced, sense_of}
 use Rattle.lt_program.proofs.FittingRuns.{head_rows}

@@ -1,5 +1,5 @@
 -- A sense that gains gaps and hits stands for what it stood for.
-use Rattle.std.proofs.Common.{◌≡◌, true, List, [], ◌∷◌, inl, inr}
+use Rattle.std.proofs.Common.{List, [], ◌∷◌, inl, inr}
 use Rattle.std.specs.List.{AllByRecursion}
 use Rattle.lt_face.specs.Lists.{AnyByRecursion}
 use Rattle.lt_face.specs.State.{State}

@@ -1,9 +1,9 @@
 //! The rows that a row displaces: the other rows of its relation with its key. They are looked up in the relation's own index, by a
 //! seek under the key. What is said of moves holds also where memory is refused.
-ghost use Rattle.std.specs.Prelude.{◌≡◌, ◌+◌, ◌≤◌, ◌++◌, ℕ, true, false, map, not, filter, length, take, slice_get, Some, OnOk, IfOk};
+ghost use Rattle.std.specs.Prelude.{◌≡◌, ◌+◌, ◌≤◌, ◌++◌, true, false, map, not, filter, length, slice_get, Some, OnOk, IfOk};
 ghost use Rattle.std.specs.List.{AllByRecursion, sum_by};
 ghost use Rattle.lt_face.specs.Rows.{IsAscending, IsRow};
-ghost use Rattle.lt_face.specs.State.{Row as RowView, State, rows_in};
+ghost use Rattle.lt_face.specs.State.{State, rows_in};
 ghost use Rattle.lt_model.specs.Answers.{answers as answers_of};
 ghost use Rattle.lt_model.specs.Effect.{same_row, has_clash, key_terms, key_body, displaced_by, displaced as displaced_in};
 ghost use Rattle.lt_model.specs.Fits.{IsWide};

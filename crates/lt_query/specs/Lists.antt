@@ -1,6 +1,5 @@
 -- Words on lists.
 use Rattle.std.specs.Prelude.{◌<◌, ℕ, zero, suc, List, [], ◌∷◌, ◌++◌, ⊤}
-use Rattle.std.specs.List.{AllByRecursion}
 use Rattle.lt_face.specs.Lists.{IsIn, AreInOrder}
 
 -- the numbers below n

@@ -1,5 +1,5 @@
 //! Names of indexes, collected from guides.
-ghost use Rattle.std.specs.Prelude.{◌≡◌, ◌≤◌, IfOk, OnOk, length, map};
+ghost use Rattle.std.specs.Prelude.{◌≡◌, ◌≤◌, IfOk, OnOk, map};
 ghost use Rattle.lt_face.specs.Limits.{most_columns};
 ghost use Rattle.lt_query.specs.Lists.{below};
 ghost use Rattle.lt_query.specs.Needs.{body_of as body_in, index_of, first_index, same_name, has_name as has_this_name, with_name, with_names, firsts_of};

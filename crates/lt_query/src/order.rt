@@ -1,9 +1,9 @@
 //! The stated order of a body's variables.
 
-ghost use Rattle.std.specs.Prelude.{◌≡◌, ℕ, ◌+◌, ◌<◌, true, false, [], ◌++◌, length, OnOk, IfOk};
+ghost use Rattle.std.specs.Prelude.{◌≡◌, ◌+◌, ◌<◌, true, false, ◌++◌, length, OnOk, IfOk};
 ghost use Rattle.std.specs.List.{list_any};
 ghost use Rattle.lt_model.specs.declared.normal.Term.TheVariants.{Var};
-ghost use Rattle.lt_query.specs.Order.{pins_variable as is_pin_of, is_pinned as is_term_pinned, is_first as is_first_at, is_original as is_original_at, tied_to, with_tied, originals, stated_order as order_of, place_at};
+ghost use Rattle.lt_query.specs.Order.{pins_variable as is_pin_of, is_pinned as is_term_pinned, is_first as is_first_at, is_original as is_original_at, tied_to, with_tied, originals, stated_order as order_of};
 
 use crate::places::{Place, first_place, is_var};
 use crate::{Term, Test};

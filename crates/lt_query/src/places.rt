@@ -1,6 +1,6 @@
 //! The places of a body's atoms, in text order.
 
-ghost use Rattle.std.specs.Prelude.{◌≡◌, ℕ, ◌+◌, ◌<◌, [], ◌++◌, length, OnOk, IfOk};
+ghost use Rattle.std.specs.Prelude.{◌≡◌, ◌+◌, ◌<◌, [], ◌++◌, length, OnOk, IfOk};
 ghost use Rattle.lt_model.specs.Bound.{is_var as is_this_var, stands};
 ghost use Rattle.lt_query.specs.Order.{stands_again as is_again, places_in, places_of as all_places, first_from, origin as origin_at};
 

@@ -1,7 +1,7 @@
 //! Whether bodies have one shape, and so one plan but for the constants.
-ghost use Rattle.std.specs.Prelude.{◌≡◌, ◌<◌, ◌==◌, ◌&&◌, true, false, length, IsTrue, ◌↔◌};
+ghost use Rattle.std.specs.Prelude.{◌≡◌, ◌<◌, ◌==◌, ◌&&◌, true, false, IsTrue, ◌↔◌};
 ghost use Rattle.std.specs.Cmp.Lexicographic.{pointwise};
-ghost use Rattle.lt_query.specs.Shape.{shape_of, same_term as is_same_term, same_atom as is_same_atom, pinned_by, same_pin, same_test as is_same_test, same_shape as is_same_shape};
+ghost use Rattle.lt_query.specs.Shape.{shape_of, same_term as is_same_term, same_atom as is_same_atom, pinned_by, same_test as is_same_test, same_shape as is_same_shape};
 
 use crate::{Atom, Body, Term, Test};
 use lt_model::syntax::Op;

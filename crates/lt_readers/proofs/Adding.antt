@@ -7,7 +7,7 @@ use prog.Atomic.{either}
 use Rattle.logbook.specs.Pages.{Cell, cell, keeps, no_nib, step, Moves, Goes}
 use Rattle.lt_base.specs.Tables.{Table, state_of}
 use Rattle.lt_readers.specs.declared.version.Version.{Version}
-use Rattle.lt_readers.specs.Lists.{last_of, EndsIn, IsHistory, Follows, MayFollow, HasRelations}
+use Rattle.lt_readers.specs.Lists.{EndsIn, IsHistory, Follows, MayFollow, HasRelations}
 use Rattle.lt_readers.specs.History.{IsKept, Adds}
 use Rattle.lt_readers.proofs.Beginnings.{prefix_whole, prefix_get, last_get, first_get, some_same}
 

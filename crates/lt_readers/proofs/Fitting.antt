@@ -1,14 +1,13 @@
 -- What fits the first version fits each later one.
-use Rattle.std.proofs.Common.{◌≡◌, ◌∙◌, ℕ, List, length, Some, slice_get, refl, sym, subst}
+use Rattle.std.proofs.Common.{◌≡◌, ◌∙◌, ℕ, List, length, Some, slice_get, sym, subst}
 use mathlib.Core.List.{IsPrefix}
-use Rattle.std.specs.List.{AllByRecursion}
 use Rattle.lt_face.specs.State.{State}
 use Rattle.lt_face.proofs.RowLemmas.{each_weaker}
 use Rattle.lt_model.specs.declared.normal.Atom.{Atom}
 use Rattle.lt_model.specs.declared.normal.Body.{Body}
 use Rattle.lt_model.specs.declared.normal.Stmt.{Stmt}
 use Rattle.lt_model.specs.declared.normal.Stmt.TheVariants.{Insert, Delete, Replace, Require, Print}
-use Rattle.lt_model.specs.Fits.{IsWide, IsAtomOf, IsBodyOf, IsHeadOf, FitsStatement, Fits}
+use Rattle.lt_model.specs.Fits.{IsAtomOf, IsBodyOf, IsHeadOf, FitsStatement, Fits}
 use Rattle.lt_base.specs.Tables.{state_of}
 use Rattle.lt_readers.specs.declared.version.Version.{Version}
 use Rattle.lt_readers.specs.Lists.{EndsIn, IsHistory, HasRelations}

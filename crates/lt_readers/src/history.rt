@@ -1,6 +1,5 @@
 //! The history of what was posted: one list, to which the poster alone adds. It exists in proofs alone; what lies in memory is a
 //! word, the number of posts.
-ghost use Rattle.std.specs.Prelude.{◌≡◌};
 
 use crate::version::Version;
 use logbook::{Gain, Opening, Plain, Play, Rule};

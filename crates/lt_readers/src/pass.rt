@@ -1,5 +1,5 @@
 //! What the poster and each reader know of the two copies: of which history they tell.
-ghost use Rattle.std.specs.Prelude.{◌≡◌, Some, IfSome};
+ghost use Rattle.std.specs.Prelude.{◌≡◌, IfSome};
 ghost use Rattle.left_right.specs.Sides.{view};
 ghost use Rattle.lt_readers.specs.Passes.{Tells};
 

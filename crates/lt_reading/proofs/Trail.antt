@@ -1,10 +1,10 @@
 -- Several behind a sign, with commas between, or none; and what one too many is: the sign isn't blamed, but the first token behind
 -- it.
-use Rattle.std.proofs.Common.{◌≡◌, ◌≢◌, ℕ, zero, suc, ◌-◌, Bool, true, false, cond, ◌||◌, List, [], ◌∷◌, ◌++◌, length, Option, Some, None, Ok, Err, refl, sym, ap, subst, ◌∙◌, arith}
+use Rattle.std.proofs.Common.{◌≡◌, ℕ, zero, suc, ◌-◌, Bool, true, false, cond, ◌||◌, List, [], ◌∷◌, ◌++◌, length, Option, Some, None, Ok, Err, refl, sym, ap, subst, arith}
 use Rattle.std.specs.List.{flat_map, AllByRecursion}
 use Rattle.lt_reading.specs.Reading.{not_allowed, too_many, Stop, Reader, behind, past_comma, no_more, refused, led, listed, maybe, some_of, trail, trailed}
 use Rattle.lt_reading.specs.Language.{Level, formed, few, fine, full, below, Language, AtMost, Next, Alphabet}
-use Rattle.lt_reading.proofs.Exact.{Viable, Wrong, Why, Closes, Open, to_comma, Stuck, Found, Reads, to_formed, Heads, Begins, heads_more, heads_next, heads_clash, done_is, done_not_failed, failed_is, none_viable}
+use Rattle.lt_reading.proofs.Exact.{Wrong, Why, Closes, Open, to_comma, Stuck, Found, Reads, to_formed, Heads, Begins, heads_more, heads_next, heads_clash, done_is, done_not_failed, failed_is, none_viable}
 use Rattle.lt_reading.proofs.Meaning.{given_reads}
 use Rattle.lt_reading.proofs.Marked.{Led, led_reads}
 use Rattle.lt_reading.proofs.Optional.{Maybe, maybe_reads}

@@ -1,15 +1,10 @@
 -- The row at a place of a set.
-use Rattle.std.specs.Prelude.{◌≡◌, ℕ, zero, suc, ◌+◌, ◌<◌, ◌≤◌, false, List, [], ◌∷◌, ◌++◌, length, Option, Some, None, slice_get, IsSome}
+use Rattle.std.specs.Prelude.{◌≡◌, ℕ, zero, suc, ◌<◌, List, [], ◌∷◌, length, Option, Some, None, slice_get, IsSome}
 use Rattle.std.specs.Option.{option_copied}
-use Rattle.std.specs.Ordering.{is_lt, nat_cmp, ordering_then, MatchOrdering}
-use Rattle.std.specs.declared.cmp.Ordering.{Ordering}
-use Rattle.std.specs.declared.cmp.Ordering.TheVariants.{Less, Equal, Greater}
-use Rattle.std.specs.Cmp.{tied_itself, nat_cmp_is, ranks}
-use Rattle.std.proofs.Common.{◌⊎◌, refl, sym, ap, ◌∙◌, subst, inl, inr, arith, get_or, length-append, rules, Bor}
-use Rattle.std.proofs.lemmas.Cmp.{nat_cmp_total}
-use Rattle.lt_face.specs.Rows.{row_cmp, IsRow, IsRowSet, first_from}
+use Rattle.std.proofs.Common.{refl, sym, subst, arith, get_or, rules, Bor}
+use Rattle.lt_face.specs.Rows.{IsRow, IsRowSet}
 use Rattle.lt_face.specs.State.{Row}
-use Rattle.lt_face.proofs.RowLemmas.{first_from-at, rows_total, ascending_at, each_at}
+use Rattle.lt_face.proofs.RowLemmas.{each_at}
 
 pub at_place : (rows : List Row) (k : ℕ) (r : Row) (d : Row) → Some r ≡ slice_get rows k → (k < length rows) × (get_or rows k d ≡ r)
 at_place [] k r d h = absurd cc

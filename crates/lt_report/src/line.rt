@@ -1,5 +1,4 @@
 //! Lines, word by word.
-ghost use Rattle.std.specs.Prelude.{◌≡◌};
 ghost use Rattle.lt_model.specs.Report.{line as line_of};
 ghost use Rattle.lt_report.specs.Puts.{Puts};
 ghost use Rattle.lt_report.specs.Texts.{joined, spaced, texts};

@@ -2,7 +2,7 @@
 ghost use Rattle.std.specs.Prelude.{◌∷◌, ◌++◌, [], length};
 ghost use Rattle.std.specs.List.{AllByRecursion};
 ghost use Rattle.lt_face.specs.Rows.{IsRow};
-ghost use Rattle.lt_model.specs.Report.{cell_texts, line as line_of, mark_text, marks_text, sign_text};
+ghost use Rattle.lt_model.specs.Report.{cell_texts, mark_text, marks_text, sign_text};
 ghost use Rattle.lt_report.specs.Headed.{IsHeaded};
 ghost use Rattle.lt_report.specs.Puts.{Puts};
 ghost use Rattle.lt_report.specs.Texts.{joined};

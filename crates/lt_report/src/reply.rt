@@ -1,5 +1,5 @@
 //! What a program answers.
-ghost use Rattle.std.specs.Prelude.{◌≡◌, ◌∷◌, [], codes, decimal, flat_map, ℕ};
+ghost use Rattle.std.specs.Prelude.{◌∷◌, [], codes, decimal, flat_map};
 ghost use Rattle.std.specs.List.{AllByRecursion};
 ghost use Rattle.lt_model.specs.Report.{line as line_of, print_text, reply_text};
 ghost use Rattle.lt_model.specs.declared.reply.Reply.TheVariants as replies;

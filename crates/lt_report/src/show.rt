@@ -1,6 +1,5 @@
 //! What a relation holds.
-ghost use Rattle.std.specs.Prelude.{◌≡◌, ◌≤◌, ◌<◌, ◌+◌, ◌^◌, ℕ, List, [], ◌∷◌, ◌++◌, length, IfSome};
-ghost use Rattle.std.specs.List.{AllByRecursion};
+ghost use Rattle.std.specs.Prelude.{◌≡◌, ◌≤◌, ◌<◌, length, IfSome};
 ghost use Rattle.lt_model.specs.Report.{rows_text, show_text};
 ghost use Rattle.lt_report.specs.Puts.{Puts};
 ghost use Rattle.lt_report.specs.Texts.{held, show_line};

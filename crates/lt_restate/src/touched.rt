@@ -1,5 +1,5 @@
 //! What changed rows that a part's sense covers touch: the statement, and of one that is kept by slices some keys.
-ghost use Rattle.std.specs.Prelude.{◌≡◌, ◌<◌, ◌≤◌, ◌+◌, ℕ, List, length, IfOk, IfSome, IfNone, slice_get, Some};
+ghost use Rattle.std.specs.Prelude.{◌≡◌, ◌<◌, ◌+◌, length, IfOk, IfSome, IfNone, Some};
 ghost use Rattle.std.specs.Ordering.{is_lt};
 ghost use Rattle.lt_face.specs.Limits.{most_statements};
 ghost use Rattle.lt_face.specs.State.{State};

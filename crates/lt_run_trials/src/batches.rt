@@ -1,6 +1,6 @@
 //! Batches whose programs all work on the rows of one relation, compared with the plain runs of these programs one after
 //! another, and some by hand.
-ghost use Rattle.std.specs.Prelude.{◌≡◌, ◌≤◌, length, map, IfOk};
+ghost use Rattle.std.specs.Prelude.{◌≤◌, length, map};
 ghost use Rattle.std.specs.Arc.{arc_value};
 ghost use Rattle.std.specs.List.{AllByRecursion};
 ghost use Rattle.lt_run_trials.specs.Fitting.{FitsBoth};

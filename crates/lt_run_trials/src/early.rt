@@ -1,5 +1,5 @@
 //! Batches of programs with long joins: by one worker, and by several, who begin a batch of few programs together.
-ghost use Rattle.std.specs.Prelude.{◌≡◌, ◌≤◌, length, map, IfOk};
+ghost use Rattle.std.specs.Prelude.{◌≤◌, length, map};
 ghost use Rattle.std.specs.Arc.{arc_value};
 ghost use Rattle.std.specs.List.{AllByRecursion};
 ghost use Rattle.lt_base.specs.Tables.{state_of};

@@ -1,6 +1,5 @@
 //! Two workers at a circuit, driven by the entries of a journal.
 ghost use Rattle.std.specs.Prelude.{◌≡◌, ◌≢◌, ◌<◌, ◌≤◌, ℕ, None, IfOk};
-ghost use Rattle.std.specs.Arc.{arc_value};
 ghost use Rattle.lt_net.specs.Alone.{IsUnclaimed};
 ghost use Rattle.lt_circuit.specs.Circuit.{CircuitView, state};
 ghost use Rattle.lt_circuit.specs.Hands.{AreInHand, IsInHand};

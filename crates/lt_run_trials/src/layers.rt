@@ -1,5 +1,5 @@
 //! Marks laid on a database list after list, and all of them laid at once.
-ghost use Rattle.std.specs.Prelude.{◌≡◌, IfOk};
+ghost use Rattle.std.specs.Prelude.{IfOk};
 ghost use Rattle.lt_model.specs.Fits.{FitMarks};
 ghost use Rattle.lt_base.specs.Tables.{state_of};
 ghost use Rattle.lt_run_trials.specs.Fitting.{AreBoth, KeepsWidths};

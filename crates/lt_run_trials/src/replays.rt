@@ -1,5 +1,5 @@
 //! Traces: journals of batches written down and replayed, as they are and with one entry changed.
-ghost use Rattle.std.specs.Prelude.{◌≡◌, ◌≤◌, ◌<◌, length, map, IfOk};
+ghost use Rattle.std.specs.Prelude.{◌≤◌, ◌<◌, length, map};
 ghost use Rattle.std.specs.Arc.{arc_value};
 ghost use Rattle.std.specs.List.{AllByRecursion};
 ghost use Rattle.lt_run_trials.specs.Fitting.{FitsBoth};

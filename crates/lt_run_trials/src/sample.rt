@@ -1,6 +1,5 @@
 //! Leaves whose marks meet, and whose marks depend on what ran before them.
-ghost use Rattle.std.specs.Prelude.{◌≡◌, ◌∷◌, [], ⊤, ◌&&◌, ℕ, List, Some, IfOk, length, max, nat_lt};
-ghost use Rattle.lt_model.specs.declared.mark.Mark.{Mark as MarkType};
+ghost use Rattle.std.specs.Prelude.{◌≡◌, ◌∷◌, [], ⊤, ◌&&◌, Some, IfOk, length, max, nat_lt};
 ghost use Rattle.lt_model.specs.Marks.{AreMarks};
 ghost use Rattle.lt_model.proofs.Composition.{AreMarks-and_then};
 

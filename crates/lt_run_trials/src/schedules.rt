@@ -1,12 +1,11 @@
 //! Hostile orders of events: claims that are given up, dirtied and overtaken, by tables and at random, over a circuit and over
 //! a batch; and programs that begin in reverse.
-ghost use Rattle.std.specs.Prelude.{◌≡◌, ◌≤◌, ◌<◌, ℕ, length, map, IfOk};
+ghost use Rattle.std.specs.Prelude.{◌≡◌, ◌≤◌, ◌<◌, length, map, IfOk};
 ghost use Rattle.std.specs.Arc.{arc_value};
 ghost use Rattle.std.specs.List.{AllByRecursion};
 ghost use Rattle.lt_face.specs.Limits.{most_programs};
 ghost use Rattle.lt_net.specs.Net.{IsSettled};
 ghost use Rattle.lt_circuit.specs.Circuit.{state};
-ghost use Rattle.lt_batch.specs.Work.{IsLeaf};
 ghost use Rattle.lt_run_trials.specs.Fitting.{FitsBoth};
 
 use crate::agree::holds;

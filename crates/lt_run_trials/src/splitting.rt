@@ -1,5 +1,5 @@
 //! Programs with long joins, run by parts and as a whole.
-ghost use Rattle.std.specs.Prelude.{◌≡◌, ◌≤◌, IfOk};
+ghost use Rattle.std.specs.Prelude.{◌≤◌, IfOk};
 ghost use Rattle.std.specs.Arc.{arc_value};
 ghost use Rattle.lt_model.specs.Fits.{Fits};
 ghost use Rattle.lt_base.specs.Tables.{state_of};

@@ -5,7 +5,7 @@ use Rattle.std.specs.List.{prefix_len}
 use Rattle.std.proofs.lemmas.List.{append-nil, append_cancel_right, length-drop}
 use Rattle.lt_model.specs.Grammar.{semicolon}
 use Rattle.lt_model.specs.Tokens as tokens
-use Rattle.lt_model.specs.Tokens.{Class, white, feed, hash, letter, digit, quote, other, class_of, in_word, First, sign}
+use Rattle.lt_model.specs.Tokens.{Class, white, feed, hash, letter, digit, quote, other, class_of, in_word, First}
 use Rattle.lt_script.specs.declared.token.Token.{Token}
 use Rattle.lt_script.specs.declared.lexer.Lexer.{Lexer}
 use Rattle.lt_script.specs.declared.lexer.Lexed.{Lexed}

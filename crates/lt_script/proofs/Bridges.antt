@@ -1,5 +1,5 @@
 -- The readers that give values read what those of the grammar's tree read.
-use Rattle.std.proofs.Common.{◌≡◌, ℕ, zero, suc, Bool, true, false, List, [], ◌∷◌, ◌++◌, length, map, ◌<◌, Option, Some, None, Ok, Err, refl, sym, ap, subst, ◌∙◌, inl, inr, ◌⊎◌}
+use Rattle.std.proofs.Common.{◌≡◌, ℕ, zero, suc, Bool, true, false, List, [], ◌∷◌, ◌++◌, length, map, Option, Some, None, Ok, Err, refl, sym, ap, subst, ◌∙◌, inl, inr, ◌⊎◌}
 use Rattle.std.specs.Prelude.{cond, fold, nat_le, flat_map}
 use Rattle.lt_reading.specs.Reading.{Reader, Outcome, Stop, ◌>>=◌, given, both, led, ended, choice, maybe, many, many_at, joined, refused, no_more, halt, listed, past_comma, token, close, closed, not_allowed, too_full, at_once}
 use Rattle.lt_reading.proofs.Loops.{Shrinks}

@@ -11,7 +11,7 @@ use Rattle.lt_script.specs.Pieces.{Leads, first_at}
 use Rattle.lt_script.specs.Ahead.{Source, read_all, Place, ahead, shapes, passed_tokens, EndsSo, IsBehindSemicolon, IsUndecided, IsDecided, MayChange}
 use Rattle.lt_script.specs.Taken.{Begins, HasFault, HaltsAt, at_token, cut, torn, Takes, Halts}
 use Rattle.lt_script.specs.Feed as feed
-use Rattle.lt_script.specs.Feed.{IsMore, IsClosed, IsInside, IsFaultAt, inside, IsDecidedFault, WantsMore, Goes}
+use Rattle.lt_script.specs.Feed.{IsClosed, IsInside, IsFaultAt, inside, IsDecidedFault, WantsMore, Goes}
 use Rattle.lt_script.proofs.Pieces.{leads_then, leads_token, torn_stays, tokens_first}
 use Rattle.lt_script.proofs.Places.{parts, passed_more}
 use Rattle.lt_script.proofs.Reading.{all_passed, EndsIn, reads_derived, ends, halted}

@@ -1,8 +1,8 @@
 -- The symbols among the tokens of bytes: each is 1 to 15 bytes of a word.
-use Rattle.std.proofs.Common.{◌≡◌, ℕ, zero, suc, ◌≤◌, ◌<◌, ◌+◌, ◌==◌, Bool, true, false, List, [], ◌∷◌, ◌++◌, length, take, drop, Option, Some, None, refl, sym, subst, arith}
+use Rattle.std.proofs.Common.{◌≡◌, ℕ, zero, suc, ◌+◌, ◌==◌, Bool, true, false, List, [], ◌∷◌, ◌++◌, length, take, drop, Option, Some, None, refl, sym, subst, arith}
 use Rattle.std.specs.Prelude.{◌&&◌, ◌||◌, not, nat_lt, nat_eq, find, if◌then◌else◌}
 use Rattle.std.specs.List.{AllByRecursion, list_all, prefix_len, starts_with}
-use Rattle.lt_model.specs.Tokens.{Shape, word, number, symbol, sign, Token, Class, white, feed, hash, letter, digit, quote, other, class_of, in_word, between, First, token, fault, word_at, number_at, symbol_at, close_symbol, sign_at, sign_found, signs, Read, more, by_class, tokens_from, tokens_at}
+use Rattle.lt_model.specs.Tokens.{Shape, word, number, symbol, sign, Token, Class, white, feed, hash, letter, digit, quote, other, class_of, in_word, between, First, token, fault, word_at, number_at, symbol_at, close_symbol, sign_at, sign_found, signs, Read, more, by_class, tokens_from}
 use Rattle.lt_model.specs.Script as script
 use Rattle.lt_values.specs.Symbols.{is_symbol}
 use Rattle.lt_script.specs.Ahead.{Place, read_all, shapes}

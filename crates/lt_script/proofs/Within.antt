@@ -1,19 +1,19 @@
 -- What is read is within the limits of the language.
-use Rattle.std.proofs.Common.{◌≡◌, ℕ, ◌<◌, ◌≤◌, Bool, true, false, List, [], ◌∷◌, ◌++◌, ◌+◌, length, map, None, Some, Ok, refl, subst, arith}
+use Rattle.std.proofs.Common.{◌≡◌, ℕ, ◌<◌, ◌≤◌, Bool, true, false, List, [], ◌∷◌, ◌++◌, ◌+◌, length, map, None, Some, Ok, subst, arith}
 use Rattle.std.specs.Prelude.{flat_map}
 use Rattle.std.specs.List.{AllByRecursion}
 use Rattle.std.proofs.lemmas.List.{length-map, length-append}
 use Rattle.lt_face.specs.Rows.{IsCell}
 use Rattle.lt_model.specs.declared.kind.Kind.{Kind}
 use Rattle.lt_model.specs.Tokens.{Shape}
-use Rattle.lt_model.specs.Grammar.{digits_value, signed_cell, comma, left_paren, right_paren, semicolon, where_word}
+use Rattle.lt_model.specs.Grammar.{digits_value, signed_cell, comma, left_paren, right_paren, semicolon}
 use Rattle.lt_model.specs.Limits.{HasCell, AreTermsWithin, IsLiteralWithin, IsStatementWithin, IsProgramWithin, IsWithinLimits}
 use Rattle.lt_values.proofs.Padding.{IsCell-sym_cell}
 use Rattle.lt_reading.specs.Language.{full}
 use Rattle.lt_grammar.specs.Tokens.{insert_word, delete_word, by_word, print_word, end_word, commit_word}
 use Rattle.lt_grammar.specs.Grammar as grammar
 use Rattle.lt_grammar.specs.Grammar.{Term, name, numeral, quoted, Head, Literal, atom, absent, compare, sum, Statement, insert, delete, replace, require, print, Program, Item, relation, batch, show, only, in_parens, with_commas, term_tokens, head_tokens, literal_tokens, where_tokens, form_tokens, statement_tokens, program_tokens, item_tokens}
-use Rattle.lt_grammar.specs.Meaning.{term_value, terms_value, head_value, literal_value, body_value, statement_value, program_value, item_value}
+use Rattle.lt_grammar.specs.Meaning.{term_value, terms_value, literal_value, statement_value, program_value, item_value}
 use Rattle.lt_grammar.specs.Productions.{item_at}
 use Rattle.lt_grammar.proofs.Scripts.{items_read}
 use Rattle.lt_grammar.proofs.Variables.{to_few}

@@ -1,5 +1,5 @@
 -- Reserved words and signs with their texts.
-use Rattle.std.specs.Prelude.{ℕ, ◌≤◌, List, [], ◌∷◌, drop, codes, Option, Some, None}
+use Rattle.std.specs.Prelude.{ℕ, List, [], ◌∷◌, drop, codes, Option, Some, None}
 use Rattle.std.specs.Str.{bytes_eq}
 use Rattle.lt_reading.specs.Reading.{in_table}
 use Rattle.lt_model.specs.Tokens as tokens

@@ -1,5 +1,5 @@
 //! A script that comes in pieces.
-ghost use Rattle.std.specs.Prelude.{◌≡◌, ◌+◌, ◌<◌, ◌^◌, ◌++◌, ℕ, [], List, IfOk, OnOk, OnErr, length, drop, true, false};
+ghost use Rattle.std.specs.Prelude.{◌≡◌, ◌+◌, ◌<◌, ◌^◌, ◌++◌, ℕ, [], List, OnOk, OnErr, length, true, false};
 ghost use Rattle.lt_model.specs.declared.syntax.Item.{Item as ScriptItem};
 ghost use Rattle.lt_model.specs.Tokens.{Token as ScriptToken};
 ghost use Rattle.lt_model.specs.Grammar.{legal, Derives};

@@ -1,5 +1,5 @@
 //! Bytes divided into tokens, one at a time. Each byte is looked at a bounded number of times.
-ghost use Rattle.std.specs.Prelude.{◌≡◌, ◌≤◌, ◌<◌, ◌+◌, ◌^◌, length, drop};
+ghost use Rattle.std.specs.Prelude.{◌≡◌, ◌≤◌, ◌<◌, ◌+◌, ◌^◌, length};
 ghost use Rattle.std.specs.List.{prefix_len};
 ghost use Rattle.lt_model.specs.Tokens.{tokens_at, word_at, number_at, symbol_at, sign_at, in_word};
 ghost use Rattle.lt_script.specs.View.{IsFirst, IsNext, IsGapless};

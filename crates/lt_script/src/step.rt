@@ -1,5 +1,5 @@
 //! The next item of a source, or how the source ends.
-ghost use Rattle.std.specs.Prelude.{◌≡◌, ◌≢◌, []};
+ghost use Rattle.std.specs.Prelude.{◌≢◌, []};
 
 use crate::cursor::Cursor;
 use crate::refusal::Refusal;

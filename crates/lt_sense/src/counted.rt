@@ -6,7 +6,7 @@ ghost use Rattle.lt_face.specs.State.{permuted};
 ghost use Rattle.lt_face.specs.Lists.{AreInOrder};
 ghost use Rattle.lt_sense.specs.Sense.{gap_covers, hit_covers};
 ghost use Rattle.lt_sense.specs.Stored.{stored_gap, IsSound};
-ghost use Rattle.lt_sense.specs.Ordered.{IsGapBefore, IsHitBefore, gaps_in, hits_in, orders_of, sought, IsPlacePast, IsFamilyEnd, IsCoverIn, IsFamilyUncovered, IsWidthUncovered};
+ghost use Rattle.lt_sense.specs.Ordered.{IsGapBefore, IsHitBefore, gaps_in, hits_in, orders_of, IsFamilyEnd, IsCoverIn, IsFamilyUncovered, IsWidthUncovered};
 
 use crate::covering::cells_in;
 use crate::store::{Passed, Store};

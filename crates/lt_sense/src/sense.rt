@@ -1,6 +1,5 @@
 //! The sense of an evaluation.
 ghost use Rattle.std.specs.Prelude.{◌≡◌, ℕ, ◌<◌, ◌≤◌, ◌+◌, ◌*◌, ◌^◌, ◌∷◌, ◌++◌, [], length, filter, IfOk, OnOk, OnErr, IfSome, IfNone, is_some, true};
-ghost use Rattle.std.specs.List.{list_any};
 ghost use Rattle.lt_face.specs.Limits.{most_columns};
 
 use crate::covering::{Hit, KeptGap};

@@ -1,12 +1,11 @@
 //! How a sense is kept: the cells of prefixes and rows stand in one list, and gaps under one prefix share it.
 ghost use Rattle.std.specs.Prelude.{◌≡◌, ◌≢◌, ◌<◌, ◌≤◌, ◌+◌, ◌∷◌, ◌++◌, [], length, filter, OnOk, OnErr, IfOk, IfSome, is_some, true, false, slice_get, IsTrue, Some};
-ghost use Rattle.std.specs.List.{list_any, slice_range, AllByRecursion};
+ghost use Rattle.std.specs.List.{list_any, AllByRecursion};
 ghost use Rattle.lt_face.specs.Limits.{most_columns};
 ghost use Rattle.lt_face.specs.Lists.{IsIn};
-ghost use Rattle.lt_face.specs.State.{permuted};
-ghost use Rattle.lt_sense.specs.Sense.{lies_in as lies_within, gap_covers, hit_covers};
+ghost use Rattle.lt_sense.specs.Sense.{gap_covers, hit_covers};
 ghost use Rattle.lt_sense.specs.Gathered.{gathered};
-ghost use Rattle.lt_sense.specs.Stored.{piece_of, gap_of, stored_gap, hit_of, sense_of, IsPiece, IsSound, GrowsBelow, IsRunFor};
+ghost use Rattle.lt_sense.specs.Stored.{piece_of, stored_gap, hit_of, sense_of, IsPiece, IsSound, GrowsBelow, IsRunFor};
 
 use crate::covering::{Hit, KeptGap, lies_in};
 use crate::gathering::push_gaps;

@@ -5,21 +5,20 @@ use Rattle.std.specs.List.{AllByRecursion}
 use Rattle.std.proofs.lemmas.List.Sums.{fold-append}
 use Rattle.std.proofs.KnownBytes.{Appends-nil}
 use Rattle.lt_blocks.specs.declared.block.Block.{Block}
-use Rattle.lt_edges.specs.Causes.{Rose}
 use Rattle.lt_model.specs.declared.syntax.Item.{Item}
 use Rattle.lt_model.specs.declared.syntax.Item.TheVariants.{Batch}
 use Rattle.lt_model.specs.declared.syntax.Program.{Program}
 use Rattle.lt_model.specs.Limits.{IsWithinLimits}
 use Rattle.lt_model.specs.Report.{World, opening, step}
 use Rattle.lt_session.specs.declared.halt.Halt.{Halt}
-use Rattle.lt_session.specs.declared.halt.Halt.TheVariants.{Failed, NoMemory}
+use Rattle.lt_session.specs.declared.halt.Halt.TheVariants.{NoMemory}
 use Rattle.lt_session.specs.declared.options.Options.{Options}
 use Rattle.lt_session.specs.declared.session.Session.{Session}
 use Rattle.lt_session.specs.declared.tracing.Traced.{Traced}
 use Rattle.lt_session.specs.declared.world.World as session
 use Rattle.lt_session.specs.Lines.{items_of, said_all, TakesAll}
 use Rattle.lt_session.specs.Traces.{KeepsBlock}
-use Rattle.lt_session.specs.Waiting.{Answers, AnswersSome, held, IsReady, KeepsBlocks}
+use Rattle.lt_session.specs.Waiting.{AnswersSome, held, IsReady, KeepsBlocks}
 use Rattle.lt_session.specs.World.{IsWorld, said, Shows, Takes}
 use Rattle.lt_session.specs.Writing.{Writes}
 use Rattle.lt_session.proofs.Answered.{appends_behind, front_behind, front_of_more, items_more}

@@ -19,7 +19,7 @@ use Rattle.lt_model.specs.Report.{Text, batch_text, done_text, good_of, programs
 use Rattle.lt_model.specs.Schema.{Schema}
 use Rattle.lt_model.specs.Serial.{serial}
 use Rattle.lt_base.specs.Tables.{Table, state_of}
-use Rattle.lt_batch.specs.Batch.{serial_effects, serial_replies, serial_state}
+use Rattle.lt_batch.specs.Batch.{serial_state}
 use Rattle.lt_check.specs.States.{IsStateOf}
 use Rattle.lt_batch.specs.Line.{last_state, line_effects, line_replies, line_states}
 use Rattle.lt_program.specs.Run.{AreReplied}

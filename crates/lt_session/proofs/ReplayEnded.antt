@@ -1,5 +1,5 @@
 -- How a replay ends, from how its parts did.
-use Rattle.std.proofs.Common.{◌≡◌, ◌≤◌, ◌++◌, ◌∙◌, Bool, true, false, List, [], ℕ, length, refl, sym, ap, subst, append-nil, append_assoc, arith}
+use Rattle.std.proofs.Common.{◌≡◌, ◌≤◌, ◌++◌, ◌∙◌, Bool, false, List, [], ℕ, length, refl, sym, ap, subst, append-nil, append_assoc, arith}
 use Rattle.std.specs.Prelude.{Option, Some, None, Result, Ok, Err, IfErr, OnErr}
 use Rattle.std.proofs.KnownBytes.{Appends-kept, Appends-nil, Consumes-nil}
 use Rattle.std.specs.Io.KnownBytes.{Appends, Consumes, IsAtEnd, Keeps}
@@ -7,7 +7,6 @@ use Rattle.lt_blocks.specs.declared.block.Block.{Block}
 use Rattle.lt_blocks.specs.Blocks.{blocks_text, script_text}
 use Rattle.lt_command.specs.declared.words.Command.{Command}
 use Rattle.lt_command.specs.declared.words.Command.TheVariants.{Bench, Replay, Run}
-use Rattle.lt_edges.specs.Causes.{Rose}
 use Rattle.lt_model.specs.Script.{End, Fault}
 use Rattle.lt_model.specs.Report.{report}
 use Rattle.lt_report.specs.Puts.{AppendsFront}
@@ -21,12 +20,11 @@ use Rattle.lt_session.specs.declared.replay.Verdict.{Verdict}
 use Rattle.lt_session.specs.declared.replay.Verdict.TheVariants as verdicts
 use Rattle.lt_session.specs.declared.stop.Stop.{Stop}
 use Rattle.lt_session.specs.declared.stop.Stop.TheVariants as stops
-use Rattle.lt_session.specs.declared.status.Status.TheVariants.{WriteFault}
 use Rattle.lt_session.specs.FrontReads.{IsBadRead, IsFrontRead, ReadsFront, TakesRest}
 use Rattle.lt_session.specs.Input.{limit}
 use Rattle.lt_session.specs.Reads.{StopsReading, TakesBeyond, TakesWithin}
 use Rattle.lt_session.specs.ReplayEnds.{AtLine, IfReplay, IsLongReplayPart, IsReplayPart, IsReplayWritten, Nothing, Refused, ReplayEndsAs, ReplayStopsAs, Whole}
-use Rattle.lt_session.specs.ReplaySteps.{front_of, IsBegun, StopsInside, StopsRefusing, TakesInside, TakesOut}
+use Rattle.lt_session.specs.ReplaySteps.{IsBegun, StopsInside, StopsRefusing, TakesInside, TakesOut}
 use Rattle.lt_session.specs.Statuses.{stopped_as}
 use Rattle.lt_session.specs.Stops.{unread}
 use Rattle.lt_session.proofs.Fed.{none_more}

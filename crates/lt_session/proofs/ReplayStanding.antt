@@ -8,10 +8,8 @@ use Rattle.std.proofs.KnownBytes.{Appends-trans, Consumes-nil, Consumes-trans}
 use Rattle.std.specs.Io.KnownBytes.{Appends, Consumes, IsAtEnd, Keeps}
 use Rattle.lt_blocks.specs.declared.block.Block.{Block}
 use Rattle.lt_blocks.specs.Blocks.{blocks_text, script_text, IsBlock, IsTrace}
-use Rattle.lt_edges.specs.Causes.{Rose}
 use Rattle.lt_model.specs.declared.syntax.Item.{Item}
 use Rattle.lt_model.specs.declared.syntax.Item.TheVariants.{Batch}
-use Rattle.lt_model.specs.declared.syntax.Program.{Program}
 use Rattle.lt_model.specs.Script.{Close, End, Fault, Script}
 use Rattle.lt_model.specs.Report as model
 use Rattle.lt_model.specs.Report.{close_text, opening, report, step}
@@ -30,12 +28,12 @@ use Rattle.lt_session.specs.declared.world.World.{World}
 use Rattle.lt_session.specs.Ends.{IsInput}
 use Rattle.lt_session.specs.Input.{limit}
 use Rattle.lt_session.specs.Reads.{ReadsOn, StopsGoing, TakesBeyond, TakesWithin}
-use Rattle.lt_session.specs.ReplayEnds.{AtBatch, AtEnd, IsFaultReplayed, IsLongReplayPart, IsRefused, IsReplayed, IsReplayPart, IsReplayWritten, IsRightTrace, Leads, Items, Refused, Refuses, ReplayStopsAs, Whole}
+use Rattle.lt_session.specs.ReplayEnds.{AtBatch, AtEnd, IsLongReplayPart, IsReplayPart, IsReplayWritten, IsRightTrace, Leads, Items, Refused, Refuses, ReplayStopsAs, Whole}
 use Rattle.lt_session.specs.ReplaySteps.{front_of, Closes, ClosesPart, IsBegun, StopsRefusing, TakesInside, TakesOut, TakesOver}
-use Rattle.lt_session.specs.Replays.{AreRight, IsRightItem, IsWrongItem}
+use Rattle.lt_session.specs.Replays.{IsRightItem, IsWrongItem}
 use Rattle.lt_session.specs.World.{said, Shows, Takes}
-use Rattle.lt_session.proofs.BlocksUsed.{none_left, refused_item, some_left, used_more, used_none, IsRefusedItem, IsUsed}
-use Rattle.lt_session.proofs.Fed.{fed_reading, feeds_on, kept_few, none_more}
+use Rattle.lt_session.proofs.BlocksUsed.{none_left, refused_item, some_left, used_more, used_none, IsUsed}
+use Rattle.lt_session.proofs.Fed.{feeds_on, kept_few, none_more}
 use Rattle.lt_session.proofs.Said.{step_says}
 use Rattle.lt_session.proofs.Steps.{left_to_do, less_taken}
 use Rattle.lt_session.proofs.Writing.{did_kept, front_more, front_so_far}

@@ -12,7 +12,7 @@ use Rattle.lt_model.specs.declared.syntax.Item.TheVariants.{Batch, Relation as D
 use Rattle.lt_model.specs.Limits.{IsWithinLimits}
 use Rattle.lt_model.specs.Schema.{Schema, number_of}
 use Rattle.lt_model.specs.Report as model
-use Rattle.lt_model.specs.Report.{at_version, bad_text, opening, says, show_text, shown, step, with_relation}
+use Rattle.lt_model.specs.Report.{bad_text, opening, says, shown, step, with_relation}
 use Rattle.lt_base.specs.Tables.{state_of}
 use Rattle.lt_report.specs.Texts.{held}
 use Rattle.lt_gen.specs.declared.summary.Summary.{Summary}

@@ -6,7 +6,6 @@ use Rattle.std.proofs.lemmas.List.{drop_more}
 use Rattle.lt_model.specs.declared.normal.Stmt.{Stmt}
 use Rattle.lt_model.specs.declared.syntax.Program.{Program}
 use Rattle.lt_model.specs.declared.reply.Reply.{Reply}
-use Rattle.lt_model.specs.Check.{Checked}
 use Rattle.lt_model.specs.Check as model
 use Rattle.lt_model.specs.Marks.{Marks}
 use Rattle.lt_model.specs.Schema.{Schema}

@@ -1,5 +1,5 @@
 //! What a script's items have come to: each is run, and what its programs answered is counted.
-ghost use Rattle.std.specs.Prelude.{◌≡◌, ◌≤◌, ◌++◌, List, length, map, false, OnOk};
+ghost use Rattle.std.specs.Prelude.{◌≡◌, ◌≤◌, ◌++◌, List, length, map, OnOk};
 ghost use Rattle.std.specs.List.{AllByRecursion};
 ghost use Rattle.lt_face.specs.Limits.{most_programs, most_workers};
 ghost use Rattle.lt_model.specs.declared.syntax.Item.TheVariants as items;

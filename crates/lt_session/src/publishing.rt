@@ -1,7 +1,6 @@
 //! Versions that are published while a line of batches runs.
-ghost use Rattle.std.specs.Prelude.{◌≡◌, ◌++◌, List, [], ◌∷◌, map, OnOk, OnErr};
+ghost use Rattle.std.specs.Prelude.{◌≡◌, ◌++◌, List, [], map};
 ghost use Rattle.lt_face.specs.State.{State};
-ghost use Rattle.lt_model.specs.declared.mark.Mark.{Mark};
 ghost use Rattle.lt_model.specs.Fits.{FitMarks};
 ghost use Rattle.lt_base.specs.Tables.{state_of};
 ghost use Rattle.lt_batch.specs.Line.{states_by};

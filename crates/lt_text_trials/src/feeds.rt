@@ -1,5 +1,5 @@
 //! Scripts in pieces.
-ghost use Rattle.std.specs.Prelude.{◌≡◌, false};
+ghost use Rattle.std.specs.Prelude.{◌≡◌};
 
 use crate::agree::same;
 use lt_script::{Feed, FeedStep};

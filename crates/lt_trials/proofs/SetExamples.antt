@@ -3,7 +3,6 @@
 use Rattle.std.proofs.Common.{◌≡◌, true, false, List, [], ◌∷◌, Some, None, refl}
 use Rattle.lt_face.specs.State.{Row, State}
 use Rattle.lt_face.specs.Rows.{first_above, behind}
-use Rattle.lt_model.specs.declared.mark.Mark.{Mark}
 use Rattle.lt_model.specs.Marks.{Marks}
 use Rattle.lt_delta.specs.Laying.{rows_laid, marked}
 use Rattle.lt_flat.specs.Flat.{kept}

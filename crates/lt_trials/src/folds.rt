@@ -1,5 +1,4 @@
 //! Rows of a database's relation, edited and folded batch by batch, beside a sorted vector.
-ghost use Rattle.std.specs.Prelude.{◌≡◌, IfOk};
 
 use crate::agree::{holds, same};
 use crate::flat::{Edit, made, row};

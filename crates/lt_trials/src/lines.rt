@@ -4,7 +4,6 @@ ghost use Rattle.lt_model.specs.declared.mark.Mark.{Mark as MarkType};
 ghost use Rattle.lt_net.specs.Alone.{IsUnclaimed};
 ghost use Rattle.lt_net.specs.Line.{AreSizes, IsPast, size_in};
 ghost use Rattle.lt_circuit.specs.Line.{line_state, LineView};
-ghost use Rattle.lt_circuit.specs.LineJob.{claim_of_line_job};
 ghost use Rattle.lt_circuit.specs.Row.{sizes};
 ghost use Rattle.lt_trials.specs.LineHands.{AreFew, AreInHand, IsInHand};
 ghost use Rattle.lt_trials.specs.declared.parity.Parity.{Parity as ParityType};

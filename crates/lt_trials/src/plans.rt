@@ -1,5 +1,5 @@
 //! Bodies by hand: their plans, and the indexes that programs of them need.
-ghost use Rattle.std.specs.Prelude.{◌≤◌, length, IfOk};
+ghost use Rattle.std.specs.Prelude.{length, IfOk};
 ghost use Rattle.std.specs.List.{AllByRecursion};
 ghost use Rattle.lt_model.specs.declared.normal.Atom.{Atom as AtomType};
 ghost use Rattle.lt_model.specs.declared.normal.Stmt.{Stmt as StmtType};

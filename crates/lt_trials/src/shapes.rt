@@ -1,5 +1,5 @@
 //! Bodies of one shape and of several, and the plans that come of them.
-ghost use Rattle.std.specs.Prelude.{◌≡◌, IfOk};
+ghost use Rattle.std.specs.Prelude.{IfOk};
 ghost use Rattle.lt_query.specs.Runnable.{HasWidths};
 
 use crate::agree::same;

@@ -1,9 +1,8 @@
 //! Where a move of a trie iterator lands: on the next cell of the first row from the prefix and the bound on. So a move
 //! is one search of the set, however many rows have the key that it leaves.
-ghost use Rattle.std.specs.Prelude.{◌≡◌, ◌<◌, ◌+◌, ◌++◌, ◌∷◌, [], length};
+ghost use Rattle.std.specs.Prelude.{◌≡◌, ◌<◌, ◌+◌, length};
 ghost use Rattle.std.specs.Option.{option_copied};
 ghost use Rattle.lt_face.specs.Keys.{least_from};
-ghost use Rattle.lt_face.specs.Rows.{IsRowSet};
 ghost use Rattle.lt_trie.specs.Under.{next_cell, keys_under, key_of};
 
 use lt_face::{END, Gap, Key, Moves, Near, Row, RowReads};

@@ -1,7 +1,7 @@
 //! Sums and differences of ints, by their cells.
-ghost use Rattle.std.specs.Prelude.{◌≡◌, ◌≤◌, ◌↔◌, true, false, IsSome, IfSome, ◌+ℤ◌, ◌-ℤ◌, FitsSigned};
+ghost use Rattle.std.specs.Prelude.{◌≡◌, ◌↔◌, true, false, IsSome, IfSome, ◌+ℤ◌, ◌-ℤ◌, FitsSigned};
 ghost use Rattle.std.specs.Int.{w64};
-ghost use Rattle.lt_model.specs.Cells.{last_int, cell_int, sum_of, int_or_none};
+ghost use Rattle.lt_model.specs.Cells.{cell_int, sum_of, int_or_none};
 ghost use Rattle.lt_values.specs.Ints.{IsIntCell};
 
 use crate::ints::{LAST_INT, ZERO_CELL};

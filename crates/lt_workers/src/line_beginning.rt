@@ -1,5 +1,5 @@
 //! What one worker does of a line before others are called, and what of it is handed on meanwhile.
-ghost use Rattle.std.specs.Prelude.{◌≡◌, List};
+ghost use Rattle.std.specs.Prelude.{List};
 ghost use Rattle.lt_model.specs.declared.mark.Mark.{Mark};
 ghost use Rattle.lt_net.specs.Alone.{IsUnclaimed};
 ghost use Rattle.lt_circuit.specs.Line.{line_state};

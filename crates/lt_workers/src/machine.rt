@@ -1,5 +1,5 @@
 //! What workers settle together: a circuit, or a line.
-ghost use Rattle.std.specs.Prelude.{◌≡◌, ◌<◌, ◌≤◌, ◌^◌, ℕ, Some, None, IfOk, IfErr, length};
+ghost use Rattle.std.specs.Prelude.{◌≡◌, ◌<◌, ◌^◌, ℕ, Some, None, IfOk, IfErr, length};
 ghost use Rattle.lt_face.specs.Limits.{most_workers};
 ghost use Rattle.lt_net.specs.Net.{Net, Claim as NetClaim};
 ghost use Rattle.lt_circuit.specs.declared.claim.Claim.{Claim as ClaimType};

@@ -1,7 +1,7 @@
 //! Finishes: what a job gave is stored, its claim ends, and the jobs that read what changed are woken.
 #![tactic(auto)]
 
-ghost use Rattle.std.specs.Prelude.{◌≡◌, ℕ, ◌+◌, ◌*◌, ◌-◌, ◌<◌, ◌≤◌, ◌≢◌, List, [], ◌∷◌, Some, None, slice_set};
+ghost use Rattle.std.specs.Prelude.{◌≡◌, ℕ, ◌+◌, ◌*◌, ◌-◌, ◌<◌, ◌≢◌, List, [], ◌∷◌, Some, None, slice_set};
 ghost use Rattle.lt_face.specs.Limits.{most_workers};
 ghost use Rattle.lt_model.specs.declared.mark.Mark.{Mark as MarkType};
 ghost use Rattle.lt_model.specs.Marks.{and_then};

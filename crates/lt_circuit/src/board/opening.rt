@@ -1,10 +1,10 @@
 //! The opening of a circuit.
-ghost use Rattle.std.specs.Prelude.{◌≡◌, ◌≤◌, ℕ, List, None, IfOk, max};
+ghost use Rattle.std.specs.Prelude.{◌≡◌, ◌≤◌, ℕ, List, IfOk, max};
 ghost use Rattle.lt_face.specs.Limits.{most_programs};
 ghost use Rattle.lt_model.specs.declared.mark.Mark.{Mark as MarkType};
 ghost use Rattle.lt_net.specs.Net.{opening};
 ghost use Rattle.lt_net.specs.Tree.{circuit_net, tree_of};
-ghost use Rattle.lt_circuit.specs.Board.{bare_node, first_state, standing, state_of, table};
+ghost use Rattle.lt_circuit.specs.Board.{standing, state_of};
 
 use super::Board;
 use crate::holders::{Holders, nones};

@@ -1,10 +1,10 @@
 //! The steps of a finish.
 #![tactic(auto)]
 
-ghost use Rattle.std.specs.Prelude.{◌≡◌, ◌≢◌, ℕ, true, false, ◌+◌, ◌*◌, ◌<◌, ◌≤◌, List, Some, None, slice_set, if◌then◌else◌};
+ghost use Rattle.std.specs.Prelude.{◌≡◌, ◌≢◌, ℕ, true, false, ◌+◌, ◌*◌, ◌<◌, List, Some, None, slice_set};
 ghost use Rattle.lt_face.specs.Limits.{most_workers};
 ghost use Rattle.lt_model.specs.declared.mark.Mark.{Mark as MarkType};
-ghost use Rattle.lt_net.specs.Net.{Claim, Effect, Correction, update, woken, ended};
+ghost use Rattle.lt_net.specs.Net.{Claim, Effect, Correction, woken, ended};
 ghost use Rattle.lt_net.specs.Tree.{circuit_net, tree_of, halved_tree};
 ghost use Rattle.lt_net.specs.Codes.{code_of, codes_over};
 ghost use Rattle.lt_net.specs.declared.job.JobName.TheVariants.{Leaf};

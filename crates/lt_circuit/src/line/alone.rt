@@ -1,7 +1,7 @@
 //! A worker alone on a line: segment after segment, each by sweeps and rounds as a circuit, and then its Pass.
 #![tactic(auto)]
 
-ghost use Rattle.std.specs.Prelude.{◌≡◌, ◌+◌, ◌-◌, ◌*◌, ◌≤◌, ◌<◌, ℕ, [], ◌∷◌, map, length, OnOk, IfSome};
+ghost use Rattle.std.specs.Prelude.{◌≡◌, ◌+◌, ◌-◌, ◌*◌, ◌≤◌, ◌<◌, [], ◌∷◌, map, length, OnOk, IfSome};
 ghost use Rattle.lt_face.specs.Limits.{most_programs};
 ghost use Rattle.lt_net.specs.Net.{IsSettled};
 ghost use Rattle.lt_net.specs.Codes.{nodes_over};

@@ -1,7 +1,7 @@
 //! The ends of claims of a line's jobs. They take no memory.
 #![tactic(auto)]
 
-ghost use Rattle.std.specs.Prelude.{◌≡◌, ◌≢◌, ◌<◌, ◌+◌, ◌*◌, ◌/◌, [], ◌∷◌, ◌++◌, ℕ, List, Some, None, length};
+ghost use Rattle.std.specs.Prelude.{◌≡◌, ◌≢◌, ◌<◌, ◌+◌, ◌/◌, [], ◌∷◌, ◌++◌, ℕ, List, Some, None, length};
 ghost use Rattle.lt_face.specs.Limits.{most_workers};
 ghost use Rattle.lt_model.specs.declared.mark.Mark.{Mark};
 ghost use Rattle.lt_net.specs.Net.{Claim, abandoned, finished, read};

@@ -1,7 +1,7 @@
 //! What the tables of a segment tell, and what claims of its jobs capture.
 #![tactic(auto)]
 
-ghost use Rattle.std.specs.Prelude.{◌≡◌, ◌≢◌, ℕ, true, false, ◌<◌, ◌≤◌, ◌^◌, [], None, IfOk, IfSome, IsTrue, ◌↔◌, max};
+ghost use Rattle.std.specs.Prelude.{◌≡◌, ◌≢◌, ℕ, true, false, ◌<◌, ◌≤◌, [], None, IfOk, IfSome, IsTrue, ◌↔◌, max};
 ghost use Rattle.lt_face.specs.Limits.{most_workers};
 ghost use Rattle.lt_net.specs.Codes.{code_of, nodes_over};
 ghost use Rattle.lt_net.specs.Net.{Effect, read};

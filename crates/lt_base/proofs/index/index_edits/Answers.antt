@@ -1,6 +1,4 @@
-use Rattle.std.proofs.Common.{◌≡◌, ℕ, List, length, sym, ap, ◌∙◌, subst}
-use Rattle.lt_face.specs.State.{Row}
-use Rattle.lt_over.specs.Layers.{Edits}
+use Rattle.std.proofs.Common.{ℕ, List, sym, ap, ◌∙◌, subst}
 use Rattle.lt_delta.specs.Columns.{IsPermOf}
 use Rattle.lt_base.specs.Indexed.{AreEditsIn}
 use Rattle.lt_base.proofs.Layered.{one_layer}

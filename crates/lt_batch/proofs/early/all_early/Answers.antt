@@ -1,5 +1,4 @@
 use Rattle.std.proofs.Common.{◌≡◌, length, map, rules, ap, subst, sym}
-use Rattle.std.proofs.lemmas.List.{length-map}
 use Rattle.std.specs.Arc.{arc_value}
 use Rattle.lt_model.specs.Fits.{Fits}
 use Rattle.lt_base.specs.Tables.{state_of}

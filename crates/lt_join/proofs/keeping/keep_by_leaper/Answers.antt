@@ -1,4 +1,4 @@
-use Rattle.std.proofs.Common.{◌≡◌, length, ap, ◌∙◌, arith}
+use Rattle.std.proofs.Common.{length, ap, arith}
 use Rattle.lt_join.proofs.Noting.{walk_within, walk_narrow}
 use Rattle.lt_join.proofs.Gathers.{kept_below_none, kept_leaper, kept_lone, kept_all}
 use Rattle.lt_join.proofs.keeping.keep_by_leaper.Goals as goal

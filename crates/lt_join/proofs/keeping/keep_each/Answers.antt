@@ -1,5 +1,4 @@
-use Rattle.std.proofs.Common.{◌≡◌, ℕ, ◌<◌, map, length, refl, ap, List, get_or, ◌∙◌, subst, arith}
-use Rattle.lt_face.specs.declared.key.Gap.{Gap}
+use Rattle.std.proofs.Common.{◌≡◌, ◌<◌, map, length, refl, ap, get_or, arith}
 use Rattle.lt_leap.specs.Search.{IsGapOf}
 use Rattle.lt_join.specs.Leaper.{leaper_keys}
 use Rattle.lt_join.proofs.Opening.{take_more, all_get}

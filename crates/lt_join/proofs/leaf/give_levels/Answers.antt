@@ -1,6 +1,5 @@
-use Rattle.std.proofs.Common.{◌≡◌, ◌∙◌, take, ap, arith, Some}
+use Rattle.std.proofs.Common.{◌∙◌, take, ap, arith, Some}
 use Rattle.lt_model.specs.Answers.{give_value}
-use Rattle.lt_join.specs.Values.{values_in}
 use Rattle.lt_join.specs.Walked.{at}
 use Rattle.lt_join.proofs.Opening.{take_more}
 use Rattle.lt_join.proofs.Hitting.{length_take}

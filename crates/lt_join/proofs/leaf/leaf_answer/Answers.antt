@@ -1,8 +1,6 @@
-use Rattle.std.proofs.Common.{◌≡◌, ◌∙◌, sym, ap, true, false, Some, None, cond, List}
+use Rattle.std.proofs.Common.{◌≡◌, ◌∙◌, sym, ap, true, false, Some, None, cond}
 use Rattle.std.specs.List.{list_all}
-use Rattle.lt_model.specs.declared.normal.Term.{Term}
-use Rattle.lt_model.specs.declared.normal.Test.{Test}
-use Rattle.lt_model.specs.Answers.{Assignment, Values, give_all, passes, cells_of}
+use Rattle.lt_model.specs.Answers.{Assignment, give_all, passes, cells_of}
 use Rattle.lt_join.specs.Values.{values_in, assigned}
 use Rattle.lt_join.specs.Walked.{at, value_from, leaf_assignment}
 use Rattle.lt_join.proofs.leaf.leaf_answer.Goals as goal

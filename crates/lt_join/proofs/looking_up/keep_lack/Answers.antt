@@ -1,7 +1,6 @@
-use Rattle.std.proofs.Common.{◌≡◌, ℕ, Option, ◌++◌, ◌∷◌, length, ap, ◌∙◌, sym, subst, arith}
-use Rattle.std.specs.Prelude.{IsSome}
+use Rattle.std.proofs.Common.{ℕ, Option, ◌++◌, length, ap, ◌∙◌, arith}
 use Rattle.std.specs.Option.{option_to_list}
-use Rattle.lt_join.proofs.LookingUp.{length_below, gap_kept, one_gap_more, popped_none}
+use Rattle.lt_join.proofs.LookingUp.{length_below, gap_kept, popped_none}
 use Rattle.lt_join.proofs.looking_up.keep_lack.Goals as goal
 
 pub add_gap-requires : goal.add_gap-requires

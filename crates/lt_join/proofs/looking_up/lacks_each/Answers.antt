@@ -1,4 +1,4 @@
-use Rattle.std.proofs.Common.{◌≡◌, ◌+◌, ◌<◌, ℕ, length, take, true, sym, refl, ap, ◌∙◌, subst, arith}
+use Rattle.std.proofs.Common.{◌≡◌, length, take, true, sym, refl, ap, ◌∙◌, subst, arith}
 use Rattle.std.proofs.lemmas.List.{length-map}
 use Rattle.std.proofs.lemmas.Slice.Zip.{AllZip-long}
 use Rattle.lt_face.specs.State.{Row}
@@ -8,7 +8,7 @@ use Rattle.lt_join.specs.Certify.{IsGapped}
 use Rattle.lt_join.specs.Holders.{IsLookUpFor, IsLookUpOf}
 use Rattle.lt_join.specs.Values.{values_in, assigned}
 use Rattle.lt_join.proofs.Looked.{gaps_grow}
-use Rattle.lt_join.proofs.LookingUp.{look_up_at, hit_at, gapped_more, all_taken, Grows-both, gains_chain, Grows-none, gains_none}
+use Rattle.lt_join.proofs.LookingUp.{look_up_at, hit_at, gapped_more, Grows-both, gains_chain}
 use Rattle.lt_join.proofs.looking_up.lacks_each.Goals as goal
 
 pub bounds-look_ups-i : goal.bounds-look_ups-i

@@ -1,4 +1,4 @@
-use Rattle.std.proofs.Common.{◌≡◌, ◌<◌, ◌^◌, List, sym, subst}
+use Rattle.std.proofs.Common.{◌<◌, ◌^◌, List, sym, subst}
 use Rattle.std.specs.List.{AllByRecursion}
 use Rattle.lt_face.specs.Lists.{AnyByRecursion}
 use Rattle.lt_model.specs.declared.normal.Atom.{Atom}

@@ -1,5 +1,5 @@
-use Rattle.std.proofs.Common.{◌≡◌, length, sym, ◌∙◌}
-use Rattle.lt_join.proofs.LookingUp.{hit_kept, looked_there, looked_absent, look_up_wide, gains_hit, gains_gap}
+use Rattle.std.proofs.Common.{length, sym, ◌∙◌}
+use Rattle.lt_join.proofs.LookingUp.{hit_kept, looked_there, looked_absent, look_up_wide}
 use Rattle.lt_join.proofs.looking_up.look_up.Goals as goal
 
 pub returns-then-has-clause-grows : goal.returns-then-has-clause-grows

@@ -1,4 +1,4 @@
-use Rattle.std.proofs.Common.{◌≡◌, ◌<◌, List, ℕ, take, length, sym, ap, ◌∙◌, subst}
+use Rattle.std.proofs.Common.{◌≡◌, ◌<◌, List, ℕ, take, length, ap, ◌∙◌, subst}
 use Rattle.lt_face.specs.State.{IsIndexOf}
 use Rattle.lt_query.specs.Lists.{below}
 use Rattle.lt_join.specs.Holders.{IsLookUpOf}

@@ -1,4 +1,4 @@
-use Rattle.std.proofs.Common.{◌≡◌, ◌+◌, ◌≤◌, ℕ, true, length, slice_get, Some, sym, ap, ◌∙◌, subst}
+use Rattle.std.proofs.Common.{◌≡◌, ◌+◌, ◌≤◌, true, length, slice_get, Some, sym, ap, ◌∙◌, subst}
 use Rattle.std.specs.List.{AllByRecursion}
 use Rattle.lt_model.specs.declared.normal.Atom.{Atom}
 use Rattle.lt_query.specs.Lists.{below}
@@ -12,7 +12,7 @@ use Rattle.lt_query.specs.declared.plans.Plan.{Plan}
 use Rattle.lt_join.specs.Cost.{bound}
 use Rattle.lt_join.specs.Holders.{IsPrepared}
 use Rattle.lt_join.specs.Sliced.{pinned}
-use Rattle.lt_join.proofs.MendJoin.{cost_admitted, term_first, may_pin, empty_slice, joined_slice, IsPrepared-pinned}
+use Rattle.lt_join.proofs.MendJoin.{cost_admitted, term_first, may_pin, empty_slice, IsPrepared-pinned}
 use Rattle.lt_join.proofs.Pinned.{tests_pinned, are_bound_pinned, term_in}
 use Rattle.lt_join.proofs.PinnedPlan.{IsPlanOf-pinned}
 use Rattle.lt_join.proofs.Steps.{slice_get_is}

@@ -1,4 +1,4 @@
-use Rattle.std.proofs.Common.{◌≡◌, ◌<◌, ℕ, List, length, get_or, inl, inr, sym, ◌∙◌, subst}
+use Rattle.std.proofs.Common.{◌<◌, length, get_or, inl, inr, sym, ◌∙◌}
 use Rattle.lt_join.proofs.MendJoin.{cell_of_key, key_is, pin_differs}
 use Rattle.lt_join.proofs.mending_join.may_be.Goals as goal
 

@@ -1,4 +1,4 @@
-use Rattle.std.proofs.Common.{◌≡◌, List, ℕ, sym, ap, ◌∙◌, subst}
+use Rattle.std.proofs.Common.{List, ℕ, sym, ap, ◌∙◌, subst}
 use Rattle.lt_query.specs.Lists.{IsRising}
 use Rattle.lt_join.specs.Mended.{AreMended}
 use Rattle.lt_join.specs.Sliced.{slice_keys}

@@ -1,10 +1,8 @@
 use Rattle.std.proofs.Common.{◌≡◌, true, sym, subst, arith}
-use Rattle.std.specs.Prelude.{is_some, IfSome}
-use Rattle.lt_face.specs.Lists.{IsIn}
 use Rattle.lt_sense.specs.Sense.{covers}
 use Rattle.lt_sense.specs.Spots.{IsSpotOf}
 use Rattle.lt_join.specs.declared.slicing.Slice.{Slice}
-use Rattle.lt_join.proofs.Spotted.{CoverNone-more, none_covered, spot_root, spot_slice, covered_root, covered_slice, is_in}
+use Rattle.lt_join.proofs.Spotted.{none_covered, spot_root, spot_slice, covered_root, covered_slice, is_in}
 use Rattle.lt_join.proofs.mending_read.spot_in.Goals as goal
 
 pub returns-in-Some-clause-spot : goal.returns-in-Some-clause-spot

@@ -1,4 +1,4 @@
-use Rattle.std.proofs.Common.{◌≡◌, sym, ap, ◌∙◌, subst}
+use Rattle.std.proofs.Common.{sym, ap, ◌∙◌, subst}
 use Rattle.lt_join.specs.declared.slicing.Slice.{Slice}
 use Rattle.lt_join.specs.MendedKeys.{IsDisturbed, IsSliceAt, GainsJust}
 use Rattle.lt_join.proofs.MendKeys.{GainsJust-none, GainsJust-push, GainsJust-more}

@@ -1,5 +1,5 @@
 use Rattle.std.proofs.Common.{ℕ, List, ap, ◌∙◌}
-use Rattle.lt_face.specs.State.{Relation, Row}
+use Rattle.lt_face.specs.State.{Row}
 use Rattle.lt_over.proofs.shared_over.merged_if_long.Goals as goal
 
 pub returns-then-is_long : goal.returns-then-is_long

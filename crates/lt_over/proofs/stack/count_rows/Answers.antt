@@ -1,7 +1,6 @@
-use Rattle.std.proofs.Common.{◌≡◌, ◌<◌, ◌≤◌, ◌+◌, List, length, map, slice_get, Some, None, ap, sym, ◌∙◌, arith}
+use Rattle.std.proofs.Common.{◌≡◌, ◌<◌, ◌≤◌, length, map, slice_get, Some, ap, sym, ◌∙◌, arith}
 use Rattle.std.specs.Arc.{arc_value}
 use Rattle.std.specs.Option.{option_copied}
-use Rattle.lt_face.specs.State.{Row}
 use Rattle.lt_face.proofs.Walked.{got_has, got_within, next_place, none_past}
 use Rattle.lt_over.specs.Layers.{stacked}
 use Rattle.lt_over.proofs.Stacks.{stacked_set}

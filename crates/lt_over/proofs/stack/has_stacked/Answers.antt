@@ -1,7 +1,6 @@
-use Rattle.std.proofs.Common.{◌≡◌, ◌≤◌, ◌&&◌, ◌||◌, ◌-◌, Bool, List, not, true, false, map, take, length, refl, ap, sym, ◌∙◌, arith}
+use Rattle.std.proofs.Common.{◌≡◌, ◌&&◌, ◌||◌, ◌-◌, Bool, not, true, false, map, take, refl, ap, sym, ◌∙◌, arith}
 use Rattle.std.specs.Arc.{arc_value}
 use Rattle.lt_face.specs.Rows.{has_row}
-use Rattle.lt_face.specs.State.{Row}
 use Rattle.lt_over.specs.Layers.{stacked}
 use Rattle.lt_over.proofs.Stacks.{last_tells}
 use Rattle.lt_over.proofs.stack.has_stacked.Goals as goal

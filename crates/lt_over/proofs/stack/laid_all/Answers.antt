@@ -1,4 +1,4 @@
-use Rattle.std.proofs.Common.{◌≡◌, sym, ap, ◌∙◌}
+use Rattle.std.proofs.Common.{sym, ap, ◌∙◌}
 use Rattle.std.specs.Arc.{arc_value}
 use Rattle.lt_over.specs.Layers.{Edits, IsLayer}
 use Rattle.lt_over.proofs.Stacks.{layer_at}

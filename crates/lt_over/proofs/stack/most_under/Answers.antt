@@ -1,6 +1,5 @@
 use Rattle.std.proofs.Common.{refl, ap, ◌∙◌, length}
 use Rattle.std.specs.Arc.{arc_value}
-use Rattle.lt_face.specs.State.{Relation}
 use Rattle.lt_over.proofs.Stacks.{bound_more}
 use Rattle.lt_over.proofs.stack.most_under.Goals as goal
 

@@ -1,5 +1,5 @@
-use Rattle.std.proofs.Common.{length, arith}
-use Rattle.lt_program.proofs.KeysLooked.{hits_more, hits_all}
+use Rattle.std.proofs.Common.{arith}
+use Rattle.lt_program.proofs.KeysLooked.{hits_all}
 use Rattle.lt_program.proofs.displacing.add_hits.Goals as goal
 
 pub returns-clause-hits : goal.returns-clause-hits

@@ -1,5 +1,5 @@
-use Rattle.std.proofs.Common.{length, sym, ◌∙◌, arith}
-use Rattle.lt_program.proofs.Clashes.{clash_at, clash_not, apart_none, apart_more}
+use Rattle.std.proofs.Common.{sym, ◌∙◌, arith}
+use Rattle.lt_program.proofs.Clashes.{clash_at, clash_not}
 use Rattle.lt_program.proofs.displacing.clash.Goals as goal
 
 pub returns-then-has_key : goal.returns-then-has_key

@@ -1,4 +1,3 @@
-use Rattle.std.proofs.Common.{length}
 use Rattle.lt_program.proofs.Clashes.{AreApartBelow}
 use Rattle.lt_program.proofs.displacing.clash.Given as goal
 

@@ -1,4 +1,4 @@
-use Rattle.std.proofs.Common.{◌∙◌, length, take, ap, sym}
+use Rattle.std.proofs.Common.{◌∙◌, take, ap, sym}
 use lib.Pointwise.{bytes_decides}
 use Rattle.lt_program.proofs.Clashes.{key_told, key_short}
 use Rattle.lt_program.proofs.displacing.has_key.Goals as goal

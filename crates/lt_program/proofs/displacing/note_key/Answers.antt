@@ -1,4 +1,4 @@
-use Rattle.std.proofs.Common.{◌∙◌, List, ◌++◌, map, length, sym, ap, subst, arith}
+use Rattle.std.proofs.Common.{◌∙◌, List, ◌++◌, map, length, sym, ap, arith}
 use Rattle.lt_face.specs.State.{Row}
 use Rattle.lt_join.proofs.LookingUp.{Grows-both}
 use Rattle.lt_program.proofs.KeysLooked.{hit_at, alike_rise, alike_beside, alike_key, small_row, hits_grow, looked_certified, looked_tight}

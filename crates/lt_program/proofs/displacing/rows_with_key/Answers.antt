@@ -1,8 +1,7 @@
 use Rattle.std.proofs.Common.{◌∙◌, ◌++◌, ◌∷◌, [], List, Option, length, length-append, sym, ap, subst, arith}
 use Rattle.std.specs.Option.{option_copied}
 use Rattle.lt_face.specs.State.{Row}
-use Rattle.lt_program.specs.Displacing.{with_key}
-use Rattle.lt_program.proofs.KeyWalk.{IsWalkedTo, walk_start, walk_has, walk_fewer, walk_goes_on, walk_stops, walk_ends, walk_within, none_there, set_wide}
+use Rattle.lt_program.proofs.KeyWalk.{IsWalkedTo, walk_start, walk_has, walk_fewer, walk_goes_on, walk_stops, walk_ends, none_there, set_wide}
 use Rattle.lt_program.proofs.displacing.rows_with_key.Goals as goal
 
 pub loop-next-init : goal.loop-next-init

@@ -1,4 +1,4 @@
-use Rattle.std.proofs.Common.{◌∙◌, length, sym, ap, arith}
+use Rattle.std.proofs.Common.{◌∙◌, sym, arith}
 use Rattle.lt_program.proofs.Noted.{rises_here, rises_nowhere}
 use Rattle.lt_program.proofs.noting.first_difference.Goals as goal
 

@@ -1,5 +1,4 @@
-use Rattle.std.proofs.Common.{◌∙◌, sym, ap, map}
-use Rattle.lt_model.specs.declared.normal.Stmt.{Stmt}
+use Rattle.std.proofs.Common.{◌∙◌, ap, map}
 use Rattle.lt_model.specs.declared.normal.Body.{Body}
 use Rattle.lt_query.specs.Needs.{body_of, first_index, with_names}
 use Rattle.lt_query.proofs.Needed.{first_step}

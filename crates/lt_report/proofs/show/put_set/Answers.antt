@@ -1,8 +1,7 @@
-use Rattle.std.proofs.Common.{◌≡◌, length, ◌≤◌, ◌<◌, ◌^◌, ◌∙◌, ◌+◌, ℕ, List, take, drop, sym, ap, subst, Some, slice_get}
+use Rattle.std.proofs.Common.{◌≡◌, length, ◌<◌, ◌∙◌, ◌+◌, ℕ, List, take, drop, sym, ap, subst, Some, slice_get}
 use Rattle.std.proofs.lemmas.Result.{err_from_is_err_and}
 use Rattle.std.specs.Option.{option_copied}
-use Rattle.lt_face.specs.Rows.{IsCell, IsRow}
-use Rattle.lt_face.proofs.RowLemmas.{each_weaker}
+use Rattle.lt_face.specs.Rows.{IsRow}
 use Rattle.lt_model.specs.Report.{line, cell_texts, rows_text}
 use Rattle.lt_face.proofs.Walked.{first_dropped, dropped_more}
 use Rattle.lt_report.proofs.Places.{some_place, row_there, is_there}

@@ -1,6 +1,5 @@
-use Rattle.std.proofs.Common.{◌≡◌, sym, subst}
-use Rattle.std.specs.Arc.{arc_value}
-use Rattle.lt_face.specs.State.{Row, State, AgreeOn}
+use Rattle.std.proofs.Common.{sym, subst}
+use Rattle.lt_face.specs.State.{State, AgreeOn}
 use Rattle.lt_model.specs.Fits.{Fits}
 use Rattle.lt_model.specs.Marks.{laid}
 use Rattle.lt_base.specs.Tables.{state_of}

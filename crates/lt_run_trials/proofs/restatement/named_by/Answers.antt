@@ -1,4 +1,4 @@
-use Rattle.std.proofs.Common.{◌≡◌, ℕ, inl, inr, subst}
+use Rattle.std.proofs.Common.{ℕ, inl, inr, subst}
 use Rattle.lt_face.specs.Lists.{IsIn}
 use Rattle.lt_face.specs.State.{Row}
 use Rattle.lt_restate.proofs.Named.{mark_there}

@@ -1,8 +1,7 @@
-use Rattle.std.proofs.Common.{◌≡◌, ◌∙◌, List, ap, map}
+use Rattle.std.proofs.Common.{◌∙◌, ap, map}
 use Rattle.std.specs.Global.{Vec}
 use Rattle.std.specs.Prelude.{filter_map}
 use Rattle.std.specs.Arc.{arc_value}
-use Rattle.lt_model.specs.declared.normal.Stmt.{Stmt}
 use Rattle.lt_model.specs.Report.{good_of}
 use Rattle.lt_base.proofs.Grown.{grown_map}
 use Rattle.lt_batch.specs.Line.{programs_of}

@@ -1,4 +1,4 @@
-use Rattle.std.proofs.Common.{◌+◌, ◌≡◌, ◌∙◌, inl, length, subst}
+use Rattle.std.proofs.Common.{◌∙◌, inl, subst}
 use Rattle.lt_report.specs.Puts.{AppendsFront}
 use Rattle.lt_report.specs.Traces.{bad_trace_text}
 use Rattle.lt_session.proofs.ReplayEnded.{on_err}

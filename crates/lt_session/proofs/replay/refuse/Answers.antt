@@ -1,5 +1,4 @@
-use Rattle.std.proofs.Common.{[], arith, refl, sym, append-nil}
-use Rattle.std.proofs.KnownBytes.{Consumes-nil}
+use Rattle.std.proofs.Common.{arith}
 use Rattle.std.proofs.lemmas.Result.{err_from_is_err_and}
 use Rattle.lt_session.proofs.ReplayEnded.{kept_front, kept_then, kept_told, none_inside, on_err, rest_inside, refusing_unread, stopped_refusing}
 use Rattle.lt_session.proofs.replay.refuse.Goals as goal

@@ -1,4 +1,3 @@
-use Rattle.std.proofs.Common.{arith}
 use Rattle.std.proofs.lemmas.Result.{err_from_is_err_and}
 use Rattle.lt_session.proofs.ReplayEnded.{bad_part, bad_written, begun_of, front_stops, none_replayed, read_as, stopped_replay, stops_after}
 use Rattle.lt_session.proofs.replay.write_replayed.Goals as goal

@@ -1,4 +1,4 @@
-use Rattle.std.proofs.Common.{◌≡◌, ◌<◌, ◌++◌, ◌∷◌, [], length, take, sym, ◌∙◌, subst, arith}
+use Rattle.std.proofs.Common.{◌<◌, ◌++◌, ◌∷◌, [], length, take, sym, ◌∙◌, subst, arith}
 use mathlib.Core.Bool.{true≢false}
 use Rattle.lt_face.specs.Rows.{row_cmp}
 use Rattle.lt_shared.specs.Entries.{joined, AreAllBelow}

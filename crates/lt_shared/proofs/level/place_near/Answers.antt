@@ -1,4 +1,4 @@
-use Rattle.std.proofs.Common.{◌≡◌, ◌<◌, ◌≤◌, ◌+◌, ◌++◌, ◌∷◌, [], suc, length, drop, sym, subst, arith}
+use Rattle.std.proofs.Common.{◌≡◌, ◌≤◌, ◌+◌, ◌++◌, ◌∷◌, [], suc, length, drop, sym, subst, arith}
 use Rattle.lt_shared.specs.Entries.{joined, AreNoneBelow}
 use Rattle.lt_shared.proofs.Joins.{drop_all, drop_past}
 use Rattle.lt_shared.proofs.level.place_near.Goals as goal

@@ -1,6 +1,5 @@
-use Rattle.std.proofs.Common.{◌≡◌, ◌<◌, ◌++◌, ◌∷◌, [], length, List, ℕ, Some, IfSome, sym, ap, ◌∙◌, subst}
+use Rattle.std.proofs.Common.{◌<◌, length, List, ℕ, sym, subst}
 use Rattle.std.specs.List.{AllByRecursion}
-use Rattle.lt_face.specs.Rows.{first_from}
 use Rattle.lt_shared.specs.Entries.{joined}
 use Rattle.lt_shared.proofs.search.near_among.Goals as goal
 

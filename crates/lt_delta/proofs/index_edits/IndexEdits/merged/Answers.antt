@@ -1,4 +1,4 @@
-use Rattle.std.proofs.Common.{◌≡◌, sym, subst, ap, ◌∙◌, length}
+use Rattle.std.proofs.Common.{◌≡◌, sym, subst, ◌∙◌, length}
 use Rattle.lt_over.specs.Layers.{IsLayer}
 use Rattle.lt_delta.proofs.Layered.{renamed, merged, sole_wide}
 use Rattle.lt_delta.proofs.index_edits.IndexEdits.merged.Goals as goal

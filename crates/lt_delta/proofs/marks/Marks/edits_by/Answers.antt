@@ -1,11 +1,8 @@
-use Rattle.std.proofs.Common.{◌≡◌, ◌≤◌, ◌<◌, ℕ, true, false, length, map, sym, ap, ◌∙◌, subst, arith}
-use Rattle.std.specs.List.{AllByRecursion}
+use Rattle.std.proofs.Common.{◌≤◌, true, false, map, ap, ◌∙◌, arith}
 use Rattle.std.proofs.lemmas.List.{take_all}
-use Rattle.lt_face.specs.Rows.{IsRow}
 use Rattle.lt_face.specs.State.{permuted}
-use Rattle.lt_model.specs.declared.mark.Mark.{Mark}
 use Rattle.lt_delta.specs.Laying.{marked}
-use Rattle.lt_delta.proofs.Edited.{is_marked_by, not_signed_by, mark_at, begins, ends}
+use Rattle.lt_delta.proofs.Edited.{is_marked_by, not_signed_by, begins, ends}
 use Rattle.lt_delta.proofs.marks.Marks.edits_by.Goals as goal
 use Rattle.lt_delta.proofs.marks.Marks.edits_by.Goals.{then-mark+in_ok-push, else-mark+in_ok-push-2}
 

@@ -1,5 +1,5 @@
 use Rattle.std.proofs.Common.{ℕ, List, ap, sym, ◌∙◌}
-use Rattle.lt_face.specs.State.{Relation, Row}
+use Rattle.lt_face.specs.State.{Row}
 use Rattle.lt_over.proofs.Overlays.{bare_rows}
 use Rattle.lt_over.proofs.over.Over+Stack+B.raised.Goals as goal
 

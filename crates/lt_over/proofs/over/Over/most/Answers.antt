@@ -1,4 +1,4 @@
-use Rattle.std.proofs.Common.{◌≡◌, ◌≤◌, ◌+◌, length, ap, arith}
+use Rattle.std.proofs.Common.{◌≡◌, length, ap, arith}
 use Rattle.lt_face.specs.State.{Relation}
 use Rattle.lt_over.specs.Overlaid.{overlaid}
 use Rattle.lt_over.proofs.Stacks.{length-overlaid}

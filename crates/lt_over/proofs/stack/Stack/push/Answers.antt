@@ -1,4 +1,4 @@
-use Rattle.std.proofs.Common.{◌≡◌, ℕ, sym, ap, ◌∙◌, subst}
+use Rattle.std.proofs.Common.{sym, ap, ◌∙◌, subst}
 use Rattle.lt_face.specs.State.{Relation}
 use Rattle.lt_over.specs.Layers.{AreAsWide, stacked}
 use Rattle.lt_over.proofs.Stacks.{layered_more, layers_of_width, stacked_more}

@@ -1,7 +1,7 @@
-use Rattle.std.proofs.Common.{◌≡◌, ◌∷◌, [], ℕ, List, true, sym, ap, ◌∙◌, subst}
+use Rattle.std.proofs.Common.{◌≡◌, ◌∷◌, [], List, true, sym, ap, ◌∙◌, subst}
 use Rattle.std.specs.List.{AllByRecursion}
 use Rattle.lt_face.specs.Rows.{IsRowSet, has_row, with_row}
-use Rattle.lt_face.specs.State.{Relation, Row}
+use Rattle.lt_face.specs.State.{Relation}
 use Rattle.lt_over.specs.Layers.{Edits, IsLayer, stacked}
 use Rattle.lt_over.proofs.Overlays.{with_there}
 use Rattle.lt_over.proofs.Stacks.{layered_more, stacked_more, stacked_set, put_rows, one_row}

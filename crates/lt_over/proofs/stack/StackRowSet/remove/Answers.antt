@@ -1,7 +1,7 @@
 use Rattle.std.proofs.Common.{◌≡◌, ◌∷◌, [], ℕ, List, true, false, sym, ap, ◌∙◌, subst}
 use Rattle.std.specs.List.{AllByRecursion}
 use Rattle.lt_face.specs.Rows.{IsRow, IsRowSet, has_row, without_row}
-use Rattle.lt_face.specs.State.{Relation, Row}
+use Rattle.lt_face.specs.State.{Relation}
 use Rattle.lt_face.proofs.RowLemmas.{without_row-absent}
 use Rattle.lt_face.proofs.Walked.{each_has}
 use Rattle.lt_over.specs.Layers.{Edits, IsLayer, stacked}

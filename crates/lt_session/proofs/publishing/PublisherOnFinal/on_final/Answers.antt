@@ -1,4 +1,4 @@
-use Rattle.std.proofs.Common.{◌≡◌, ◌++◌, [], ◌∷◌, ◌∙◌, List, ap}
+use Rattle.std.proofs.Common.{◌++◌, [], ◌∷◌, ◌∙◌, List, ap}
 use Rattle.lt_model.specs.declared.mark.Mark.{Mark}
 use Rattle.lt_model.specs.Marks.{laid}
 use Rattle.lt_base.specs.Tables.{Table, state_of}

@@ -1,7 +1,3 @@
-use Rattle.std.proofs.Common.{◌++◌, ◌∷◌, [], List, subst, sym, ap}
-use Rattle.std.specs.Prelude.{OnOk}
-use Rattle.lt_model.specs.declared.syntax.Item.{Item}
-use Rattle.lt_session.specs.Waiting.{AnswersSome, held}
 use Rattle.lt_session.proofs.Held.{answered_alone, none_waits, ready_taken}
 use Rattle.lt_session.proofs.session.Session.take.Goals as goal
 
