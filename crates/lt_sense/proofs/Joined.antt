@@ -398,11 +398,8 @@ get_own [] i d e lt = absurd (omega arith)
 get_own (x ∷ xs) zero d e lt = refl
 get_own (x ∷ xs) (suc i) d e lt = get_own xs i d e (omega arith)
 
-pub image_there_or : {X Y : Type 0} (f : X → Y) (xs : List X) (i : ℕ) (d : X) → i < length xs → slice_get (map f xs) i ≡ Some (f (get_or xs i d))
-image_there_or f xs i d lt = image_at f xs i (get_or xs i d) (slice_get-get_or xs i d lt)
-
-pub is_image_or : {X Y : Type 0} (f : X → Y) (xs : List X) (i : ℕ) (d : X) (y : Y) → i < length xs → slice_get (map f xs) i ≡ Some y → f (get_or xs i d) ≡ y
-is_image_or f xs i d y lt there = some_is (f (get_or xs i d)) y (sym (image_there_or f xs i d lt) ∙ there)
+pub image_there : {X Y : Type 0} (f : X → Y) (xs : List X) (i : ℕ) (x : X) → i < length xs → x ≡ get_or xs i x → slice_get (map f xs) i ≡ Some (f x)
+image_there f xs i x lt is = image_at f xs i x (slice_get-get_or xs i x lt ∙ ap Some (sym is))
 
 pub ordered_next : {X Y : Type 0} (B : Y → Y → Type 0) → ((a b c : Y) → B a b → B b c → B a c) → (f : X → Y) (xs : List X) (i : ℕ) (d : X) → 1 ≤ i → i < length xs → AreInOrder B (map f (take i xs)) → B (f (get_or xs (i - 1) d)) (f (get_or xs i d)) → AreInOrder B (map f (take (i + 1) xs))
 ordered_next B trans f xs zero d le lt h b = absurd (omega (arith, le))

@@ -7,6 +7,7 @@ mod cutting;
 mod gathering;
 mod hits;
 mod joining;
+mod merging;
 mod no_noted;
 mod no_sense;
 mod noted;

@@ -1,17 +1,16 @@
-//! Gaps put in order: parts that are in order are merged, and gaps under one prefix that overlap or adjoin are joined.
-ghost use Rattle.std.specs.Prelude.{◌≡◌, ◌<◌, ◌≤◌, ◌++◌, true, false, length, slice_get, Some, IfOk, OnOk, OnErr};
+//! Gaps put in order, where those under one prefix that overlap or adjoin are joined; and both gaps and hits.
+ghost use Rattle.std.specs.Prelude.{◌≡◌, ◌<◌, ◌≤◌, true, false, length, Some, OnOk, OnErr};
 ghost use Rattle.std.specs.List.{AllByRecursion};
-ghost use Rattle.std.specs.Ordering.{is_gt};
 ghost use Rattle.lt_face.specs.Lists.{AreInOrder};
-ghost use Rattle.lt_sense.specs.declared.covering.KeptGap.{KeptGap as KeptGapView};
 ghost use Rattle.lt_sense.specs.Sense.{hit_covers};
 ghost use Rattle.lt_sense.specs.Stored.{stored_gap, sense_of, IsSound};
 ghost use Rattle.lt_sense.specs.Ordered.{gap_cmp, gap_holds, IsGapBefore, IsHitBefore, IsSealed, IsSealedOf, gaps_in, IsKeptGap, AreUpTo, joins as is_to_join, IsPut};
 
+use crate::covering::KeptGap;
+use crate::merging::{Sealable, are_ordered, sealed};
 use crate::store::{Passed, Store};
 use lt_face::key::Key;
 use lt_face::memory::NoMemory;
-use std::alloc::Global;
 use std::cmp::Ordering;
 
 /// The greater of two cells.
@@ -68,56 +67,6 @@ impl Store {
         }
     }
 
-    /// Whether the next of one list comes before that of the other, or the other has none.
-    fn takes_gap(&self, one: &[Passed], i: usize, other: &[Passed], j: usize) -> bool
-        requires sound { IsSound self.now }
-        requires one { AllByRecursion (IsKeptGap self.now) one.now }
-        requires other { AllByRecursion (IsKeptGap self.now) other.now }
-        requires more { length other.now ≤ j → i < length one.now }
-        ensures first { result ≡ true → i < length one.now }
-        ensures second { result ≡ false → j < length other.now }
-        ensures below { result ≡ true → (a b : KeptGapView) → slice_get (gaps_in self.now one.now) i ≡ Some a → slice_get (gaps_in self.now other.now) j ≡ Some b → is_gt (gap_cmp a b) ≡ false }
-        ensures above { result ≡ false → (a b : KeptGapView) → slice_get (gaps_in self.now one.now) i ≡ Some a → slice_get (gaps_in self.now other.now) j ≡ Some b → is_gt (gap_cmp b a) ≡ false }
-    {
-        if j >= other.len() {
-            return true;
-        }
-        if i >= one.len() {
-            return false;
-        }
-        let next = one[i];
-        let rival = other[j];
-        !self.compare_gaps(next, rival).is_gt()
-    }
-
-    /// Two lists of gaps in order as one.
-    fn merged_gaps(&self, one: &[Passed], other: &[Passed]) -> Result<Vec<Passed>, NoMemory>
-        requires sound { IsSound self.now }
-        requires one { AllByRecursion (IsKeptGap self.now) one.now }
-        requires other { AllByRecursion (IsKeptGap self.now) other.now }
-        requires one_ordered { AreInOrder IsGapBefore (gaps_in self.now one.now) }
-        requires other_ordered { AreInOrder IsGapBefore (gaps_in self.now other.now) }
-        ensures kept { IfOk result (λ out. AllByRecursion (IsKeptGap self.now) out.items) }
-        ensures merged { IfOk result (λ out. IsSealedOf IsGapBefore gap_holds (gaps_in self.now one.now ++ gaps_in self.now other.now) (gaps_in self.now out.items)) }
-    {
-        let mut out = Vec::new(*self.gaps.allocator());
-        let mut i = 0;
-        let mut j = 0;
-        let count = one.len() + other.len();
-        for step in 0..count {
-            if self.takes_gap(one, i, other, j) {
-                let gap = one[i];
-                self.put_gap(&mut out, gap)?;
-                i += 1;
-            } else {
-                let rival = other[j];
-                self.put_gap(&mut out, rival)?;
-                j += 1;
-            }
-        }
-        Ok(out)
-    }
-
     /// Whether the gap comes before the other, and if both are under one prefix, there are cells between them.
     fn is_gap_before(&self, one: Passed, other: Passed) -> bool
         requires sound { IsSound self.now }
@@ -138,48 +87,12 @@ impl Store {
         }
     }
 
-    /// Whether the gaps are in order.
-    fn are_gaps_ordered(&self, gaps: &[Passed]) -> bool
-        requires sound { IsSound self.now }
-        requires kept { AllByRecursion (IsKeptGap self.now) gaps.now }
-        ensures ordered { result ≡ true → AreInOrder IsGapBefore (gaps_in self.now gaps.now) }
-        ensures several { result ≡ false → 2 ≤ length gaps.now }
-    {
-        for at in 1..gaps.len() {
-            let last = gaps[at - 1];
-            let gap = gaps[at];
-            if !self.is_gap_before(last, gap) {
-                return false;
-            }
-        }
-        true
-    }
-
-    /// The gaps in order.
-    pub(crate) fn sealed_gaps(&self, gaps: &[Passed]) -> Result<Vec<Passed>, NoMemory>
-        requires sound { IsSound self.now }
-        requires kept { AllByRecursion (IsKeptGap self.now) gaps.now }
-        ensures kept { IfOk result (λ out. AllByRecursion (IsKeptGap self.now) out.items) }
-        ensures same { IfOk result (λ out. IsSealedOf IsGapBefore gap_holds (gaps_in self.now gaps.now) (gaps_in self.now out.items)) }
-    {
-        if self.are_gaps_ordered(gaps) {
-            let mut out = Vec::new(*self.gaps.allocator());
-            out.extend_from_slice(gaps)?;
-            return Ok(out);
-        }
-        let (left, right) = gaps.split_at(gaps.len() / 2);
-        let one = self.sealed_gaps(left)?;
-        let other = self.sealed_gaps(right)?;
-        let out = self.merged_gaps(&one, &other)?;
-        Ok(out)
-    }
-
     /// Whether gaps and hits are in order.
     pub(crate) fn is_ordered(&self) -> bool
         requires { IsSound self.now }
         ensures { result ≡ true → IsSealed (sense_of self.now) }
     {
-        self.are_gaps_ordered(&self.gaps) && self.are_hits_ordered(&self.hits)
+        are_ordered(self, &self.gaps) && are_ordered(self, &self.hits)
     }
 
     /// Puts gaps and hits in order. Want of memory leaves all as it was.
@@ -190,10 +103,38 @@ impl Store {
         ensures hits { OnOk result (IsSealedOf IsHitBefore hit_covers (sense_of self.old).hits (sense_of self.new).hits) }
         ensures err { OnErr result (self.new ≡ self.old) }
     {
-        let gaps = self.sealed_gaps(&self.gaps)?;
-        let hits = self.sealed_hits(&self.hits)?;
+        let gaps = sealed(self, &self.gaps)?;
+        let hits = sealed(self, &self.hits)?;
         self.gaps = gaps;
         self.hits = hits;
         Ok(())
+    }
+}
+
+impl Sealable for Passed {
+    type Entry = KeptGap;
+
+    ghost entry = { stored_gap };
+
+    ghost is_kept = { IsKeptGap };
+
+    ghost order = { gap_cmp };
+
+    ghost is_before = { IsGapBefore };
+
+    ghost covers = { gap_holds };
+
+    fn order_is_total() {}
+
+    fn compare(store: &Store, one: Passed, other: Passed) -> Ordering {
+        store.compare_gaps(one, other)
+    }
+
+    fn comes_before(store: &Store, one: Passed, other: Passed) -> bool {
+        store.is_gap_before(one, other)
+    }
+
+    fn put(store: &Store, out: &mut Vec<Passed>, next: Passed) -> Result<(), NoMemory> {
+        store.put_gap(out, next)
     }
 }

@@ -1,7 +1,0 @@
-use Rattle.std.proofs.Common.{take}
-use Rattle.lt_face.specs.Lists.{AreInOrder}
-use Rattle.lt_sense.specs.Ordered.{IsGapBefore, gaps_in}
-use Rattle.lt_sense.proofs.store.Store.are_gaps_ordered.Given as goal
-
-abbrev pub invariant-loop-at : goal.invariant-loop-at
-invariant-loop-at l = AreInOrder IsGapBefore (gaps_in l.self (take l.at l.gaps))
