@@ -1,5 +1,5 @@
 -- What stays true of a requirement where the states agree.
-use Rattle.std.specs.Prelude.{◌≡◌, true, false}
+use Rattle.std.specs.Prelude.{◌≡◌, true}
 use Rattle.std.proofs.Common.{sym, ◌∙◌, inl, inr}
 use Rattle.std.proofs.lemmas.Bool.{cases_Bool, true≢false}
 use Rattle.lt_model.specs.declared.normal.Body.{Body}

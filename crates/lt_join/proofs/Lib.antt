@@ -12,6 +12,7 @@ pub mod Under
 pub mod Opening
 pub mod Noting
 pub mod Gathers
+pub mod LevelLists
 pub mod Levels
 pub mod Deeper
 pub mod Entering

@@ -1,5 +1,5 @@
 -- What stays of slices where rows changed, and what the mended ones stand for.
-use Rattle.std.specs.Prelude.{◌≡◌, ℕ, ◌<◌, ◌≤◌, true, false, ◌==◌, nat_lt, nat_le, List, [], ◌∷◌, length, ◌⊎◌, Some}
+use Rattle.std.specs.Prelude.{◌≡◌, ℕ, ◌<◌, ◌≤◌, true, ◌==◌, nat_lt, nat_le, List, [], ◌∷◌, length, ◌⊎◌, Some}
 use Rattle.std.proofs.Common.{refl, sym, ◌∙◌, subst, inl, inr, arith}
 use Rattle.std.proofs.lemmas.Bool.{and_parts, and_from, eqb-true, eqb-false, eq-eqb, leb-true, ltb-true, le-leb, lt-ltb, cases_Bool, true≢false}
 use Rattle.lt_face.specs.Lists.{IsIn, AnyByRecursion}

@@ -29,7 +29,7 @@ use Rattle.lt_join.specs.Cost.{LevelGains}
 use Rattle.lt_join.specs.Walked.{at, Grows, IsCollected, IsSettled, AreFoundUnder, StandsAt}
 use Rattle.lt_join.proofs.Costs.{IsCredited}
 use Rattle.lt_join.proofs.Leaves.{collected_below, certified_below}
-use Rattle.lt_join.proofs.Levels.{all_append}
+use Rattle.lt_join.proofs.LevelLists.{all_append}
 use Rattle.lt_join.proofs.Repair.{GapIsTight, IsAscending-answers, not_missed}
 use Rattle.lt_join.proofs.SliceLaws.{first_is, levels_below, one_less, stands_for_grows}
 use Rattle.lt_join.proofs.Steps.{IsDone, IsUnderWay, Explored-grows, explored_under, settled_of}

@@ -1,5 +1,5 @@
 -- A body that fits its state, and a plan of it, can be walked.
-use Rattle.std.specs.Prelude.{◌≡◌, ◌<◌, ◌≤◌, ℕ, Bool, true, List, length}
+use Rattle.std.specs.Prelude.{◌<◌, ◌≤◌, ℕ, Bool, List, length}
 use Rattle.std.specs.List.{AllByRecursion}
 use Rattle.std.proofs.Common.{arith}
 use Rattle.lt_face.specs.State.{State}
@@ -14,9 +14,7 @@ use Rattle.lt_query.specs.declared.plans.Guide.{Guide}
 use Rattle.lt_query.specs.declared.plans.Plan.{Plan}
 use Rattle.lt_query.specs.Runnable.{IsRunnable, IsWidth}
 use Rattle.lt_join.specs.Values.{IsTest}
-use Rattle.lt_model.specs.Bound.{are_bound}
-use Rattle.lt_query.specs.Lists.{below}
-use Rattle.lt_query.specs.Plan.{IsPlanOf}
+use Rattle.lt_join.specs.Asked.{CanJoin, AreAnswerable}
 use Rattle.lt_join.specs.Holders.{IsPrepared}
 use Rattle.lt_join.specs.Parts.{IsJoinable}
 
@@ -37,16 +35,15 @@ IsPrepared-from state body plan terms fits runnable narrow = record {
 }
 
 -- a body and a plan with a level can be walked by ranges of its keys
-pub IsJoinable-from : (state : State) (has_index : ℕ → List ℕ → Bool) (body : Body) (plan : Plan) (terms : List Term) → IsPlanOf body plan → IsRunnable body plan → IsBodyOf state body
-    → AllByRecursion (λ (guide : Guide). has_index guide.relation guide.columns ≡ true) plan.guides → AllByRecursion (λ (atom : Atom). has_index atom.relation (below (length atom.terms)) ≡ true) body.absents
-    → are_bound body terms ≡ true → length terms ≤ 8 → 0 < length plan.levels → IsJoinable state has_index body plan terms
-IsJoinable-from state has_index body plan terms of_body runnable fits indexes firsts heads narrow some = record {
-  of_body = of_body;
-  prepared = IsPrepared-from state body plan terms fits runnable narrow;
-  has_indexes = indexes;
-  has_firsts = firsts;
-  tests = (fits.is_bound, fits.are_absents_bound);
-  heads = heads;
+pub IsJoinable-from : (state : State) (has_index : ℕ → List ℕ → Bool) (body : Body) (plan : Plan) (terms : List Term) → CanJoin state has_index body plan → AreAnswerable body terms → 0 < length plan.levels
+    → IsJoinable state has_index body plan terms
+IsJoinable-from state has_index body plan terms can answerable some = record {
+  of_body = can.of_body;
+  prepared = IsPrepared-from state body plan terms can.fits can.runnable answerable.narrow;
+  has_indexes = can.has_indexes;
+  has_firsts = can.has_firsts;
+  tests = (can.fits.is_bound, can.fits.are_absents_bound);
+  heads = answerable.are_bound;
   has_levels = some;
 }
 

@@ -16,7 +16,8 @@ use Rattle.lt_join.specs.Cost.{iterators_at}
 use Rattle.lt_join.specs.Walked.{at}
 use Rattle.lt_join.specs.Holders.{OfAtom, OfKey, IsLeaperOf, AreOpened, atoms_at, holders_at, alone}
 use Rattle.lt_join.proofs.Opening.{zip_long, take_more, atoms_more}
-use Rattle.lt_join.proofs.Levels.{length_append, length_map, holder_keys, iterators_are, lists_same, cost-least, AreLeapers-of}
+use Rattle.lt_join.proofs.Levels.{length_append, AreLeapers-of}
+use Rattle.lt_join.proofs.LevelLists.{length_map, holder_keys, iterators_are, lists_same, cost-least}
 
 atoms_take : (guides : List Guide) (l i : ℕ) → length (atoms_at (take i guides) l) ≤ length (atoms_at guides l)
 atoms_take [] l zero = omega arith

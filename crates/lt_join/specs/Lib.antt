@@ -1,3 +1,4 @@
+pub mod Asked
 pub mod Certify
 pub mod Cost
 pub mod Explored

@@ -1,16 +1,14 @@
 //! The answers of a body, and whether it has one.
 ghost use Rattle.std.specs.Prelude.{◌≡◌, ◌+◌, ◌≤◌, true, length, IfOk, IsTrue};
 ghost use Rattle.std.specs.List.{AllByRecursion};
-ghost use Rattle.lt_face.specs.Limits.{most_columns};
 ghost use Rattle.lt_model.specs.Answers.{answers as answers_of, some_answer};
 ghost use Rattle.lt_model.specs.Bound.{are_bound};
-ghost use Rattle.lt_model.specs.Fits.{IsBodyOf};
 ghost use Rattle.lt_query.specs.Answering.{AreTestsBound};
 ghost use Rattle.lt_query.specs.Lists.{below};
 ghost use Rattle.lt_query.specs.Plan.{IsPlanOf};
-ghost use Rattle.lt_query.specs.Runnable.{IsRunnable};
 ghost use Rattle.lt_sense.specs.Ordered.{IsSealed};
 ghost use Rattle.lt_sense.specs.Sense.{IsTight};
+ghost use Rattle.lt_join.specs.Asked.{CanJoin, AreAnswerable};
 ghost use Rattle.lt_join.specs.Certify.{Certifies, Vouches};
 ghost use Rattle.lt_join.specs.Cost.{bound};
 ghost use Rattle.lt_join.specs.Holders.{IsPrepared};
@@ -76,13 +74,8 @@ pub fn answers_unsealed<I: Indexes, L>(
     indexes: &I,
     moves: &mut Moves<L>,
 ) -> Result<(RowList, Sense), NoMemory>
-    requires of_body { IsPlanOf body.now plan.now }
-    requires runnable { IsRunnable body.now plan.now }
-    requires fits { IsBodyOf (I.state indexes.now) body.now }
-    requires has_indexes { AllByRecursion (λ guide. I.has_index indexes.now guide.relation guide.columns ≡ true) plan.now.guides }
-    requires has_firsts { AllByRecursion (λ atom. I.has_index indexes.now atom.relation (below (length atom.terms)) ≡ true) body.now.absents }
-    requires are_bound { IsTrue (are_bound body.now terms.now) }
-    requires narrow { length terms.now ≤ most_columns }
+    requires can_join { CanJoin (I.state indexes.now) (I.has_index indexes.now) body.now plan.now }
+    requires answerable { AreAnswerable body.now terms.now }
     ensures rows { IfOk result (λ found. found.0 ≡ answers_of terms.now body.now (I.state indexes.now)) }
     ensures certified { IfOk result (λ found. Certifies found.1 body.now (I.state indexes.now)) }
     ensures tight { IfOk result (λ found. IsTight found.1 (I.state indexes.now)) }
@@ -106,13 +99,8 @@ pub fn answers<I: Indexes, L>(
     indexes: &I,
     moves: &mut Moves<L>,
 ) -> Result<(RowList, Sense), NoMemory>
-    requires of_body { IsPlanOf body.now plan.now }
-    requires runnable { IsRunnable body.now plan.now }
-    requires fits { IsBodyOf (I.state indexes.now) body.now }
-    requires has_indexes { AllByRecursion (λ guide. I.has_index indexes.now guide.relation guide.columns ≡ true) plan.now.guides }
-    requires has_firsts { AllByRecursion (λ atom. I.has_index indexes.now atom.relation (below (length atom.terms)) ≡ true) body.now.absents }
-    requires are_bound { IsTrue (are_bound body.now terms.now) }
-    requires narrow { length terms.now ≤ most_columns }
+    requires can_join { CanJoin (I.state indexes.now) (I.has_index indexes.now) body.now plan.now }
+    requires answerable { AreAnswerable body.now terms.now }
     ensures rows { IfOk result (λ found. found.0 ≡ answers_of terms.now body.now (I.state indexes.now)) }
     ensures certified { IfOk result (λ found. Certifies found.1 body.now (I.state indexes.now)) }
     ensures tight { IfOk result (λ found. IsTight found.1 (I.state indexes.now)) }
@@ -137,13 +125,8 @@ pub fn answers_alone<I: Indexes, L>(
     indexes: &I,
     moves: &mut Moves<L>,
 ) -> Result<RowList, NoMemory>
-    requires of_body { IsPlanOf body.now plan.now }
-    requires runnable { IsRunnable body.now plan.now }
-    requires fits { IsBodyOf (I.state indexes.now) body.now }
-    requires has_indexes { AllByRecursion (λ guide. I.has_index indexes.now guide.relation guide.columns ≡ true) plan.now.guides }
-    requires has_firsts { AllByRecursion (λ atom. I.has_index indexes.now atom.relation (below (length atom.terms)) ≡ true) body.now.absents }
-    requires are_bound { IsTrue (are_bound body.now terms.now) }
-    requires narrow { length terms.now ≤ most_columns }
+    requires can_join { CanJoin (I.state indexes.now) (I.has_index indexes.now) body.now plan.now }
+    requires answerable { AreAnswerable body.now terms.now }
     ensures rows { IfOk result (λ rows. rows ≡ answers_of terms.now body.now (I.state indexes.now)) }
     // also where memory is refused
     ensures cost { moves.new ≤ moves.old + bound body.now plan.now (I.state indexes.now) }
@@ -163,11 +146,7 @@ fn some_sensed<I: Indexes, S: Senses, L>(
     indexes: &I,
     moves: &mut Moves<L>,
 ) -> Result<(bool, S), NoMemory>
-    requires of_body { IsPlanOf body.now plan.now }
-    requires runnable { IsRunnable body.now plan.now }
-    requires fits { IsBodyOf (I.state indexes.now) body.now }
-    requires has_indexes { AllByRecursion (λ guide. I.has_index indexes.now guide.relation guide.columns ≡ true) plan.now.guides }
-    requires has_firsts { AllByRecursion (λ atom. I.has_index indexes.now atom.relation (below (length atom.terms)) ≡ true) body.now.absents }
+    requires can_join { CanJoin (I.state indexes.now) (I.has_index indexes.now) body.now plan.now }
     ensures truth { IfOk result (λ found. found.0 ≡ some_answer body.now (I.state indexes.now)) }
     ensures vouched { IfOk result (λ found. Vouches (S.seen found.1) body.now (I.state indexes.now)) }
     ensures tight { IfOk result (λ found. IsTight (S.seen found.1) (I.state indexes.now)) }
@@ -201,11 +180,7 @@ pub fn some_unsealed<I: Indexes, L>(
     indexes: &I,
     moves: &mut Moves<L>,
 ) -> Result<(bool, Sense), NoMemory>
-    requires of_body { IsPlanOf body.now plan.now }
-    requires runnable { IsRunnable body.now plan.now }
-    requires fits { IsBodyOf (I.state indexes.now) body.now }
-    requires has_indexes { AllByRecursion (λ guide. I.has_index indexes.now guide.relation guide.columns ≡ true) plan.now.guides }
-    requires has_firsts { AllByRecursion (λ atom. I.has_index indexes.now atom.relation (below (length atom.terms)) ≡ true) body.now.absents }
+    requires can_join { CanJoin (I.state indexes.now) (I.has_index indexes.now) body.now plan.now }
     ensures truth { IfOk result (λ found. found.0 ≡ some_answer body.now (I.state indexes.now)) }
     ensures vouched { IfOk result (λ found. Vouches found.1 body.now (I.state indexes.now)) }
     ensures tight { IfOk result (λ found. IsTight found.1 (I.state indexes.now)) }
@@ -227,11 +202,7 @@ pub fn some<I: Indexes, L>(
     indexes: &I,
     moves: &mut Moves<L>,
 ) -> Result<(bool, Sense), NoMemory>
-    requires of_body { IsPlanOf body.now plan.now }
-    requires runnable { IsRunnable body.now plan.now }
-    requires fits { IsBodyOf (I.state indexes.now) body.now }
-    requires has_indexes { AllByRecursion (λ guide. I.has_index indexes.now guide.relation guide.columns ≡ true) plan.now.guides }
-    requires has_firsts { AllByRecursion (λ atom. I.has_index indexes.now atom.relation (below (length atom.terms)) ≡ true) body.now.absents }
+    requires can_join { CanJoin (I.state indexes.now) (I.has_index indexes.now) body.now plan.now }
     ensures truth { IfOk result (λ found. found.0 ≡ some_answer body.now (I.state indexes.now)) }
     ensures vouched { IfOk result (λ found. Vouches found.1 body.now (I.state indexes.now)) }
     ensures tight { IfOk result (λ found. IsTight found.1 (I.state indexes.now)) }
@@ -255,11 +226,7 @@ pub fn some_alone<I: Indexes, L>(
     indexes: &I,
     moves: &mut Moves<L>,
 ) -> Result<bool, NoMemory>
-    requires of_body { IsPlanOf body.now plan.now }
-    requires runnable { IsRunnable body.now plan.now }
-    requires fits { IsBodyOf (I.state indexes.now) body.now }
-    requires has_indexes { AllByRecursion (λ guide. I.has_index indexes.now guide.relation guide.columns ≡ true) plan.now.guides }
-    requires has_firsts { AllByRecursion (λ atom. I.has_index indexes.now atom.relation (below (length atom.terms)) ≡ true) body.now.absents }
+    requires can_join { CanJoin (I.state indexes.now) (I.has_index indexes.now) body.now plan.now }
     ensures truth { IfOk result (λ told. told ≡ some_answer body.now (I.state indexes.now)) }
     // also where memory is refused
     ensures cost { moves.new ≤ moves.old + bound body.now plan.now (I.state indexes.now) }

@@ -1,16 +1,13 @@
 //! Slices of touched keys, joined anew.
-ghost use Rattle.std.specs.Prelude.{◌≡◌, ◌+◌, ◌≤◌, ◌<◌, true, false, length, IfOk, IsTrue};
+ghost use Rattle.std.specs.Prelude.{◌≡◌, ◌+◌, ◌≤◌, ◌<◌, true, false, length, IfOk};
 ghost use Rattle.std.specs.List.{AllByRecursion};
-ghost use Rattle.lt_face.specs.Limits.{most_columns};
 ghost use Rattle.lt_face.specs.Rows.{IsCell};
 ghost use Rattle.lt_face.specs.State.{State};
-ghost use Rattle.lt_model.specs.Bound.{are_bound};
 ghost use Rattle.lt_model.specs.Cells.{is_cell};
-ghost use Rattle.lt_model.specs.Fits.{IsBodyOf};
-ghost use Rattle.lt_query.specs.Lists.{IsRising, below};
-ghost use Rattle.lt_query.specs.Plan.{IsPlanOf, term_at};
-ghost use Rattle.lt_query.specs.Runnable.{IsRunnable};
+ghost use Rattle.lt_query.specs.Lists.{IsRising};
+ghost use Rattle.lt_query.specs.Plan.{term_at};
 ghost use Rattle.lt_sense.specs.Cut.{cut};
+ghost use Rattle.lt_join.specs.Asked.{CanJoin, AreAnswerable};
 ghost use Rattle.lt_join.specs.Mended.{AreSlicesOn, HaveTouched, AreMended};
 ghost use Rattle.lt_join.specs.MendedPlan.{IsForbidden, slice_cost, mending_cost};
 ghost use Rattle.lt_join.specs.Sliced.{slice_keys, IsSliceOf};
@@ -64,13 +61,8 @@ fn join_slice<I: Indexes, L>(
     key: Key,
     moves: &mut Moves<L>,
 ) -> Result<Slice, NoMemory>
-    requires of_body { IsPlanOf body.now plan.now }
-    requires runnable { IsRunnable body.now plan.now }
-    requires fits { IsBodyOf (I.state indexes.now) body.now }
-    requires has_indexes { AllByRecursion (λ guide. I.has_index indexes.now guide.relation guide.columns ≡ true) plan.now.guides }
-    requires has_firsts { AllByRecursion (λ atom. I.has_index indexes.now atom.relation (below (length atom.terms)) ≡ true) body.now.absents }
-    requires are_bound { IsTrue (are_bound body.now terms.now) }
-    requires narrow { length terms.now ≤ most_columns }
+    requires can_join { CanJoin (I.state indexes.now) (I.has_index indexes.now) body.now plan.now }
+    requires answerable { AreAnswerable body.now terms.now }
     requires has_levels { 0 < length plan.now.levels }
     ensures key { IfOk result (λ slice. slice.key ≡ key) }
     ensures slice { IfOk result (IsSliceOf terms.now body.now (term_at plan.now.levels 0) (I.state indexes.now)) }
@@ -100,13 +92,8 @@ fn join_slices<I: Indexes, L>(
     keys: &[Key],
     moves: &mut Moves<L>,
 ) -> Result<SharedSlices, NoMemory>
-    requires of_body { IsPlanOf body.now plan.now }
-    requires runnable { IsRunnable body.now plan.now }
-    requires fits { IsBodyOf (I.state indexes.now) body.now }
-    requires has_indexes { AllByRecursion (λ guide. I.has_index indexes.now guide.relation guide.columns ≡ true) plan.now.guides }
-    requires has_firsts { AllByRecursion (λ atom. I.has_index indexes.now atom.relation (below (length atom.terms)) ≡ true) body.now.absents }
-    requires are_bound { IsTrue (are_bound body.now terms.now) }
-    requires narrow { length terms.now ≤ most_columns }
+    requires can_join { CanJoin (I.state indexes.now) (I.has_index indexes.now) body.now plan.now }
+    requires answerable { AreAnswerable body.now terms.now }
     requires has_levels { 0 < length plan.now.levels }
     ensures keys { IfOk result (λ slices. slice_keys slices ≡ keys.now) }
     ensures slices { IfOk result (AllByRecursion (IsSliceOf terms.now body.now (term_at plan.now.levels 0) (I.state indexes.now))) }
@@ -137,13 +124,8 @@ pub fn mend<I: Indexes, L>(
     keys: &[Key],
     moves: &mut Moves<L>,
 ) -> Result<(Sense, SharedSlices), NoMemory>
-    requires of_body { IsPlanOf body.now plan.now }
-    requires runnable { IsRunnable body.now plan.now }
-    requires fits { IsBodyOf (I.state indexes.now) body.now }
-    requires has_indexes { AllByRecursion (λ guide. I.has_index indexes.now guide.relation guide.columns ≡ true) plan.now.guides }
-    requires has_firsts { AllByRecursion (λ atom. I.has_index indexes.now atom.relation (below (length atom.terms)) ≡ true) body.now.absents }
-    requires are_bound { IsTrue (are_bound body.now terms.now) }
-    requires narrow { length terms.now ≤ most_columns }
+    requires can_join { CanJoin (I.state indexes.now) (I.has_index indexes.now) body.now plan.now }
+    requires answerable { AreAnswerable body.now terms.now }
     requires has_levels { 0 < length plan.now.levels }
     requires slices { IsRising (slice_keys slices.now) }
     requires keys { IsRising keys.now }

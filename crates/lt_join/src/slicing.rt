@@ -2,7 +2,6 @@
 ghost use Rattle.std.specs.Prelude.{◌≡◌, ◌≤◌, ◌<◌, ◌+◌, ◌-◌, ◌^◌, ◌∷◌, [], ℕ, List, true, length, slice_get, drop, Some, IfOk, IsTrue};
 ghost use Rattle.std.specs.List.{AllByRecursion, AllZip};
 ghost use Rattle.lt_face.specs.Keys.{end_key};
-ghost use Rattle.lt_face.specs.Limits.{most_columns};
 ghost use Rattle.lt_face.specs.Lists.{IsIn};
 ghost use Rattle.lt_face.specs.State.{Row as RowView, State};
 ghost use Rattle.lt_model.specs.declared.normal.Term.{Term as TermView};
@@ -10,16 +9,15 @@ ghost use Rattle.lt_model.specs.declared.normal.Body.{Body as BodyView};
 ghost use Rattle.lt_model.specs.Answers.{answers as answers_of, ascending as ascending_rows, terms_of};
 ghost use Rattle.lt_model.specs.Bound.{are_bound};
 ghost use Rattle.lt_model.specs.Cells.{is_cell};
-ghost use Rattle.lt_model.specs.Fits.{IsBodyOf};
 ghost use Rattle.lt_query.specs.Answering.{AreTestsBound};
-ghost use Rattle.lt_query.specs.Lists.{IsRising, below};
+ghost use Rattle.lt_query.specs.Lists.{IsRising};
 ghost use Rattle.lt_query.specs.Plan.{IsPlanOf, term_at};
-ghost use Rattle.lt_query.specs.Runnable.{IsRunnable};
 ghost use Rattle.lt_query.specs.declared.plans.Plan.{Plan as PlanView};
 ghost use Rattle.lt_sense.specs.Cells.{HaveSameCells};
 ghost use Rattle.lt_sense.specs.Kept.{Sense as SenseView};
 ghost use Rattle.lt_sense.specs.Ordered.{IsSealed};
 ghost use Rattle.lt_sense.specs.Sense.{covers, IsTight};
+ghost use Rattle.lt_join.specs.Asked.{CanJoin, AreAnswerable};
 ghost use Rattle.lt_join.specs.Certify.{Certifies};
 ghost use Rattle.lt_join.specs.Cost.{bound, cost_from};
 ghost use Rattle.lt_join.specs.Explored.{Fits};
@@ -215,13 +213,8 @@ pub(crate) fn gather_slices<I: Indexes, L>(
     moves: &mut Moves<L>,
     sealing: bool,
 ) -> Result<(Sense, SharedSlices), NoMemory>
-    requires of_body { IsPlanOf body.now plan.now }
-    requires runnable { IsRunnable body.now plan.now }
-    requires fits { IsBodyOf (I.state indexes.now) body.now }
-    requires has_indexes { AllByRecursion (λ guide. I.has_index indexes.now guide.relation guide.columns ≡ true) plan.now.guides }
-    requires has_firsts { AllByRecursion (λ atom. I.has_index indexes.now atom.relation (below (length atom.terms)) ≡ true) body.now.absents }
-    requires are_bound { IsTrue (are_bound body.now terms.now) }
-    requires narrow { length terms.now ≤ most_columns }
+    requires can_join { CanJoin (I.state indexes.now) (I.has_index indexes.now) body.now plan.now }
+    requires answerable { AreAnswerable body.now terms.now }
     requires has_levels { 0 < length plan.now.levels }
     ensures ascending { IfOk result (λ found. IsRising (slice_keys found.1)) }
     ensures slices { IfOk result (λ found. AllByRecursion (IsSliceOf terms.now body.now (term_at plan.now.levels 0) (I.state indexes.now)) found.1) }
@@ -253,13 +246,8 @@ pub fn slices_unsealed<I: Indexes, L>(
     indexes: &I,
     moves: &mut Moves<L>,
 ) -> Result<(Sense, SharedSlices), NoMemory>
-    requires of_body { IsPlanOf body.now plan.now }
-    requires runnable { IsRunnable body.now plan.now }
-    requires fits { IsBodyOf (I.state indexes.now) body.now }
-    requires has_indexes { AllByRecursion (λ guide. I.has_index indexes.now guide.relation guide.columns ≡ true) plan.now.guides }
-    requires has_firsts { AllByRecursion (λ atom. I.has_index indexes.now atom.relation (below (length atom.terms)) ≡ true) body.now.absents }
-    requires are_bound { IsTrue (are_bound body.now terms.now) }
-    requires narrow { length terms.now ≤ most_columns }
+    requires can_join { CanJoin (I.state indexes.now) (I.has_index indexes.now) body.now plan.now }
+    requires answerable { AreAnswerable body.now terms.now }
     requires has_levels { 0 < length plan.now.levels }
     ensures ascending { IfOk result (λ found. IsRising (slice_keys found.1)) }
     ensures slices { IfOk result (λ found. AllByRecursion (IsSliceOf terms.now body.now (term_at plan.now.levels 0) (I.state indexes.now)) found.1) }
@@ -289,13 +277,8 @@ pub fn slices<I: Indexes, L>(
     indexes: &I,
     moves: &mut Moves<L>,
 ) -> Result<(Sense, SharedSlices), NoMemory>
-    requires of_body { IsPlanOf body.now plan.now }
-    requires runnable { IsRunnable body.now plan.now }
-    requires fits { IsBodyOf (I.state indexes.now) body.now }
-    requires has_indexes { AllByRecursion (λ guide. I.has_index indexes.now guide.relation guide.columns ≡ true) plan.now.guides }
-    requires has_firsts { AllByRecursion (λ atom. I.has_index indexes.now atom.relation (below (length atom.terms)) ≡ true) body.now.absents }
-    requires are_bound { IsTrue (are_bound body.now terms.now) }
-    requires narrow { length terms.now ≤ most_columns }
+    requires can_join { CanJoin (I.state indexes.now) (I.has_index indexes.now) body.now plan.now }
+    requires answerable { AreAnswerable body.now terms.now }
     requires has_levels { 0 < length plan.now.levels }
     ensures ascending { IfOk result (λ found. IsRising (slice_keys found.1)) }
     ensures slices { IfOk result (λ found. AllByRecursion (IsSliceOf terms.now body.now (term_at plan.now.levels 0) (I.state indexes.now)) found.1) }

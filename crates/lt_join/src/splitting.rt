@@ -1,15 +1,9 @@
 //! The answers of a body by ranges of the keys of its first level.
-ghost use Rattle.std.specs.Prelude.{◌≡◌, ◌<◌, ◌≤◌, ◌+◌, ◌*◌, true, length, IfOk, IsTrue};
-ghost use Rattle.std.specs.List.{AllByRecursion};
-ghost use Rattle.lt_face.specs.Limits.{most_columns};
+ghost use Rattle.std.specs.Prelude.{◌≡◌, ◌<◌, ◌≤◌, ◌+◌, ◌*◌, length, IfOk};
 ghost use Rattle.lt_model.specs.Answers.{answers as answers_of};
-ghost use Rattle.lt_model.specs.Bound.{are_bound};
-ghost use Rattle.lt_model.specs.Fits.{IsBodyOf};
-ghost use Rattle.lt_query.specs.Lists.{below};
-ghost use Rattle.lt_query.specs.Plan.{IsPlanOf};
-ghost use Rattle.lt_query.specs.Runnable.{IsRunnable};
 ghost use Rattle.lt_sense.specs.Ordered.{IsSealed};
 ghost use Rattle.lt_sense.specs.Sense.{IsTight};
+ghost use Rattle.lt_join.specs.Asked.{CanJoin, AreAnswerable};
 ghost use Rattle.lt_join.specs.Certify.{Certifies};
 ghost use Rattle.lt_join.specs.Cost.{bound};
 
@@ -96,13 +90,8 @@ pub fn answers_split_unsealed<R: Threads + Wait + Sync, I: Indexes + Sync, G: Ga
 ) -> Result<(RowList, Sense), NoMemory>
 where
     I::Rows: Sync,
-    requires of_body { IsPlanOf body.now plan.now }
-    requires runnable { IsRunnable body.now plan.now }
-    requires fits { IsBodyOf (I.state indexes.now) body.now }
-    requires has_indexes { AllByRecursion (λ guide. I.has_index indexes.now guide.relation guide.columns ≡ true) plan.now.guides }
-    requires has_firsts { AllByRecursion (λ atom. I.has_index indexes.now atom.relation (below (length atom.terms)) ≡ true) body.now.absents }
-    requires are_bound { IsTrue (are_bound body.now terms.now) }
-    requires narrow { length terms.now ≤ most_columns }
+    requires can_join { CanJoin (I.state indexes.now) (I.has_index indexes.now) body.now plan.now }
+    requires answerable { AreAnswerable body.now terms.now }
     requires some { 0 < parts }
     requires few { parts ≤ 16 }
     ensures rows { IfOk result (λ found. found.0 ≡ answers_of terms.now body.now (I.state indexes.now)) }
@@ -141,13 +130,8 @@ pub fn answers_split<R: Threads + Wait + Sync, I: Indexes + Sync, G: Gate, L: Se
 ) -> Result<(RowList, Sense), NoMemory>
 where
     I::Rows: Sync,
-    requires of_body { IsPlanOf body.now plan.now }
-    requires runnable { IsRunnable body.now plan.now }
-    requires fits { IsBodyOf (I.state indexes.now) body.now }
-    requires has_indexes { AllByRecursion (λ guide. I.has_index indexes.now guide.relation guide.columns ≡ true) plan.now.guides }
-    requires has_firsts { AllByRecursion (λ atom. I.has_index indexes.now atom.relation (below (length atom.terms)) ≡ true) body.now.absents }
-    requires are_bound { IsTrue (are_bound body.now terms.now) }
-    requires narrow { length terms.now ≤ most_columns }
+    requires can_join { CanJoin (I.state indexes.now) (I.has_index indexes.now) body.now plan.now }
+    requires answerable { AreAnswerable body.now terms.now }
     requires some { 0 < parts }
     requires few { parts ≤ 16 }
     ensures rows { IfOk result (λ found. found.0 ≡ answers_of terms.now body.now (I.state indexes.now)) }

@@ -1,14 +1,11 @@
 //! The answers of a body, key by key of its first variable, by ranges of these keys.
-ghost use Rattle.std.specs.Prelude.{◌≡◌, ◌<◌, ◌≤◌, ◌+◌, ◌*◌, [], true, length, IfOk, IsTrue};
+ghost use Rattle.std.specs.Prelude.{◌≡◌, ◌<◌, ◌≤◌, ◌+◌, ◌*◌, [], true, length, IfOk};
 ghost use Rattle.std.specs.List.{AllByRecursion};
-ghost use Rattle.lt_face.specs.Limits.{most_columns};
 ghost use Rattle.lt_model.specs.Answers.{answers as answers_of, ascending as ascending_rows};
-ghost use Rattle.lt_model.specs.Bound.{are_bound};
-ghost use Rattle.lt_model.specs.Fits.{IsBodyOf};
-ghost use Rattle.lt_query.specs.Lists.{IsRising, below};
-ghost use Rattle.lt_query.specs.Plan.{IsPlanOf, term_at};
-ghost use Rattle.lt_query.specs.Runnable.{IsRunnable};
+ghost use Rattle.lt_query.specs.Lists.{IsRising};
+ghost use Rattle.lt_query.specs.Plan.{term_at};
 ghost use Rattle.lt_sense.specs.Sense.{IsTight};
+ghost use Rattle.lt_join.specs.Asked.{CanJoin, AreAnswerable};
 ghost use Rattle.lt_join.specs.Certify.{Certifies};
 ghost use Rattle.lt_join.specs.Cost.{bound};
 ghost use Rattle.lt_join.specs.Sliced.{slice_keys, united, sliced_rows, AreSealed, IsSliceOf, AreRooted, AreRootGaps, AreFoundKeys};
@@ -100,13 +97,8 @@ fn split_slices<R: Threads + Wait + Sync, I: Indexes + Sync, G: Gate, L: Send>(
 ) -> Result<(Sense, SharedSlices), NoMemory>
 where
     I::Rows: Sync,
-    requires of_body { IsPlanOf body.now plan.now }
-    requires runnable { IsRunnable body.now plan.now }
-    requires fits { IsBodyOf (I.state indexes.now) body.now }
-    requires has_indexes { AllByRecursion (λ guide. I.has_index indexes.now guide.relation guide.columns ≡ true) plan.now.guides }
-    requires has_firsts { AllByRecursion (λ atom. I.has_index indexes.now atom.relation (below (length atom.terms)) ≡ true) body.now.absents }
-    requires are_bound { IsTrue (are_bound body.now terms.now) }
-    requires narrow { length terms.now ≤ most_columns }
+    requires can_join { CanJoin (I.state indexes.now) (I.has_index indexes.now) body.now plan.now }
+    requires answerable { AreAnswerable body.now terms.now }
     requires has_levels { 0 < length plan.now.levels }
     requires some { 0 < parts }
     requires few { parts ≤ 16 }
@@ -148,13 +140,8 @@ pub fn slices_split_unsealed<R: Threads + Wait + Sync, I: Indexes + Sync, G: Gat
 ) -> Result<(Sense, SharedSlices), NoMemory>
 where
     I::Rows: Sync,
-    requires of_body { IsPlanOf body.now plan.now }
-    requires runnable { IsRunnable body.now plan.now }
-    requires fits { IsBodyOf (I.state indexes.now) body.now }
-    requires has_indexes { AllByRecursion (λ guide. I.has_index indexes.now guide.relation guide.columns ≡ true) plan.now.guides }
-    requires has_firsts { AllByRecursion (λ atom. I.has_index indexes.now atom.relation (below (length atom.terms)) ≡ true) body.now.absents }
-    requires are_bound { IsTrue (are_bound body.now terms.now) }
-    requires narrow { length terms.now ≤ most_columns }
+    requires can_join { CanJoin (I.state indexes.now) (I.has_index indexes.now) body.now plan.now }
+    requires answerable { AreAnswerable body.now terms.now }
     requires has_levels { 0 < length plan.now.levels }
     requires some { 0 < parts }
     requires few { parts ≤ 16 }
@@ -194,13 +181,8 @@ pub fn slices_split<R: Threads + Wait + Sync, I: Indexes + Sync, G: Gate, L: Sen
 ) -> Result<(Sense, SharedSlices), NoMemory>
 where
     I::Rows: Sync,
-    requires of_body { IsPlanOf body.now plan.now }
-    requires runnable { IsRunnable body.now plan.now }
-    requires fits { IsBodyOf (I.state indexes.now) body.now }
-    requires has_indexes { AllByRecursion (λ guide. I.has_index indexes.now guide.relation guide.columns ≡ true) plan.now.guides }
-    requires has_firsts { AllByRecursion (λ atom. I.has_index indexes.now atom.relation (below (length atom.terms)) ≡ true) body.now.absents }
-    requires are_bound { IsTrue (are_bound body.now terms.now) }
-    requires narrow { length terms.now ≤ most_columns }
+    requires can_join { CanJoin (I.state indexes.now) (I.has_index indexes.now) body.now plan.now }
+    requires answerable { AreAnswerable body.now terms.now }
     requires has_levels { 0 < length plan.now.levels }
     requires some { 0 < parts }
     requires few { parts ≤ 16 }

@@ -19,6 +19,7 @@ use Rattle.lt_join.specs.MendedPlan.{mending_cost}
 use Rattle.lt_program.specs.declared.course.Course.{Course}
 use Rattle.lt_program.specs.declared.course.Laid.{Laid}
 use Rattle.lt_program.specs.declared.part.Part.{Part}
+use Rattle.lt_program.specs.Asked.{CanEvaluate}
 use Rattle.lt_program.specs.Tally.{IsPartOn, HasIndexesOf, IsLaidOn, Grows, next, statement_cost}
 use Rattle.lt_program.specs.Run.{reads_rows}
 use Rattle.lt_program.proofs.Bare.{reads_none}
@@ -26,17 +27,20 @@ use Rattle.lt_program.proofs.NoAtoms.{nothing, part_same, effect_same, cost_same
 use Rattle.lt_program.proofs.Widths.{AreWide-laid, FitsStatement-laid}
 
 module _ (base : List Table) (marks : Marks) (tables : List Table) (on : IsLaidOn base marks tables) where
-  pub wide_on : AreWide (state_of base) → AreWide (state_of tables)
+  wide_on : AreWide (state_of base) → AreWide (state_of tables)
   wide_on wide = subst AreWide (sym on.state) (AreWide-laid (state_of base) marks wide)
 
-  pub fits_on : (stmt : Stmt) → FitsStatement (state_of base) stmt → FitsStatement (state_of tables) stmt
+  fits_on : (stmt : Stmt) → FitsStatement (state_of base) stmt → FitsStatement (state_of tables) stmt
   fits_on stmt fits = subst (λ (s : State). FitsStatement s stmt) (sym on.state) (FitsStatement-laid (state_of base) marks stmt fits)
 
-  pub indexes_on : (body : Body) → HasIndexesOf base body → HasIndexesOf tables body
+  indexes_on : (body : Body) → HasIndexesOf base body → HasIndexesOf tables body
   indexes_on body has = (
     each_weaker (λ (guide : Guide). has_index base guide.relation guide.columns ≡ true) (λ (guide : Guide). has_index tables guide.relation guide.columns ≡ true) (λ guide h. on.indexes guide.relation guide.columns ∙ h) (stated_plan body).guides has.0,
     each_weaker (λ (atom : Atom). has_index base atom.relation (below (length atom.terms)) ≡ true) (λ (atom : Atom). has_index tables atom.relation (below (length atom.terms)) ≡ true) (λ atom h. on.indexes atom.relation (below (length atom.terms)) ∙ h) body.absents has.1,
   )
+
+  pub evaluates_on : (stmt : Stmt) → CanEvaluate base stmt → CanEvaluate tables stmt
+  evaluates_on stmt can = record { wide = wide_on can.wide; indexes = indexes_on (body_of stmt) can.indexes; fits = fits_on stmt can.fits }
 
   pub cost_on : (stmt : Stmt) (old new : ℕ) → new ≤ old + statement_cost stmt (state_of tables) → new ≤ old + statement_cost stmt (laid (state_of base) marks)
   cost_on stmt old new h = subst (λ (s : State). new ≤ old + statement_cost stmt s) on.state h

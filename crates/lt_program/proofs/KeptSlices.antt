@@ -11,17 +11,16 @@ use Rattle.lt_model.specs.declared.normal.Body.{Body}
 use Rattle.lt_model.specs.declared.normal.Stmt.{Stmt}
 use Rattle.lt_model.specs.declared.normal.Stmt.TheVariants.{Insert, Delete, Replace, Require, Print}
 use Rattle.lt_model.specs.Answers.{answers, ascending}
-use Rattle.lt_model.specs.Bound.{are_bound}
 use Rattle.lt_model.specs.Effect.{is_plain, has_clash, key_body}
-use Rattle.lt_model.specs.Fits.{IsBodyOf, FitsStatement}
-use Rattle.lt_base.specs.Tables.{Table, has_index}
+use Rattle.lt_model.specs.Fits.{FitsStatement}
+use Rattle.lt_base.specs.Tables.{Table, state_of, has_index}
 use Rattle.lt_query.specs.declared.plans.Guide.{Guide}
 use Rattle.lt_query.specs.declared.plans.Level.{Level}
 use Rattle.lt_query.specs.declared.plans.Plan.{Plan}
-use Rattle.lt_query.specs.Lists.{IsRising, below}
+use Rattle.lt_query.specs.Lists.{IsRising}
 use Rattle.lt_query.specs.Needs.{body_of}
-use Rattle.lt_query.specs.Plan.{term_at, IsGuideOf, IsPlanOf}
-use Rattle.lt_query.specs.Runnable.{IsWidth, HasWidths, AreWide, IsRunnable}
+use Rattle.lt_query.specs.Plan.{term_at, IsGuideOf}
+use Rattle.lt_query.specs.Runnable.{IsWidth, HasWidths, AreWide}
 use Rattle.lt_query.specs.Stated.{stated_plan}
 use Rattle.lt_query.proofs.Running.{widths_of}
 use Rattle.lt_query.proofs.StatedPlan.{IsPlanOf-stated}
@@ -42,7 +41,9 @@ use Rattle.lt_program.specs.declared.part.Found.{Found}
 use Rattle.lt_program.specs.declared.part.Found.TheVariants.{Both}
 use Rattle.lt_program.specs.declared.part.Part.{Part}
 use Rattle.lt_program.specs.Planned.{IsPlanned, ArePicked}
-use Rattle.lt_program.specs.Tally.{HasIndexesOf, IsPartOn, IsKeptAs, IsMendedPart, CertifiesKeys, VouchesFor, keyed_on, outcome_on, has_level, is_sliced, slice_terms}
+use Rattle.lt_join.specs.Asked.{CanJoin, AreAnswerable}
+use Rattle.lt_program.specs.Asked.{CanFollow, CanEvaluate}
+use Rattle.lt_program.specs.Tally.{IsPartOn, IsKeptAs, IsMendedPart, CertifiesKeys, VouchesFor, keyed_on, outcome_on, has_level, is_sliced, slice_terms}
 use Rattle.lt_program.proofs.IndexesMade.{body_fits}
 use Rattle.lt_program.proofs.Picked.{head_picked, print_picked}
 use Rattle.lt_program.proofs.TwoHeads.{both_picked, first_answers, second_answers}
@@ -187,32 +188,32 @@ narrow_heads state stmt gone come keys body is wide fits = replace_narrow state 
 
 -- ---- joins
 
--- the statement's body and its plan, and the terms of its slices
-module _ (stmt : Stmt) (body : Body) (plan : Plan) (is : body ≡ body_of stmt) (planned : IsPlanned (body_of stmt) plan) where
-  pub planned_of : IsPlanOf body plan
-  planned_of = subst (λ (b : Body). IsPlanOf b plan) (sym is) planned.of_body
+-- where the plan of a body can be followed, a join can
+pub joins_by : (tables : List Table) (body : Body) (plan : Plan) → CanFollow tables body plan → CanJoin (state_of tables) (has_index tables) body plan
+joins_by tables body plan can = record {
+  of_body = can.planned.of_body;
+  runnable = can.planned.runnable;
+  fits = can.fits;
+  has_indexes = subst (λ (p : Plan). AllByRecursion (λ (guide : Guide). has_index tables guide.relation guide.columns ≡ true) p.guides) (sym can.planned.stated) can.indexes.0;
+  has_firsts = can.indexes.1;
+}
 
-  pub planned_runnable : IsRunnable body plan
-  planned_runnable = subst (λ (b : Body). IsRunnable b plan) (sym is) planned.runnable
+-- where a statement can be evaluated, the plan of its body can be followed
+pub follows_by : (tables : List Table) (stmt : Stmt) (body : Body) (plan : Plan) → body ≡ body_of stmt → IsPlanned (body_of stmt) plan → CanEvaluate tables stmt → CanFollow tables body plan
+follows_by tables stmt body plan is planned can =
+    subst (λ (b : Body). CanFollow tables b plan) (sym is) (record { planned = planned; indexes = can.indexes; fits = body_fits (state_of tables) stmt can.fits })
 
-pub planned_fits : (state : State) (stmt : Stmt) (body : Body) → body ≡ body_of stmt → FitsStatement state stmt → IsBodyOf state body
-planned_fits state stmt body is fits = subst (IsBodyOf state) (sym is) (body_fits state stmt fits)
+pub statement_joins : (tables : List Table) (stmt : Stmt) (body : Body) (plan : Plan) → body ≡ body_of stmt → IsPlanned (body_of stmt) plan → CanEvaluate tables stmt → CanJoin (state_of tables) (has_index tables) body plan
+statement_joins tables stmt body plan is planned can = joins_by tables body plan (follows_by tables stmt body plan is planned can)
 
-pub planned_walks : (tables : List Table) (body : Body) (plan : Plan) → IsPlanned body plan → HasIndexesOf tables body → AllByRecursion (λ (guide : Guide). has_index tables guide.relation guide.columns ≡ true) plan.guides
-planned_walks tables body plan planned has = subst (λ (p : Plan). AllByRecursion (λ (guide : Guide). has_index tables guide.relation guide.columns ≡ true) p.guides) (sym planned.stated) has.0
+pub picked_answerable : (body : Body) (terms : List Term) → ArePicked body terms → AreAnswerable body terms
+picked_answerable body terms picked = record { are_bound = picked.bound; narrow = picked.narrow }
 
-pub planned_indexes : (tables : List Table) (stmt : Stmt) (plan : Plan) → IsPlanned (body_of stmt) plan → HasIndexesOf tables (body_of stmt) → AllByRecursion (λ (guide : Guide). has_index tables guide.relation guide.columns ≡ true) plan.guides
-planned_indexes tables stmt plan planned has = planned_walks tables (body_of stmt) plan planned has
-
-pub planned_firsts : (tables : List Table) (stmt : Stmt) (body : Body) → body ≡ body_of stmt → HasIndexesOf tables (body_of stmt) → AllByRecursion (λ (atom : Atom). has_index tables atom.relation (below (length atom.terms)) ≡ true) body.absents
-planned_firsts tables stmt body is has = subst (λ (b : Body). AllByRecursion (λ (atom : Atom). has_index tables atom.relation (below (length atom.terms)) ≡ true) b.absents) (sym is) has.1
-
-pub planned_bound : (state : State) (stmt : Stmt) (body : Body) (terms : List Term) → body ≡ body_of stmt → terms ≡ slice_terms stmt → AreWide state → FitsStatement state stmt → is_sliced stmt ≡ true → are_bound body terms ≡ true
-planned_bound state stmt body terms is terms_are wide fits sliced =
-    ap (λ (b : Body). are_bound b terms) is ∙ (ap (are_bound (body_of stmt)) terms_are ∙ (terms_picked state stmt wide fits sliced).bound)
-
-pub planned_narrow : (state : State) (stmt : Stmt) (terms : List Term) → terms ≡ slice_terms stmt → AreWide state → FitsStatement state stmt → is_sliced stmt ≡ true → length terms ≤ 8
-planned_narrow state stmt terms terms_are wide fits sliced = subst (λ (ts : List Term). length ts ≤ 8) (sym terms_are) (terms_picked state stmt wide fits sliced).narrow
+-- the terms of a statement's slices
+pub slices_answerable : (tables : List Table) (stmt : Stmt) (body : Body) (terms : List Term) → body ≡ body_of stmt → terms ≡ slice_terms stmt → CanEvaluate tables stmt → is_sliced stmt ≡ true → AreAnswerable body terms
+slices_answerable tables stmt body terms is terms_are can sliced =
+    subst (λ (b : Body). AreAnswerable b terms) (sym is) (subst (AreAnswerable (body_of stmt)) (sym terms_are)
+    (picked_answerable (body_of stmt) (slice_terms stmt) (terms_picked (state_of tables) stmt can.wide can.fits sliced)))
 
 pub planned_levels : (stmt : Stmt) (plan : Plan) → IsPlanned (body_of stmt) plan → is_sliced stmt ≡ true → 0 < length plan.levels
 planned_levels stmt plan planned sliced = subst (λ (p : Plan). 0 < length p.levels) (sym planned.stated) (sliced_levels stmt sliced)

@@ -14,7 +14,6 @@ use Rattle.lt_sense.specs.declared.covering.KeptGap.{KeptGap}
 use Rattle.lt_sense.specs.declared.covering.Hit.{Hit}
 use Rattle.lt_sense.specs.Kept.{Sense}
 use Rattle.lt_sense.specs.Sense.{lies_in}
-use Rattle.lt_join.specs.Walked.{Grows}
 use Rattle.lt_join.proofs.LookingUp.{permuted_own, Grows-none, Grows-both}
 use Rattle.lt_join.proofs.Repair.{All_at, GapIsTight, gap_row_covered}
 use Rattle.lt_join.proofs.Steps.{covers_grows}

@@ -13,6 +13,7 @@ use Rattle.lt_base.specs.Tables.{Table, state_of}
 use Rattle.lt_query.specs.Needs.{body_of}
 use Rattle.lt_query.specs.Runnable.{AreWide}
 use Rattle.lt_program.specs.declared.course.Course.{Course}
+use Rattle.lt_program.specs.Asked.{CanEvaluate}
 use Rattle.lt_program.specs.Run.{AreReplied}
 use Rattle.lt_program.specs.Tally.{TallyView, HasIndexes, HasIndexesOf, IsLaid, IsRun, Grows, has_ended, state_before, statement_cost, cost_on, IsOneMore}
 use Rattle.lt_program.specs.Sound.{tally_of, IsSound}
@@ -56,6 +57,9 @@ statement_fits state program i stmt is fits = each_get (FitsStatement state) pro
 
 pub statement_indexes : (base : List Table) (program : List Stmt) (i : ℕ) (stmt : Stmt) → slice_get program i ≡ Some stmt → HasIndexes base program → HasIndexesOf base (body_of stmt)
 statement_indexes base program i stmt is has = each_get (λ s. HasIndexesOf base (body_of s)) program i stmt is has
+
+pub statement_evaluates : (base : List Table) (program : List Stmt) (i : ℕ) (stmt : Stmt) → slice_get program i ≡ Some stmt → AreWide (state_of base) → Fits (state_of base) program → HasIndexes base program → CanEvaluate base stmt
+statement_evaluates base program i stmt is wide fits has = record { wide = wide; indexes = statement_indexes base program i stmt is has; fits = statement_fits (state_of base) program i stmt is fits }
 
 -- the next statement
 pub next_is : (program xs : List Stmt) (base : List Table) (course : Course) (t : TallyView) (n : ℕ) (stmt : Stmt) → tally_of program base course ≡ t → IsSound program base course → has_ended t ≡ false → xs ≡ program → n ≡ length course.parts → stmt ≡ get_or xs n stmt → slice_get program (length course.parts) ≡ Some stmt

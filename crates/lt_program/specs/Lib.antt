@@ -3,6 +3,7 @@ pub mod Run
 pub mod Keyed
 pub mod Planned
 pub mod Tally
+pub mod Asked
 pub mod Sound
 pub mod Alone
 pub mod Kept

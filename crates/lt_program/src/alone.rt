@@ -5,15 +5,16 @@ ghost use Rattle.std.specs.List.{AllByRecursion};
 ghost use Rattle.lt_face.specs.Rows.{IsAscending, IsRow};
 ghost use Rattle.lt_model.specs.Answers.{answers as answers_of, some_answer};
 ghost use Rattle.lt_model.specs.Effect.{effect as effect_of, is_plain as is_plain_in};
-ghost use Rattle.lt_model.specs.Fits.{IsWide, IsBodyOf, IsHeadOf, AreKeysOf, FitsStatement};
+ghost use Rattle.lt_model.specs.Fits.{IsWide, IsHeadOf, AreKeysOf};
 ghost use Rattle.lt_base.specs.Tables.{state_of};
 ghost use Rattle.lt_query.specs.Needs.{body_of as body_in};
 ghost use Rattle.lt_query.specs.Planned.{route_of};
 ghost use Rattle.lt_query.specs.Runnable.{AreWide};
+ghost use Rattle.lt_program.specs.Asked.{CanFollow, CanEvaluate};
 ghost use Rattle.lt_program.specs.Effect.{view};
 ghost use Rattle.lt_program.specs.Planned.{IsPlanned, ArePicked};
 ghost use Rattle.lt_program.specs.Split.{statement_cost_by, whole_cost};
-ghost use Rattle.lt_program.specs.Tally.{HasIndexesOf, keyed_on, keys_cost, outcome_on};
+ghost use Rattle.lt_program.specs.Tally.{keyed_on, keys_cost, outcome_on};
 
 use crate::effect::Effect;
 use crate::evaluation::{keyed, planned};
@@ -40,9 +41,7 @@ fn truth_alone<L>(
     plan: &Plan,
     moves: &mut Moves<L>,
 ) -> Result<bool, NoMemory>
-    requires plan { IsPlanned body.now plan.now }
-    requires indexes { HasIndexesOf tables.now body.now }
-    requires fits { IsBodyOf (state_of tables.now) body.now }
+    requires can_follow { CanFollow tables.now body.now plan.now }
     ensures truth { IfOk result (λ truth. truth ≡ some_answer body.now (state_of tables.now)) }
     ensures cost { moves.new ≤ moves.old + whole_cost body.now (state_of tables.now) }
     ensures moves { moves.old ≤ moves.new }
@@ -63,9 +62,7 @@ fn both_alone<J: Joiner<L>, L>(
     moves: &mut Moves<L>,
 ) -> Result<(RowList, RowList), NoMemory>
     requires ready { J.is_ready by.now }
-    requires plan { IsPlanned body.now plan.now }
-    requires indexes { HasIndexesOf tables.now body.now }
-    requires fits { IsBodyOf (state_of tables.now) body.now }
+    requires can_follow { CanFollow tables.now body.now plan.now }
     requires gone { ArePicked body.now gone.now }
     requires come { ArePicked body.now come.now }
     ensures gone { IfOk result (λ both. both.0 ≡ answers_of gone.now body.now (state_of tables.now)) }
@@ -133,10 +130,8 @@ fn inserted_alone<J: Joiner<L>, L>(
     moves: &mut Moves<L>,
 ) -> Result<Found, NoMemory>
     requires ready { J.is_ready by.now }
-    requires plan { IsPlanned body.now plan.now }
+    requires can_follow { CanFollow tables.now body.now plan.now }
     requires wide { AreWide (state_of tables.now) }
-    requires indexes { HasIndexesOf tables.now body.now }
-    requires fits { IsBodyOf (state_of tables.now) body.now }
     requires head { IsHeadOf (state_of tables.now) body.now head.now }
     requires keys { AreKeysOf head.now keys }
     ensures outcome { IfOk result (λ outcome. outcome ≡ outcome_on (Stmt.Insert head.now keys body.now) (state_of tables.now)) }
@@ -165,10 +160,8 @@ fn replaced_alone<J: Joiner<L>, L>(
     moves: &mut Moves<L>,
 ) -> Result<Found, NoMemory>
     requires ready { J.is_ready by.now }
-    requires plan { IsPlanned body.now plan.now }
+    requires can_follow { CanFollow tables.now body.now plan.now }
     requires wide { AreWide (state_of tables.now) }
-    requires indexes { HasIndexesOf tables.now body.now }
-    requires fits { IsBodyOf (state_of tables.now) body.now }
     requires gone { IsHeadOf (state_of tables.now) body.now gone.now }
     requires come { IsHeadOf (state_of tables.now) body.now come.now }
     requires keys { AreKeysOf come.now keys }
@@ -206,9 +199,7 @@ fn outcome_alone<J: Joiner<L>, L>(
 ) -> Result<Found, NoMemory>
     requires ready { J.is_ready by.now }
     requires plan { IsPlanned (body_in stmt.now) plan.now }
-    requires wide { AreWide (state_of tables.now) }
-    requires indexes { HasIndexesOf tables.now (body_in stmt.now) }
-    requires fits { FitsStatement (state_of tables.now) stmt.now }
+    requires can_evaluate { CanEvaluate tables.now stmt.now }
     ensures outcome { IfOk result (λ outcome. outcome ≡ outcome_on stmt.now (state_of tables.now)) }
     ensures cost { moves.new ≤ moves.old + statement_cost_by (J.most by.now) stmt.now (state_of tables.now) }
     ensures moves { moves.old ≤ moves.new }
@@ -257,9 +248,7 @@ pub(crate) fn effect_alone<J: Joiner<L>, L>(
 ) -> Result<Effect, NoMemory>
     requires ready { J.is_ready by.now }
     requires route { route.now ≡ route_of (body_in stmt.now) }
-    requires wide { AreWide (state_of tables.now) }
-    requires indexes { HasIndexesOf tables.now (body_in stmt.now) }
-    requires fits { FitsStatement (state_of tables.now) stmt.now }
+    requires can_evaluate { CanEvaluate tables.now stmt.now }
     ensures effect { IfOk result (λ e. view e ≡ effect_of stmt.now (state_of tables.now)) }
     ensures cost { moves.new ≤ moves.old + statement_cost_by (J.most by.now) stmt.now (state_of tables.now) }
     ensures moves { moves.old ≤ moves.new }

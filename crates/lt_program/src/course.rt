@@ -1,20 +1,21 @@
 //! How far the run of a program has come on a database.
 ghost use Rattle.std.specs.Prelude.{◌≡◌, ◌≤◌, ◌+◌, ℕ, List, true, false, None, OnOk, OnErr, IfOk, ◌++◌, ◌∷◌, []};
 ghost use Rattle.lt_face.specs.State.{State};
-ghost use Rattle.lt_model.specs.Fits.{FitMarks, FitsStatement};
+ghost use Rattle.lt_model.specs.Effect.{effect as effect_of};
+ghost use Rattle.lt_model.specs.Fits.{FitMarks};
 ghost use Rattle.lt_model.specs.Marks.{Marks as MarksView, AreMarks, and_then, laid};
 ghost use Rattle.lt_base.specs.Tables.{Table, state_of, has_index};
 ghost use Rattle.lt_query.specs.Needs.{body_of as body_in};
 ghost use Rattle.lt_query.specs.Planned.{route_of};
 ghost use Rattle.lt_query.specs.Lists.{IsRising};
-ghost use Rattle.lt_query.specs.Runnable.{AreWide};
 ghost use Rattle.lt_query.specs.Stated.{stated_plan};
 ghost use Rattle.lt_join.specs.Mended.{HaveTouched};
 ghost use Rattle.lt_join.specs.MendedPlan.{mending_cost};
 ghost use Rattle.lt_program.specs.declared.part.Part.{Part as PartType};
+ghost use Rattle.lt_program.specs.Asked.{CanEvaluate};
 ghost use Rattle.lt_program.specs.Effect.{view};
 ghost use Rattle.lt_program.specs.Run.{reads_rows};
-ghost use Rattle.lt_program.specs.Tally.{HasIndexesOf, IsLaid, IsLaidOn, IsLaidUpTo, IsPartOn, IsMendedPart, Grows, is_refused, is_sliced, next, those, with_print, statement_cost};
+ghost use Rattle.lt_program.specs.Tally.{IsLaid, IsLaidOn, IsLaidUpTo, IsPartOn, IsMendedPart, Grows, is_refused, is_sliced, next, those, with_print, statement_cost};
 
 use crate::copying::copied_reply;
 use crate::effect::Effect;
@@ -319,9 +320,7 @@ impl Course {
         requires route { route.now ≡ route_of (body_in stmt.now) }
         requires going { is_refused self.old.reply ≡ false }
         requires reads { reads_rows stmt.now ≡ false }
-        requires wide { AreWide (state_of base.now) }
-        requires indexes { HasIndexesOf base.now (body_in stmt.now) }
-        requires fits { FitsStatement (state_of base.now) stmt.now }
+        requires can_evaluate { CanEvaluate base.now stmt.now }
         requires laid { IsLaid base.now self.old.marks self.old.laid }
         ensures ok { OnOk result (Grows number stmt.now (state_of base.now) self.old self.new) }
         ensures cost { moves.new ≤ moves.old + statement_cost stmt.now (laid (state_of base.now) self.old.marks) }
@@ -337,6 +336,37 @@ impl Course {
         Ok(())
     }
 
+    /// One more statement, which was evaluated on the database with the marks so far laid on it. That database stays laid.
+    fn take_step(
+        &mut self,
+        _base: &Database,
+        number: u32,
+        _stmt: &Stmt,
+        tables: Database,
+        step: Step,
+    ) -> Result<(), NoMemory>
+        requires going { is_refused self.old.reply ≡ false }
+        requires laid { IsLaidOn _base.now self.old.marks tables }
+        requires ascending { AreMarks self.old.marks }
+        requires part { IsPartOn _stmt.now (state_of tables) step.part }
+        requires effect { view step.effect ≡ effect_of _stmt.now (state_of tables) }
+        ensures ok { OnOk result (Grows number _stmt.now (state_of _base.now) self.old self.new) }
+        ensures parts { OnOk result (self.new.parts ≡ self.old.parts ++ step.part ∷ []) }
+        ensures laid { IsLaid _base.now self.new.marks self.new.laid }
+        ensures parts_kept { OnErr result (self.new.parts ≡ self.old.parts) }
+        ensures reply_kept { OnErr result (self.new.reply ≡ self.old.reply) }
+        ensures marks_kept { OnErr result (self.new.marks ≡ self.old.marks) }
+    {
+        self.laid = Some(Laid {
+            tables,
+            later: None,
+        });
+        let Step { part, effect } = step;
+        let part = SharedPart::new(self.parts.allocator(), part)?;
+        self.accept(number, part, effect)?;
+        Ok(())
+    }
+
     /// One more statement, on the database with the marks so far laid on it.
     fn evaluate_laid<L>(
         &mut self,
@@ -348,9 +378,7 @@ impl Course {
     ) -> Result<(), NoMemory>
         requires route { route.now ≡ route_of (body_in stmt.now) }
         requires going { is_refused self.old.reply ≡ false }
-        requires wide { AreWide (state_of base.now) }
-        requires indexes { HasIndexesOf base.now (body_in stmt.now) }
-        requires fits { FitsStatement (state_of base.now) stmt.now }
+        requires can_evaluate { CanEvaluate base.now stmt.now }
         requires marks { FitMarks (state_of base.now) self.old.marks }
         requires laid { IsLaid base.now self.old.marks self.old.laid }
         ensures ok { OnOk result (Grows number stmt.now (state_of base.now) self.old self.new) }
@@ -364,13 +392,7 @@ impl Course {
         let alloc = self.parts.allocator();
         let tables = self.take_laid(base)?;
         let step = evaluated(alloc, &tables, stmt, route, moves)?;
-        let Step { part, effect } = step;
-        let part = SharedPart::new(alloc, part)?;
-        self.laid = Some(Laid {
-            tables,
-            later: None,
-        });
-        self.accept(number, part, effect)?;
+        self.take_step(base, number, stmt, tables, step)?;
         Ok(())
     }
 
@@ -387,9 +409,7 @@ impl Course {
     ) -> Result<(), NoMemory>
         requires route { route.now ≡ route_of (body_in stmt.now) }
         requires going { is_refused self.old.reply ≡ false }
-        requires wide { AreWide (state_of base.now) }
-        requires indexes { HasIndexesOf base.now (body_in stmt.now) }
-        requires fits { FitsStatement (state_of base.now) stmt.now }
+        requires can_evaluate { CanEvaluate base.now stmt.now }
         requires marks { FitMarks (state_of base.now) self.old.marks }
         requires laid { IsLaid base.now self.old.marks self.old.laid }
         requires sliced { is_sliced stmt.now ≡ true }
@@ -407,13 +427,7 @@ impl Course {
         let alloc = self.parts.allocator();
         let tables = self.take_laid(base)?;
         let step = mended(alloc, &tables, stmt, route, old, keys, moves)?;
-        let Step { part, effect } = step;
-        let part = SharedPart::new(alloc, part)?;
-        self.laid = Some(Laid {
-            tables,
-            later: None,
-        });
-        self.accept(number, part, effect)?;
+        self.take_step(base, number, stmt, tables, step)?;
         Ok(())
     }
 
@@ -450,9 +464,7 @@ impl Course {
     ) -> Result<(), NoMemory>
         requires route { route.now ≡ route_of (body_in stmt.now) }
         requires going { is_refused self.old.reply ≡ false }
-        requires wide { AreWide (state_of base.now) }
-        requires indexes { HasIndexesOf base.now (body_in stmt.now) }
-        requires fits { FitsStatement (state_of base.now) stmt.now }
+        requires can_evaluate { CanEvaluate base.now stmt.now }
         requires marks { FitMarks (state_of base.now) self.old.marks }
         requires laid { IsLaid base.now self.old.marks self.old.laid }
         ensures ok { OnOk result (Grows number stmt.now (state_of base.now) self.old self.new) }

@@ -5,7 +5,7 @@ ghost use Rattle.lt_face.specs.Rows.{IsAscending, IsRow};
 ghost use Rattle.lt_face.specs.State.{State};
 ghost use Rattle.lt_model.specs.Answers.{answers as answers_of, some_answer};
 ghost use Rattle.lt_model.specs.Effect.{effect as effect_of, is_plain as is_plain_in};
-ghost use Rattle.lt_model.specs.Fits.{IsWide, IsBodyOf, IsHeadOf, AreKeysOf, FitsStatement};
+ghost use Rattle.lt_model.specs.Fits.{IsWide, IsBodyOf, IsHeadOf, AreKeysOf};
 ghost use Rattle.lt_base.specs.Tables.{state_of};
 ghost use Rattle.lt_query.specs.Lists.{IsRising};
 ghost use Rattle.lt_query.specs.Needs.{body_of as body_in};
@@ -18,9 +18,10 @@ ghost use Rattle.lt_join.specs.Cost.{bound};
 ghost use Rattle.lt_join.specs.Mended.{HaveTouched};
 ghost use Rattle.lt_join.specs.MendedPlan.{mending_cost};
 ghost use Rattle.lt_join.specs.Walked.{Grows};
+ghost use Rattle.lt_program.specs.Asked.{CanFollow, CanEvaluate};
 ghost use Rattle.lt_program.specs.Effect.{view};
 ghost use Rattle.lt_program.specs.Planned.{IsPlanned, ArePicked};
-ghost use Rattle.lt_program.specs.Tally.{HasIndexesOf, IsPartOn, IsMendedPart, CertifiesKeys, is_sliced as is_sliced_in, keyed_on, keys_cost, sense_of, statement_cost};
+ghost use Rattle.lt_program.specs.Tally.{IsPartOn, IsMendedPart, CertifiesKeys, is_sliced as is_sliced_in, keyed_on, keys_cost, sense_of, statement_cost};
 
 use crate::displacing::{clash, displaced_by_all};
 use crate::effect::Effect;
@@ -56,9 +57,7 @@ fn told<L>(
     plan: &Plan,
     moves: &mut Moves<L>,
 ) -> Result<(bool, Sense), NoMemory>
-    requires plan { IsPlanned body.now plan.now }
-    requires indexes { HasIndexesOf tables.now body.now }
-    requires fits { IsBodyOf (state_of tables.now) body.now }
+    requires can_follow { CanFollow tables.now body.now plan.now }
     ensures truth { IfOk result (λ told. told.0 ≡ some_answer body.now (state_of tables.now)) }
     ensures vouched { IfOk result (λ told. Vouches told.1 body.now (state_of tables.now)) }
     ensures tight { IfOk result (λ told. IsTight told.1 (state_of tables.now)) }
@@ -91,9 +90,7 @@ fn answered<L>(
     terms: &TermList,
     moves: &mut Moves<L>,
 ) -> Result<Part, NoMemory>
-    requires plan { IsPlanned body.now plan.now }
-    requires indexes { HasIndexesOf tables.now body.now }
-    requires fits { IsBodyOf (state_of tables.now) body.now }
+    requires can_follow { CanFollow tables.now body.now plan.now }
     requires terms { ArePicked body.now terms.now }
     ensures outcome { IfOk result (λ part. part.outcome ≡ Found.Rows (answers_of terms.now body.now (state_of tables.now))) }
     ensures certified { IfOk result (λ part. Certifies (sense_of part) body.now (state_of tables.now)) }
@@ -117,9 +114,7 @@ fn replaced<L>(
     plan: &Plan,
     moves: &mut Moves<L>,
 ) -> Result<Part, NoMemory>
-    requires plan { IsPlanned body.now plan.now }
-    requires indexes { HasIndexesOf tables.now body.now }
-    requires fits { IsBodyOf (state_of tables.now) body.now }
+    requires can_follow { CanFollow tables.now body.now plan.now }
     requires gone { ArePicked body.now gone.now }
     requires come { ArePicked body.now come.now }
     ensures outcome { IfOk result (λ part. part.outcome ≡ Found.Both (answers_of gone.now body.now (state_of tables.now)) (answers_of come.now body.now (state_of tables.now))) }
@@ -190,10 +185,8 @@ fn inserted<L>(
     plan: &Plan,
     moves: &mut Moves<L>,
 ) -> Result<Part, NoMemory>
-    requires plan { IsPlanned body.now plan.now }
+    requires can_follow { CanFollow tables.now body.now plan.now }
     requires wide { AreWide (state_of tables.now) }
-    requires indexes { HasIndexesOf tables.now body.now }
-    requires fits { IsBodyOf (state_of tables.now) body.now }
     requires head { IsHeadOf (state_of tables.now) body.now head.now }
     requires keys { AreKeysOf head.now keys }
     requires keyed { is_plain_in head.now keys ≡ false }
@@ -232,10 +225,8 @@ fn replaced_by_key<L>(
     plan: &Plan,
     moves: &mut Moves<L>,
 ) -> Result<Part, NoMemory>
-    requires plan { IsPlanned body.now plan.now }
+    requires can_follow { CanFollow tables.now body.now plan.now }
     requires wide { AreWide (state_of tables.now) }
-    requires indexes { HasIndexesOf tables.now body.now }
-    requires fits { IsBodyOf (state_of tables.now) body.now }
     requires gone { IsHeadOf (state_of tables.now) body.now gone.now }
     requires come { IsHeadOf (state_of tables.now) body.now come.now }
     requires keys { AreKeysOf come.now keys }
@@ -267,9 +258,7 @@ fn required<L>(
     plan: &Plan,
     moves: &mut Moves<L>,
 ) -> Result<Part, NoMemory>
-    requires plan { IsPlanned body.now plan.now }
-    requires indexes { HasIndexesOf tables.now body.now }
-    requires fits { IsBodyOf (state_of tables.now) body.now }
+    requires can_follow { CanFollow tables.now body.now plan.now }
     ensures outcome { IfOk result (λ part. part.outcome ≡ Found.Truth (some_answer body.now (state_of tables.now))) }
     ensures vouched { IfOk result (λ part. Vouches (sense_of part) body.now (state_of tables.now)) }
     ensures tight { IfOk result (λ part. IsTight (sense_of part) (state_of tables.now)) }
@@ -291,9 +280,7 @@ fn evaluate_whole<L>(
     moves: &mut Moves<L>,
 ) -> Result<Part, NoMemory>
     requires plan { IsPlanned (body_in stmt.now) plan.now }
-    requires wide { AreWide (state_of tables.now) }
-    requires indexes { HasIndexesOf tables.now (body_in stmt.now) }
-    requires fits { FitsStatement (state_of tables.now) stmt.now }
+    requires can_evaluate { CanEvaluate tables.now stmt.now }
     requires whole { is_sliced_in stmt.now ≡ false }
     ensures part { IfOk result (IsPartOn stmt.now (state_of tables.now)) }
     ensures cost { moves.new ≤ moves.old + statement_cost stmt.now (state_of tables.now) }
@@ -349,9 +336,7 @@ fn evaluate_part<L>(
     moves: &mut Moves<L>,
 ) -> Result<Part, NoMemory>
     requires plan { IsPlanned (body_in stmt.now) plan.now }
-    requires wide { AreWide (state_of tables.now) }
-    requires indexes { HasIndexesOf tables.now (body_in stmt.now) }
-    requires fits { FitsStatement (state_of tables.now) stmt.now }
+    requires can_evaluate { CanEvaluate tables.now stmt.now }
     ensures part { IfOk result (IsPartOn stmt.now (state_of tables.now)) }
     ensures cost { moves.new ≤ moves.old + statement_cost stmt.now (state_of tables.now) }
     ensures moves { moves.old ≤ moves.new }
@@ -384,9 +369,7 @@ pub(crate) fn evaluated<L>(
     moves: &mut Moves<L>,
 ) -> Result<Step, NoMemory>
     requires route { route.now ≡ route_of (body_in stmt.now) }
-    requires wide { AreWide (state_of tables.now) }
-    requires indexes { HasIndexesOf tables.now (body_in stmt.now) }
-    requires fits { FitsStatement (state_of tables.now) stmt.now }
+    requires can_evaluate { CanEvaluate tables.now stmt.now }
     ensures part { IfOk result (λ e. IsPartOn stmt.now (state_of tables.now) e.part) }
     ensures effect { IfOk result (λ e. view e.effect ≡ effect_of stmt.now (state_of tables.now)) }
     ensures cost { moves.new ≤ moves.old + statement_cost stmt.now (state_of tables.now) }
@@ -409,9 +392,7 @@ pub(crate) fn mended<L>(
     moves: &mut Moves<L>,
 ) -> Result<Step, NoMemory>
     requires route { route.now ≡ route_of (body_in stmt.now) }
-    requires wide { AreWide (state_of tables.now) }
-    requires indexes { HasIndexesOf tables.now (body_in stmt.now) }
-    requires fits { FitsStatement (state_of tables.now) stmt.now }
+    requires can_evaluate { CanEvaluate tables.now stmt.now }
     requires sliced { is_sliced_in stmt.now ≡ true }
     requires old { (state : State) × IsPartOn stmt.now state old.now × HaveTouched keys.now old.now.sense old.now.slices state (state_of tables.now) }
     requires keys { IsRising keys.now }

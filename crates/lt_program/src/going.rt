@@ -1,7 +1,7 @@
 //! The run of a program of which the reply and the marks alone are kept. What is said of moves holds also where memory is refused.
 ghost use Rattle.std.specs.Prelude.{◌≡◌, ◌≤◌, ◌<◌, ◌+◌, ◌||◌, ◌==◌, List, [], false, length, slice_get, None, OnOk, IfOk};
 ghost use Rattle.std.specs.Arc.{arc_value};
-ghost use Rattle.lt_model.specs.Fits.{Fits, FitMarks, FitsStatement};
+ghost use Rattle.lt_model.specs.Fits.{Fits, FitMarks};
 ghost use Rattle.lt_model.specs.Marks.{AreMarks, and_then, laid};
 ghost use Rattle.lt_model.specs.Run.{run as run_of};
 ghost use Rattle.lt_model.specs.State.{IsState};
@@ -9,11 +9,12 @@ ghost use Rattle.lt_base.specs.Tables.{Table, state_of};
 ghost use Rattle.lt_query.specs.Needs.{body_of as body_in};
 ghost use Rattle.lt_query.specs.Planned.{route_of};
 ghost use Rattle.lt_query.specs.Runnable.{AreWide};
+ghost use Rattle.lt_program.specs.Asked.{CanEvaluate};
 ghost use Rattle.lt_program.specs.Alone.{GoesOn, IsFirst};
 ghost use Rattle.lt_program.specs.Effect.{view};
 ghost use Rattle.lt_program.specs.Run.{AreReplied, reads_rows};
 ghost use Rattle.lt_program.specs.Split.{cost_of_first_by, cost_on_by, statement_cost_by};
-ghost use Rattle.lt_program.specs.Tally.{HasIndexes, HasIndexesOf, IsLaid, IsLaidOn, cost_of_first, ends_at, is_refused, next, state_before, with_print};
+ghost use Rattle.lt_program.specs.Tally.{HasIndexes, IsLaid, IsLaidOn, cost_of_first, ends_at, is_refused, next, state_before, with_print};
 
 use crate::alone::effect_alone;
 use crate::course::{Laid, all_laid, followed_by, print};
@@ -145,9 +146,7 @@ impl Going {
         requires route { route.now ≡ route_of (body_in stmt.now) }
         requires going { is_refused self.old.reply ≡ false }
         requires reads { reads_rows stmt.now ≡ false }
-        requires wide { AreWide (state_of base.now) }
-        requires indexes { HasIndexesOf base.now (body_in stmt.now) }
-        requires fits { FitsStatement (state_of base.now) stmt.now }
+        requires can_evaluate { CanEvaluate base.now stmt.now }
         requires laid { IsLaid base.now self.old.marks self.old.laid }
         ensures ok { OnOk result (GoesOn number stmt.now (state_of base.now) self.old self.new) }
         ensures cost { moves.new ≤ moves.old }
@@ -173,9 +172,7 @@ impl Going {
         requires ready { J.is_ready by.now }
         requires route { route.now ≡ route_of (body_in stmt.now) }
         requires going { is_refused self.old.reply ≡ false }
-        requires wide { AreWide (state_of base.now) }
-        requires indexes { HasIndexesOf base.now (body_in stmt.now) }
-        requires fits { FitsStatement (state_of base.now) stmt.now }
+        requires can_evaluate { CanEvaluate base.now stmt.now }
         requires marks { FitMarks (state_of base.now) self.old.marks }
         requires laid { IsLaid base.now self.old.marks self.old.laid }
         ensures ok { OnOk result (GoesOn number stmt.now (state_of base.now) self.old self.new) }
@@ -207,9 +204,7 @@ impl Going {
         requires ready { J.is_ready by.now }
         requires route { route.now ≡ route_of (body_in stmt.now) }
         requires going { is_refused self.old.reply ≡ false }
-        requires wide { AreWide (state_of base.now) }
-        requires indexes { HasIndexesOf base.now (body_in stmt.now) }
-        requires fits { FitsStatement (state_of base.now) stmt.now }
+        requires can_evaluate { CanEvaluate base.now stmt.now }
         requires marks { FitMarks (state_of base.now) self.old.marks }
         requires laid { IsLaid base.now self.old.marks self.old.laid }
         ensures ok { OnOk result (GoesOn number stmt.now (state_of base.now) self.old self.new) }

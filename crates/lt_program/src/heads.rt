@@ -2,14 +2,13 @@
 //! What is said of moves holds also where memory is refused.
 ghost use Rattle.std.specs.Prelude.{◌≡◌, ◌+◌, ◌≤◌, ◌++◌, map, take, drop, IfOk};
 ghost use Rattle.lt_model.specs.Answers.{answers as answers_of, ascending as ascending_rows};
-ghost use Rattle.lt_model.specs.Fits.{IsBodyOf};
 ghost use Rattle.lt_base.specs.Tables.{state_of};
 ghost use Rattle.lt_query.specs.Stated.{stated_plan};
 ghost use Rattle.lt_sense.specs.Sense.{IsTight};
 ghost use Rattle.lt_join.specs.Certify.{Certifies};
 ghost use Rattle.lt_join.specs.Cost.{bound};
-ghost use Rattle.lt_program.specs.Planned.{IsPlanned, ArePicked};
-ghost use Rattle.lt_program.specs.Tally.{HasIndexesOf};
+ghost use Rattle.lt_program.specs.Asked.{CanFollow};
+ghost use Rattle.lt_program.specs.Planned.{ArePicked};
 
 use lt_base::Database;
 use lt_face::items::RowList;
@@ -40,9 +39,7 @@ pub(crate) fn found<L>(
     terms: &TermList,
     moves: &mut Moves<L>,
 ) -> Result<(RowList, Sense), NoMemory>
-    requires plan { IsPlanned body.now plan.now }
-    requires indexes { HasIndexesOf tables.now body.now }
-    requires fits { IsBodyOf (state_of tables.now) body.now }
+    requires can_follow { CanFollow tables.now body.now plan.now }
     requires terms { ArePicked body.now terms.now }
     ensures rows { IfOk result (λ found. found.0 ≡ answers_of terms.now body.now (state_of tables.now)) }
     ensures certified { IfOk result (λ found. Certifies found.1 body.now (state_of tables.now)) }
@@ -119,9 +116,7 @@ pub(crate) fn found_both<L>(
     second: &TermList,
     moves: &mut Moves<L>,
 ) -> Result<Pair, NoMemory>
-    requires plan { IsPlanned body.now plan.now }
-    requires indexes { HasIndexesOf tables.now body.now }
-    requires fits { IsBodyOf (state_of tables.now) body.now }
+    requires can_follow { CanFollow tables.now body.now plan.now }
     requires first { ArePicked body.now first.now }
     requires second { ArePicked body.now second.now }
     ensures first { IfOk result (λ pair. pair.first ≡ answers_of first.now body.now (state_of tables.now)) }

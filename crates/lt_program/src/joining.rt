@@ -4,10 +4,9 @@ ghost use Rattle.std.specs.Prelude.{◌≡◌, ◌≤◌, ◌+◌, ℕ, IfOk};
 ghost use Rattle.lt_face.specs.State.{State};
 ghost use Rattle.lt_model.specs.declared.normal.Body.{Body as BodyView};
 ghost use Rattle.lt_model.specs.Answers.{answers as answers_of};
-ghost use Rattle.lt_model.specs.Fits.{IsBodyOf};
 ghost use Rattle.lt_base.specs.Tables.{state_of};
-ghost use Rattle.lt_program.specs.Planned.{IsPlanned, ArePicked};
-ghost use Rattle.lt_program.specs.Tally.{HasIndexesOf};
+ghost use Rattle.lt_program.specs.Asked.{CanFollow};
+ghost use Rattle.lt_program.specs.Planned.{ArePicked};
 
 use lt_base::Database;
 use lt_face::items::RowList;
@@ -37,9 +36,7 @@ pub(crate) trait Joiner<L> {
         moves: &mut Moves<L>,
     ) -> Result<RowList, NoMemory>
         requires ready { is_ready self.now }
-        requires plan { IsPlanned body.now plan.now }
-        requires indexes { HasIndexesOf tables.now body.now }
-        requires fits { IsBodyOf (state_of tables.now) body.now }
+        requires can_follow { CanFollow tables.now body.now plan.now }
         requires terms { ArePicked body.now terms.now }
         ensures rows { IfOk result (λ rows. rows ≡ answers_of terms.now body.now (state_of tables.now)) }
         ensures cost { moves.new ≤ moves.old + most self.now body.now (state_of tables.now) }

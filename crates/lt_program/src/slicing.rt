@@ -14,8 +14,9 @@ ghost use Rattle.lt_query.specs.Stated.{stated_plan};
 ghost use Rattle.lt_join.specs.Cost.{bound};
 ghost use Rattle.lt_join.specs.Mended.{AreSlicesOn, HaveTouched};
 ghost use Rattle.lt_join.specs.MendedPlan.{mending_cost};
+ghost use Rattle.lt_program.specs.Asked.{CanEvaluate};
 ghost use Rattle.lt_program.specs.Planned.{IsPlanned};
-ghost use Rattle.lt_program.specs.Tally.{HasIndexesOf, IsPartOn, IsMendedPart, has_level as has_level_in, is_sliced as is_sliced_in, slice_terms as slice_terms_of, outcome_on};
+ghost use Rattle.lt_program.specs.Tally.{IsPartOn, IsMendedPart, has_level as has_level_in, is_sliced as is_sliced_in, slice_terms as slice_terms_of, outcome_on};
 
 use crate::heads::{split_answers, terms_of_both};
 use crate::part::{Found, Part};
@@ -186,9 +187,7 @@ pub(crate) fn join_slices<L>(
     moves: &mut Moves<L>,
 ) -> Result<Part, NoMemory>
     requires plan { IsPlanned (body_in stmt.now) plan.now }
-    requires wide { AreWide (state_of tables.now) }
-    requires indexes { HasIndexesOf tables.now (body_in stmt.now) }
-    requires fits { FitsStatement (state_of tables.now) stmt.now }
+    requires can_evaluate { CanEvaluate tables.now stmt.now }
     requires sliced { is_sliced_in stmt.now ≡ true }
     ensures part { IfOk result (IsPartOn stmt.now (state_of tables.now)) }
     ensures cost { moves.new ≤ moves.old + bound (body_in stmt.now) (stated_plan (body_in stmt.now)) (state_of tables.now) }
@@ -213,9 +212,7 @@ pub(crate) fn mend_slices<L>(
     moves: &mut Moves<L>,
 ) -> Result<Part, NoMemory>
     requires plan { IsPlanned (body_in stmt.now) plan.now }
-    requires wide { AreWide (state_of tables.now) }
-    requires indexes { HasIndexesOf tables.now (body_in stmt.now) }
-    requires fits { FitsStatement (state_of tables.now) stmt.now }
+    requires can_evaluate { CanEvaluate tables.now stmt.now }
     requires sliced { is_sliced_in stmt.now ≡ true }
     requires old { (state : State) × IsPartOn stmt.now state old.now × HaveTouched keys.now old.now.sense old.now.slices state (state_of tables.now) }
     requires keys { IsRising keys.now }

@@ -30,14 +30,16 @@ enum Way {
     ByKey,
 }
 
-/// The answers by so many parts, with a sense. Where the number is not from 1 to 16, the answer is as if memory had ended.
-fn answered<R: Threads + Wait + Sync, G: Gate>(
+/// The rows of a join by so many parts. Where the number is not from 1 to 16, the answer is as if memory had ended. A body without
+/// levels has no slices: there the rows are those of a join without a sense.
+fn joined<R: Threads + Wait + Sync, G: Gate>(
     rt: &R,
     alloc: Global,
     db: &Database,
     body: &Body,
     terms: &TermList,
     parts: u32,
+    way: Way,
     gate: &G,
 ) -> Result<RowList, NoMemory>
     requires wide { AreWide (state_of db.now) }
@@ -50,59 +52,18 @@ fn answered<R: Threads + Wait + Sync, G: Gate>(
     }
     let plan = planned(body)?;
     let mut moves = Moves::<()>::new();
-    let (rows, _sense) = answers_split(rt, alloc, body, &plan, terms, db, parts, gate, &mut moves)?;
-    Ok(rows)
-}
-
-/// The same rows, joined without a sense.
-fn answered_alone<R: Threads + Wait + Sync, G: Gate>(
-    rt: &R,
-    alloc: Global,
-    db: &Database,
-    body: &Body,
-    terms: &TermList,
-    parts: u32,
-    gate: &G,
-) -> Result<RowList, NoMemory>
-    requires wide { AreWide (state_of db.now) }
-    requires indexes { HasIndexesOf db.now body.now }
-    requires fits { IsBodyOf (state_of db.now) body.now }
-    requires terms { ArePicked body.now terms.now }
-{
-    if parts == 0 || parts > 16 {
-        return Err(NoMemory);
+    if let Way::WithSense = way {
+        let found = answers_split(rt, alloc, body, &plan, terms, db, parts, gate, &mut moves)?;
+        return Ok(found.0);
     }
-    let plan = planned(body)?;
-    let mut moves = Moves::<()>::new();
+    if let Way::ByKey = way {
+        if plan.levels.len() > 0 {
+            let found = slices_split(rt, alloc, body, &plan, terms, db, parts, gate, &mut moves)?;
+            return rows_of_slices(alloc, found.1.as_slice());
+        }
+    }
     let rows = answers_split_alone(rt, alloc, body, &plan, terms, db, parts, gate, &mut moves)?;
     Ok(rows)
-}
-
-/// The same rows, from slices by so many parts. A body without levels has no slices: there it is as in `answered`.
-fn sliced<R: Threads + Wait + Sync, G: Gate>(
-    rt: &R,
-    alloc: Global,
-    db: &Database,
-    body: &Body,
-    terms: &TermList,
-    parts: u32,
-    gate: &G,
-) -> Result<RowList, NoMemory>
-    requires wide { AreWide (state_of db.now) }
-    requires indexes { HasIndexesOf db.now body.now }
-    requires fits { IsBodyOf (state_of db.now) body.now }
-    requires terms { ArePicked body.now terms.now }
-{
-    if parts == 0 || parts > 16 {
-        return Err(NoMemory);
-    }
-    let plan = planned(body)?;
-    if plan.levels.len() == 0 {
-        return answered(rt, alloc, db, body, terms, parts, gate);
-    }
-    let mut moves = Moves::<()>::new();
-    let (_root, slices) = slices_split(rt, alloc, body, &plan, terms, db, parts, gate, &mut moves)?;
-    rows_of_slices(alloc, slices.as_slice())
 }
 
 /// Those of a print. Where the statement is none, the answer is as if memory had ended.
@@ -120,11 +81,7 @@ fn printed<R: Threads + Wait + Sync, G: Gate>(
     requires fits { FitsStatement (state_of db.now) stmt.now }
 {
     match stmt {
-        Stmt::Print { terms, body, .. } => match way {
-            Way::WithSense => answered(rt, alloc, db, body, terms, parts, gate),
-            Way::Alone => answered_alone(rt, alloc, db, body, terms, parts, gate),
-            Way::ByKey => sliced(rt, alloc, db, body, terms, parts, gate),
-        },
+        Stmt::Print { terms, body, .. } => joined(rt, alloc, db, body, terms, parts, way, gate),
         _ => Err(NoMemory),
     }
 }

@@ -23,16 +23,16 @@ returns-then-not-may_be-clause-slice g c =
     let plan = c.args.plan.now in
     let level = c.index-as_slice-0.result in
     let here : slice_get plan.levels 0 ≡ Some level = slice_get_is plan.levels 0 level c.requires.has_levels (rw c.as_slice.ensures at c.index-as_slice-0.is) in
-    empty_slice c.args.terms.now c.args.body.now plan (g.I.Indexes.state c.args.indexes.now) level _ c.requires.of_body here (c.may_be.ensures.not_so c.if-not-may_be.true) c.new-rows.ensures c.new-sense.ensures
+    empty_slice c.args.terms.now c.args.body.now plan (g.I.Indexes.state c.args.indexes.now) level _ c.requires.can_join.of_body here (c.may_be.ensures.not_so c.if-not-may_be.true) c.new-rows.ensures c.new-sense.ensures
 
 pub answers_prepared-requires-clause-of_body : goal.answers_prepared-requires-clause-of_body
 answers_prepared-requires-clause-of_body g c =
     let plan = c.args.plan.now in
     let level = c.index-as_slice-0.result in
     let here : slice_get plan.levels 0 ≡ Some level = slice_get_is plan.levels 0 level c.requires.has_levels (rw c.as_slice.ensures at c.index-as_slice-0.is) in
-    let may = may_pin c.args.key c.args.body.now plan level c.requires.of_body here (c.may_be.ensures.pins c.if-not-may_be.false) in
+    let may = may_pin c.args.key c.args.body.now plan level c.requires.can_join.of_body here (c.may_be.ensures.pins c.if-not-may_be.false) in
     let is : c.in_ok-at_key.at_key ≡ pinned (term_at plan.levels 0) c.args.key c.args.body.now = c.in_ok-at_key.ensures ∙ ap (λ t. pinned t c.args.key c.args.body.now) (term_first plan.levels level here) in
-    subst (λ (b : Body). IsPlanOf b c.in_ok-way.way) (sym is) (subst (λ (p : Plan). IsPlanOf (pinned (term_at plan.levels 0) c.args.key c.args.body.now) p) (sym c.in_ok-way.ensures) (IsPlanOf-pinned c.args.key c.args.body.now plan may c.requires.of_body))
+    subst (λ (b : Body). IsPlanOf b c.in_ok-way.way) (sym is) (subst (λ (p : Plan). IsPlanOf (pinned (term_at plan.levels 0) c.args.key c.args.body.now) p) (sym c.in_ok-way.ensures) (IsPlanOf-pinned c.args.key c.args.body.now plan may c.requires.can_join.of_body))
 
 pub answers_prepared-requires-clause-prepared : goal.answers_prepared-requires-clause-prepared
 answers_prepared-requires-clause-prepared g c =
@@ -42,7 +42,7 @@ answers_prepared-requires-clause-prepared g c =
     let cell = c.may_be.ensures.cell c.if-not-may_be.false in
     let is : c.in_ok-at_key.at_key ≡ pinned (term_at plan.levels 0) c.args.key c.args.body.now = c.in_ok-at_key.ensures ∙ ap (λ t. pinned t c.args.key c.args.body.now) (term_first plan.levels level here) in
     subst (λ (b : Body). IsPrepared b c.in_ok-way.way c.args.terms.now) (sym is) (subst (λ (p : Plan). IsPrepared (pinned (term_at plan.levels 0) c.args.key c.args.body.now) p c.args.terms.now) (sym c.in_ok-way.ensures)
-    (IsPrepared-pinned (g.I.Indexes.state c.args.indexes.now) c.args.key c.args.body.now plan c.args.terms.now level cell c.requires.fits c.requires.of_body c.requires.runnable c.requires.narrow here))
+    (IsPrepared-pinned (g.I.Indexes.state c.args.indexes.now) c.args.key c.args.body.now plan c.args.terms.now level cell c.requires.can_join.fits c.requires.can_join.of_body c.requires.can_join.runnable c.requires.answerable.narrow here))
 
 pub answers_prepared-requires-clause-tests : goal.answers_prepared-requires-clause-tests
 answers_prepared-requires-clause-tests g c =
@@ -50,7 +50,7 @@ answers_prepared-requires-clause-tests g c =
     let level = c.index-as_slice-0.result in
     let here : slice_get plan.levels 0 ≡ Some level = slice_get_is plan.levels 0 level c.requires.has_levels (rw c.as_slice.ensures at c.index-as_slice-0.is) in
     let is : c.in_ok-at_key.at_key ≡ pinned (term_at plan.levels 0) c.args.key c.args.body.now = c.in_ok-at_key.ensures ∙ ap (λ t. pinned t c.args.key c.args.body.now) (term_first plan.levels level here) in
-    subst AreTestsBound (sym is) (tests_pinned (term_at plan.levels 0) c.args.key c.args.body.now (term_in c.args.body.now plan c.requires.of_body 0 c.requires.has_levels) (c.requires.fits.is_bound, c.requires.fits.are_absents_bound))
+    subst AreTestsBound (sym is) (tests_pinned (term_at plan.levels 0) c.args.key c.args.body.now (term_in c.args.body.now plan c.requires.can_join.of_body 0 c.requires.has_levels) (c.requires.can_join.fits.is_bound, c.requires.can_join.fits.are_absents_bound))
 
 pub answers_prepared-requires-clause-are_bound : goal.answers_prepared-requires-clause-are_bound
 answers_prepared-requires-clause-are_bound g c =
@@ -58,11 +58,11 @@ answers_prepared-requires-clause-are_bound g c =
     let level = c.index-as_slice-0.result in
     let here : slice_get plan.levels 0 ≡ Some level = slice_get_is plan.levels 0 level c.requires.has_levels (rw c.as_slice.ensures at c.index-as_slice-0.is) in
     let is : c.in_ok-at_key.at_key ≡ pinned (term_at plan.levels 0) c.args.key c.args.body.now = c.in_ok-at_key.ensures ∙ ap (λ t. pinned t c.args.key c.args.body.now) (term_first plan.levels level here) in
-    subst (λ (b : Body). IsTrue (are_bound b c.args.terms.now)) (sym is) (subst IsTrue (sym (are_bound_pinned (term_at plan.levels 0) c.args.key c.args.body.now (term_in c.args.body.now plan c.requires.of_body 0 c.requires.has_levels) c.args.terms.now)) c.requires.are_bound)
+    subst (λ (b : Body). IsTrue (are_bound b c.args.terms.now)) (sym is) (subst IsTrue (sym (are_bound_pinned (term_at plan.levels 0) c.args.key c.args.body.now (term_in c.args.body.now plan c.requires.can_join.of_body 0 c.requires.has_levels) c.args.terms.now)) c.requires.answerable.are_bound)
 
 pub answers_prepared-requires-clause-has_firsts : goal.answers_prepared-requires-clause-has_firsts
 answers_prepared-requires-clause-has_firsts g c =
-    subst (λ (b : Body). AllByRecursion (λ (atom : Atom). g.I.Indexes.has_index c.args.indexes.now atom.relation (below (length atom.terms)) ≡ true) b.absents) (sym c.in_ok-at_key.ensures) c.requires.has_firsts
+    subst (λ (b : Body). AllByRecursion (λ (atom : Atom). g.I.Indexes.has_index c.args.indexes.now atom.relation (below (length atom.terms)) ≡ true) b.absents) (sym c.in_ok-at_key.ensures) c.requires.can_join.has_firsts
 
 pub returns-clause-cost : goal.returns-clause-cost
 returns-clause-cost g c =

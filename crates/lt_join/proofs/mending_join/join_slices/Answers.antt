@@ -1,4 +1,4 @@
-use Rattle.std.proofs.Common.{◌≡◌, ◌+◌, ◌++◌, ◌∷◌, [], get_or, ap, ◌∙◌, arith}
+use Rattle.std.proofs.Common.{◌≡◌, ◌++◌, ◌∷◌, [], get_or, ap, ◌∙◌, arith}
 use Rattle.lt_query.specs.Plan.{term_at}
 use Rattle.lt_join.specs.declared.slicing.Slice.{Slice}
 use Rattle.lt_join.specs.Sliced.{IsSliceOf}

@@ -8,19 +8,19 @@ use Rattle.lt_join.proofs.splitting.answers_split_unsealed.Goals as goal
 pub find_whole-requires-clause-ready : goal.find_whole-requires-clause-ready
 find_whole-requires-clause-ready g c κs within =
     let has_levels : 0 < length c.args.plan.now.levels = omega arith in
-    IsJoinable-from (g.I.Indexes.state c.args.indexes.now) (g.I.Indexes.has_index c.args.indexes.now) c.args.body.now c.args.plan.now c.args.terms.now c.requires.of_body c.requires.runnable c.requires.fits c.requires.has_indexes c.requires.has_firsts c.requires.are_bound c.requires.narrow has_levels
+    IsJoinable-from (g.I.Indexes.state c.args.indexes.now) (g.I.Indexes.has_index c.args.indexes.now) c.args.body.now c.args.plan.now c.args.terms.now c.requires.can_join c.requires.answerable has_levels
 
 pub returns-clause-rows : goal.returns-clause-rows
 returns-clause-rows g c =
     let has_levels : 0 < length c.args.plan.now.levels = omega arith in
     c.in_ok-rows.ensures
     ∙ (ap ascending c.into_vec.ensures
-    ∙ part_answers c.args.body.now c.args.plan.now (g.I.Indexes.state c.args.indexes.now) c.requires.of_body has_levels (c.requires.fits.is_bound, c.requires.fits.are_absents_bound) c.args.terms.now 0 end_key c.in_ok-found.found.rows c.in_ok-found.found.sense c.requires.are_bound refl (omega arith) c.in_ok-found.ensures.found)
+    ∙ part_answers c.args.body.now c.args.plan.now (g.I.Indexes.state c.args.indexes.now) c.requires.can_join.of_body has_levels (c.requires.can_join.fits.is_bound, c.requires.can_join.fits.are_absents_bound) c.args.terms.now 0 end_key c.in_ok-found.found.rows c.in_ok-found.found.sense c.requires.answerable.are_bound refl (omega arith) c.in_ok-found.ensures.found)
 
 pub returns-clause-certified : goal.returns-clause-certified
 returns-clause-certified g c =
     let has_levels : 0 < length c.args.plan.now.levels = omega arith in
-    part_certifies c.args.body.now c.args.plan.now (g.I.Indexes.state c.args.indexes.now) c.requires.of_body has_levels (c.requires.fits.is_bound, c.requires.fits.are_absents_bound) c.args.terms.now 0 end_key c.in_ok-found.found.rows c.in_ok-found.found.sense refl (omega arith) c.in_ok-found.ensures.found
+    part_certifies c.args.body.now c.args.plan.now (g.I.Indexes.state c.args.indexes.now) c.requires.can_join.of_body has_levels (c.requires.can_join.fits.is_bound, c.requires.can_join.fits.are_absents_bound) c.args.terms.now 0 end_key c.in_ok-found.found.rows c.in_ok-found.found.sense refl (omega arith) c.in_ok-found.ensures.found
 
 pub returns-clause-tight : goal.returns-clause-tight
 returns-clause-tight g c = c.in_ok-found.ensures.found.tight

@@ -5,7 +5,7 @@ use Rattle.lt_join.proofs.splitting_slices.split_slices.Goals as goal
 
 pub find_whole-requires-clause-ready : goal.find_whole-requires-clause-ready
 find_whole-requires-clause-ready g c κs within =
-    IsJoinable-from (g.I.Indexes.state c.args.indexes.now) (g.I.Indexes.has_index c.args.indexes.now) c.args.body.now c.args.plan.now c.args.terms.now c.requires.of_body c.requires.runnable c.requires.fits c.requires.has_indexes c.requires.has_firsts c.requires.are_bound c.requires.narrow c.requires.has_levels
+    IsJoinable-from (g.I.Indexes.state c.args.indexes.now) (g.I.Indexes.has_index c.args.indexes.now) c.args.body.now c.args.plan.now c.args.terms.now c.requires.can_join c.requires.answerable c.requires.has_levels
 
 pub returns-clause-ascending : goal.returns-clause-ascending
 returns-clause-ascending g c = (c.in_ok-whole.ensures.slices c.args.terms.now c.args.body.now c.args.plan.now (g.I.Indexes.state c.args.indexes.now) c.in_ok-found.ensures.found.0).0.ascending
@@ -28,13 +28,13 @@ returns-clause-root_hits g c = (c.in_ok-whole.ensures.slices c.args.terms.now c.
 pub returns-clause-rows : goal.returns-clause-rows
 returns-clause-rows g c =
     let state = g.I.Indexes.state c.args.indexes.now in
-    sym (answers_of c.args.terms.now c.args.body.now c.args.plan.now state c.in_ok-whole.whole.0 c.in_ok-whole.whole.1 c.requires.of_body c.requires.has_levels (c.requires.fits.is_bound, c.requires.fits.are_absents_bound) c.requires.are_bound
+    sym (answers_of c.args.terms.now c.args.body.now c.args.plan.now state c.in_ok-whole.whole.0 c.in_ok-whole.whole.1 c.requires.can_join.of_body c.requires.has_levels (c.requires.can_join.fits.is_bound, c.requires.can_join.fits.are_absents_bound) c.requires.answerable.are_bound
     (c.in_ok-whole.ensures.slices c.args.terms.now c.args.body.now c.args.plan.now state c.in_ok-found.ensures.found.0).0)
 
 pub returns-clause-certified : goal.returns-clause-certified
 returns-clause-certified g c =
     let state = g.I.Indexes.state c.args.indexes.now in
-    certified_of c.args.terms.now c.args.body.now c.args.plan.now state c.in_ok-whole.whole.0 c.in_ok-whole.whole.1 c.requires.of_body c.requires.has_levels (c.in_ok-whole.ensures.slices c.args.terms.now c.args.body.now c.args.plan.now state c.in_ok-found.ensures.found.0).0
+    certified_of c.args.terms.now c.args.body.now c.args.plan.now state c.in_ok-whole.whole.0 c.in_ok-whole.whole.1 c.requires.can_join.of_body c.requires.has_levels (c.in_ok-whole.ensures.slices c.args.terms.now c.args.body.now c.args.plan.now state c.in_ok-found.ensures.found.0).0
 
 pub returns-clause-tight : goal.returns-clause-tight
 returns-clause-tight g c =

@@ -1,4 +1,4 @@
-use Rattle.std.proofs.Common.{◌∷◌, [], true, false, sym, ◌∙◌, inl}
+use Rattle.std.proofs.Common.{◌∷◌, [], sym, ◌∙◌, inl}
 use Rattle.lt_face.proofs.Membership.{IsIn-append_left}
 use Rattle.lt_join.proofs.LookingUp.{gains_none}
 use Rattle.lt_join.proofs.Steps.{leaf_with, leaf_without, leaf_refused, witnesses_grow}

@@ -7,4 +7,4 @@ pub keyed_alone-requires-clause-ascend : goal.keyed_alone-requires-clause-ascend
 keyed_alone-requires-clause-ascend g c = answers_rise c.args.head.now.terms c.args.body.now (state_of c.args.tables.now) c.in_ok-come.come c.in_ok-come.ensures.rows
 
 pub keyed_alone-requires-clause-rows : goal.keyed_alone-requires-clause-rows
-keyed_alone-requires-clause-rows g c = head_wide (state_of c.args.tables.now) c.args.head.now c.args.body.now c.in_ok-come.come c.look_over.ensures.state c.requires.fits c.requires.head c.in_ok-come.ensures.rows
+keyed_alone-requires-clause-rows g c = head_wide (state_of c.args.tables.now) c.args.head.now c.args.body.now c.in_ok-come.come c.look_over.ensures.state c.requires.can_follow.fits c.requires.head c.in_ok-come.ensures.rows

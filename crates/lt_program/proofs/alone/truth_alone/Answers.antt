@@ -1,8 +1,5 @@
-use Rattle.lt_program.proofs.KeptSlices.{planned_walks}
+use Rattle.lt_program.proofs.KeptSlices.{joins_by}
 use Rattle.lt_program.proofs.alone.truth_alone.Goals as goal
 
-pub some_alone-requires-clause-has_indexes : goal.some_alone-requires-clause-has_indexes
-some_alone-requires-clause-has_indexes g c = planned_walks c.args.tables.now c.args.body.now c.args.plan.now c.requires.plan c.requires.indexes
-
-pub some_alone-requires-clause-has_firsts : goal.some_alone-requires-clause-has_firsts
-some_alone-requires-clause-has_firsts g c = c.requires.indexes.1
+pub some_alone-requires : goal.some_alone-requires
+some_alone-requires g c = record { can_join = joins_by c.args.tables.now c.args.body.now c.args.plan.now c.requires.can_follow }

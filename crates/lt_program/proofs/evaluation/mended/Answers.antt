@@ -9,7 +9,7 @@ use Rattle.lt_program.proofs.Recalls.{part_ordered, effect_recalled}
 use Rattle.lt_program.proofs.evaluation.mended.Goals as goal
 
 pub planned-requires-clause-fits : goal.planned-requires-clause-fits
-planned-requires-clause-fits g c = (state_of c.args.tables.now, c.requires.wide, subst (IsBodyOf (state_of c.args.tables.now)) (sym c.body_of.ensures) (body_fits (state_of c.args.tables.now) c.args.stmt.now c.requires.fits))
+planned-requires-clause-fits g c = (state_of c.args.tables.now, c.requires.can_evaluate.wide, subst (IsBodyOf (state_of c.args.tables.now)) (sym c.body_of.ensures) (body_fits (state_of c.args.tables.now) c.args.stmt.now c.requires.can_evaluate.fits))
 
 pub planned-requires-clause-route : goal.planned-requires-clause-route
 planned-requires-clause-route g c = c.requires.route ∙ ap route_of (sym c.body_of.ensures)

@@ -9,7 +9,7 @@ pub keyed-requires-clause-ascend : goal.keyed-requires-clause-ascend
 keyed-requires-clause-ascend g c = answers_rise c.args.come.now.terms c.args.body.now (state_of c.args.tables.now) c.in_ok-pair.pair.second c.in_ok-pair.ensures.second
 
 pub keyed-requires-clause-rows : goal.keyed-requires-clause-rows
-keyed-requires-clause-rows g c = head_wide (state_of c.args.tables.now) c.args.come.now c.args.body.now c.in_ok-pair.pair.second c.look_over.ensures.state c.requires.fits c.requires.come c.in_ok-pair.ensures.second
+keyed-requires-clause-rows g c = head_wide (state_of c.args.tables.now) c.args.come.now c.args.body.now c.in_ok-pair.pair.second c.look_over.ensures.state c.requires.can_follow.fits c.requires.come c.in_ok-pair.ensures.second
 
 pub returns-clause-certified : goal.returns-clause-certified
 returns-clause-certified g c = certified_grows c.in_ok-pair.pair.sense (sense_of c.in_ok-part.part) c.in_ok-part.ensures.grows c.args.body.now (state_of c.args.tables.now) c.in_ok-pair.ensures.certified

@@ -1,8 +1,5 @@
-use Rattle.lt_program.proofs.KeptSlices.{planned_walks}
+use Rattle.lt_program.proofs.KeptSlices.{joins_by}
 use Rattle.lt_program.proofs.evaluation.told.Goals as goal
 
-pub some_unsealed-requires-clause-has_indexes : goal.some_unsealed-requires-clause-has_indexes
-some_unsealed-requires-clause-has_indexes g c = planned_walks c.args.tables.now c.args.body.now c.args.plan.now c.requires.plan c.requires.indexes
-
-pub some_unsealed-requires-clause-has_firsts : goal.some_unsealed-requires-clause-has_firsts
-some_unsealed-requires-clause-has_firsts g c = c.requires.indexes.1
+pub some_unsealed-requires : goal.some_unsealed-requires
+some_unsealed-requires g c = record { can_join = joins_by c.args.tables.now c.args.body.now c.args.plan.now c.requires.can_follow }

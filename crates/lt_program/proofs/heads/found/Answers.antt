@@ -1,8 +1,8 @@
-use Rattle.lt_program.proofs.KeptSlices.{planned_walks}
+use Rattle.lt_program.proofs.KeptSlices.{joins_by, picked_answerable}
 use Rattle.lt_program.proofs.heads.found.Goals as goal
 
-pub answers_unsealed-requires-clause-has_indexes : goal.answers_unsealed-requires-clause-has_indexes
-answers_unsealed-requires-clause-has_indexes g c = planned_walks c.args.tables.now c.args.body.now c.args.plan.now c.requires.plan c.requires.indexes
+pub answers_unsealed-requires-clause-can_join : goal.answers_unsealed-requires-clause-can_join
+answers_unsealed-requires-clause-can_join g c = joins_by c.args.tables.now c.args.body.now c.args.plan.now c.requires.can_follow
 
-pub answers_unsealed-requires-clause-has_firsts : goal.answers_unsealed-requires-clause-has_firsts
-answers_unsealed-requires-clause-has_firsts g c = c.requires.indexes.1
+pub answers_unsealed-requires-clause-answerable : goal.answers_unsealed-requires-clause-answerable
+answers_unsealed-requires-clause-answerable g c = picked_answerable c.args.body.now c.args.terms.now c.requires.terms

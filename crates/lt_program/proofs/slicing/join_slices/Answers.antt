@@ -1,33 +1,18 @@
 use Rattle.lt_base.specs.Tables.{state_of}
-use Rattle.lt_program.proofs.KeptSlices.{planned_of, planned_runnable, planned_fits, planned_indexes, planned_firsts, planned_bound, planned_narrow, planned_levels, found_are, cost_told}
+use Rattle.lt_program.proofs.KeptSlices.{statement_joins, slices_answerable, planned_levels, found_are, cost_told}
 use Rattle.lt_program.proofs.slicing.join_slices.Goals as goal
 
-pub slices_unsealed-requires-clause-of_body : goal.slices_unsealed-requires-clause-of_body
-slices_unsealed-requires-clause-of_body g c = planned_of c.args.stmt.now c.body_of.result.now c.args.plan.now c.body_of.ensures c.requires.plan
+pub slices_unsealed-requires-clause-can_join : goal.slices_unsealed-requires-clause-can_join
+slices_unsealed-requires-clause-can_join g c = statement_joins c.args.tables.now c.args.stmt.now c.body_of.result.now c.args.plan.now c.body_of.ensures c.requires.plan c.requires.can_evaluate
 
-pub slices_unsealed-requires-clause-runnable : goal.slices_unsealed-requires-clause-runnable
-slices_unsealed-requires-clause-runnable g c = planned_runnable c.args.stmt.now c.body_of.result.now c.args.plan.now c.body_of.ensures c.requires.plan
-
-pub slices_unsealed-requires-clause-fits : goal.slices_unsealed-requires-clause-fits
-slices_unsealed-requires-clause-fits g c = planned_fits (state_of c.args.tables.now) c.args.stmt.now c.body_of.result.now c.body_of.ensures c.requires.fits
-
-pub slices_unsealed-requires-clause-has_firsts : goal.slices_unsealed-requires-clause-has_firsts
-slices_unsealed-requires-clause-has_firsts g c = planned_firsts c.args.tables.now c.args.stmt.now c.body_of.result.now c.body_of.ensures c.requires.indexes
-
-pub slices_unsealed-requires-clause-has_indexes : goal.slices_unsealed-requires-clause-has_indexes
-slices_unsealed-requires-clause-has_indexes g c = planned_indexes c.args.tables.now c.args.stmt.now c.args.plan.now c.requires.plan c.requires.indexes
-
-pub slices_unsealed-requires-clause-are_bound : goal.slices_unsealed-requires-clause-are_bound
-slices_unsealed-requires-clause-are_bound g c = planned_bound (state_of c.args.tables.now) c.args.stmt.now c.body_of.result.now c.in_ok-terms.terms c.body_of.ensures c.in_ok-terms.ensures c.requires.wide c.requires.fits c.requires.sliced
-
-pub slices_unsealed-requires-clause-narrow : goal.slices_unsealed-requires-clause-narrow
-slices_unsealed-requires-clause-narrow g c = planned_narrow (state_of c.args.tables.now) c.args.stmt.now c.in_ok-terms.terms c.in_ok-terms.ensures c.requires.wide c.requires.fits c.requires.sliced
+pub slices_unsealed-requires-clause-answerable : goal.slices_unsealed-requires-clause-answerable
+slices_unsealed-requires-clause-answerable g c = slices_answerable c.args.tables.now c.args.stmt.now c.body_of.result.now c.in_ok-terms.terms c.body_of.ensures c.in_ok-terms.ensures c.requires.can_evaluate c.requires.sliced
 
 pub slices_unsealed-requires-clause-has_levels : goal.slices_unsealed-requires-clause-has_levels
 slices_unsealed-requires-clause-has_levels g c = planned_levels c.args.stmt.now c.args.plan.now c.requires.plan c.requires.sliced
 
 pub part_by-requires-clause-fits : goal.part_by-requires-clause-fits
-part_by-requires-clause-fits g c = (state_of c.args.tables.now, c.requires.wide, c.requires.fits)
+part_by-requires-clause-fits g c = (state_of c.args.tables.now, c.requires.can_evaluate.wide, c.requires.can_evaluate.fits)
 
 pub returns-clause-part : goal.returns-clause-part
 returns-clause-part g c =

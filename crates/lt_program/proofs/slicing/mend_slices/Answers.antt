@@ -1,35 +1,20 @@
 use Rattle.std.proofs.Common.{sym, subst}
 use Rattle.lt_base.specs.Tables.{state_of}
 use Rattle.lt_query.specs.Lists.{IsRising}
-use Rattle.lt_program.proofs.KeptSlices.{planned_of, planned_runnable, planned_fits, planned_indexes, planned_firsts, planned_bound, planned_narrow, planned_levels, old_rises, mended_are, mended_is, mending_told}
+use Rattle.lt_program.proofs.KeptSlices.{statement_joins, slices_answerable, planned_levels, old_rises, mended_are, mended_is, mending_told}
 use Rattle.lt_program.proofs.slicing.mend_slices.Goals as goal
 
-pub mend-requires-clause-of_body : goal.mend-requires-clause-of_body
-mend-requires-clause-of_body g c = planned_of c.args.stmt.now c.body_of.result.now c.args.plan.now c.body_of.ensures c.requires.plan
+pub mend-requires-clause-can_join : goal.mend-requires-clause-can_join
+mend-requires-clause-can_join g c = statement_joins c.args.tables.now c.args.stmt.now c.body_of.result.now c.args.plan.now c.body_of.ensures c.requires.plan c.requires.can_evaluate
 
-pub mend-requires-clause-runnable : goal.mend-requires-clause-runnable
-mend-requires-clause-runnable g c = planned_runnable c.args.stmt.now c.body_of.result.now c.args.plan.now c.body_of.ensures c.requires.plan
-
-pub mend-requires-clause-fits : goal.mend-requires-clause-fits
-mend-requires-clause-fits g c = planned_fits (state_of c.args.tables.now) c.args.stmt.now c.body_of.result.now c.body_of.ensures c.requires.fits
-
-pub mend-requires-clause-has_firsts : goal.mend-requires-clause-has_firsts
-mend-requires-clause-has_firsts g c = planned_firsts c.args.tables.now c.args.stmt.now c.body_of.result.now c.body_of.ensures c.requires.indexes
-
-pub mend-requires-clause-has_indexes : goal.mend-requires-clause-has_indexes
-mend-requires-clause-has_indexes g c = planned_indexes c.args.tables.now c.args.stmt.now c.args.plan.now c.requires.plan c.requires.indexes
-
-pub mend-requires-clause-are_bound : goal.mend-requires-clause-are_bound
-mend-requires-clause-are_bound g c = planned_bound (state_of c.args.tables.now) c.args.stmt.now c.body_of.result.now c.in_ok-terms.terms c.body_of.ensures c.in_ok-terms.ensures c.requires.wide c.requires.fits c.requires.sliced
-
-pub mend-requires-clause-narrow : goal.mend-requires-clause-narrow
-mend-requires-clause-narrow g c = planned_narrow (state_of c.args.tables.now) c.args.stmt.now c.in_ok-terms.terms c.in_ok-terms.ensures c.requires.wide c.requires.fits c.requires.sliced
+pub mend-requires-clause-answerable : goal.mend-requires-clause-answerable
+mend-requires-clause-answerable g c = slices_answerable c.args.tables.now c.args.stmt.now c.body_of.result.now c.in_ok-terms.terms c.body_of.ensures c.in_ok-terms.ensures c.requires.can_evaluate c.requires.sliced
 
 pub mend-requires-clause-has_levels : goal.mend-requires-clause-has_levels
 mend-requires-clause-has_levels g c = planned_levels c.args.stmt.now c.args.plan.now c.requires.plan c.requires.sliced
 
 pub part_by-requires-clause-fits : goal.part_by-requires-clause-fits
-part_by-requires-clause-fits g c = (state_of c.args.tables.now, c.requires.wide, c.requires.fits)
+part_by-requires-clause-fits g c = (state_of c.args.tables.now, c.requires.can_evaluate.wide, c.requires.can_evaluate.fits)
 
 pub mend-requires-clause-slices : goal.mend-requires-clause-slices
 mend-requires-clause-slices g c = old_rises c.args.stmt.now c.requires.old.0 c.args.old.now c.as_slice.result.now c.as_slice.ensures c.requires.sliced c.requires.old.1

@@ -1,23 +1,16 @@
 use Rattle.std.proofs.Common.{Some, None, sym, ap, subst}
 use Rattle.lt_model.specs.Marks.{Marks}
-use Rattle.lt_query.specs.Needs.{body_of}
 use Rattle.lt_program.specs.declared.going.Going.{Going}
 use Rattle.lt_program.specs.Effect.{view}
 use Rattle.lt_program.specs.Tally.{IsLaidUpTo}
-use Rattle.lt_program.proofs.CourseSteps.{wide_on, fits_on, indexes_on}
+use Rattle.lt_program.proofs.CourseSteps.{evaluates_on}
 use Rattle.lt_program.proofs.Firsts.{goes_taken}
 use Rattle.lt_program.proofs.LaterMarks.{laid_begun}
 use Rattle.lt_program.proofs.SplitCosts.{cost_laid}
 use Rattle.lt_program.proofs.going.Going.evaluate_laid.Goals as goal
 
-pub effect_alone-requires-clause-wide : goal.effect_alone-requires-clause-wide
-effect_alone-requires-clause-wide g c = wide_on c.args.base.now c.args.self.now.marks c.in_ok-tables.tables c.in_ok-tables.ensures.laid c.requires.wide
-
-pub effect_alone-requires-clause-indexes : goal.effect_alone-requires-clause-indexes
-effect_alone-requires-clause-indexes g c = indexes_on c.args.base.now c.args.self.now.marks c.in_ok-tables.tables c.in_ok-tables.ensures.laid (body_of c.args.stmt.now) c.requires.indexes
-
-pub effect_alone-requires-clause-fits : goal.effect_alone-requires-clause-fits
-effect_alone-requires-clause-fits g c = fits_on c.args.base.now c.args.self.now.marks c.in_ok-tables.tables c.in_ok-tables.ensures.laid c.args.stmt.now c.requires.fits
+pub effect_alone-requires-clause-can_evaluate : goal.effect_alone-requires-clause-can_evaluate
+effect_alone-requires-clause-can_evaluate g c = evaluates_on c.args.base.now c.args.self.now.marks c.in_ok-tables.tables c.in_ok-tables.ensures.laid c.args.stmt.now c.requires.can_evaluate
 
 pub returns-clause-ok : goal.returns-clause-ok
 returns-clause-ok g c =
