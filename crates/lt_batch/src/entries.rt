@@ -115,7 +115,7 @@ fn abandon<W: LeafWork>(
 {
     match taken(hands, entry.worker, JobName::of(entry.code / 3)) {
         Some(job) => {
-            circuit.abandon(entry.worker, job);
+            drop(circuit.abandon(entry.worker, job));
             true
         }
         None => false,

@@ -34,10 +34,10 @@ pub struct Captured {
     pub prior: Option<Marks>,
 }
 
-/// What stood in the tables where a finish put something else.
+/// What a worker held, and what stood in the tables where its finish put something else.
 #[derive(Drop)]
 pub struct Stood {
     pub held: Option<Held>,
-    pub first: Marks,
+    pub first: Option<Marks>,
     pub second: Option<Marks>,
 }

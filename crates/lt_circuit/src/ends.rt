@@ -17,26 +17,17 @@ use crate::circuit::Circuit;
 use crate::entry::{Entry, Event};
 use crate::job::Job;
 use crate::output::Output;
-use crate::task::{Done, Prior, give_back};
+use crate::task::{Done, Prior, Used, give_back};
 use crate::work::LeafWork;
-use lt_delta::Marks;
 use std::alloc::Global;
 use std::sync::Arc;
 
-/// What a finish has no more use for. Whoever shares the circuit drops it when no other waits.
+/// What the end of a claim has no more use for. Whoever shares the circuit drops it when no other waits.
 #[derive(Drop)]
 pub struct Spent<W: LeafWork> {
     pub(crate) work: Arc<W, Global>,
     pub(crate) stood: Stood,
     pub(crate) used: Used<W::Tally>,
-}
-
-/// What a job used that stands nowhere now: a leaf's tally of before, and inputs.
-#[derive(Drop)]
-pub(crate) struct Used<T> {
-    pub(crate) prior: Option<Prior<T>>,
-    pub(crate) first: Option<Marks>,
-    pub(crate) second: Option<Marks>,
 }
 
 /// What was done stands in the tables, and a leaf's tally in its place.
@@ -131,7 +122,7 @@ impl<W: LeafWork> Circuit<W> {
     }
 
     /// The worker gives its job up, and the tally that a leaf's claim took goes back.
-    pub fn abandon(&mut self, worker: u32, job: Job<W>)
+    pub fn abandon(&mut self, worker: u32, job: Job<W>) -> Spent<W>
         requires worker { worker < most_workers }
         requires work { job.work ≡ self.old.work }
         requires claim { (state self.old).claim worker ≡ Some (claim_of_job job) }
@@ -143,14 +134,20 @@ impl<W: LeafWork> Circuit<W> {
         ensures tallies { self.new.tallies ≡ tallies_back job.task self.old.tallies }
     {
         let _leaves = self.board.leaves();
-        let Job { work: _work, task } = job;
+        let Job { work, task } = job;
         let name = task.name();
-        self.board.abandon(worker, name);
-        give_back(&mut self.tallies, task);
+        let held = self.board.abandon(worker, name);
+        let used = give_back(&mut self.tallies, task);
         self.journal.push_reserved(Entry {
             worker,
             job: name,
             event: Event::Abandon,
         });
+        let stood = Stood {
+            held,
+            first: None,
+            second: None,
+        };
+        Spent { work, stood, used }
     }
 }

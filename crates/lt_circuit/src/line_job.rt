@@ -18,7 +18,7 @@ ghost use Rattle.lt_circuit.specs.LineJob.{LineJobView, LineOutputView, IsLineOu
 use crate::cells::Inputs;
 use crate::job::Job;
 use crate::output::Output;
-use crate::task::{Done, Prior, Task, give_back, take_task, tie_of, weight_of};
+use crate::task::{Done, Prior, Task, Used, give_back, take_task, tie_of, weight_of};
 use crate::work::LeafWork;
 use lt_delta::Marks;
 use lt_face::{Moves, NoMemory};
@@ -110,8 +110,11 @@ pub(crate) fn take_line_task<T: Drop>(
     LineTask::Tree(take_task(tallies, numbered(segment, place), inputs))
 }
 
-/// A leaf's tally goes back to its place.
-pub(crate) fn give_line_back<T: Drop>(tallies: &mut Vec<Option<Prior<T>>>, task: LineTask<T>)
+/// A leaf's tally goes back to its place. What the task had besides is of no more use.
+pub(crate) fn give_line_back<T: Drop>(
+    tallies: &mut Vec<Option<Prior<T>>>,
+    task: LineTask<T>,
+) -> Used<T>
     requires { (leaf : ℕ) → (tree : TaskType T) → task ≡ TreeTask tree → task_name tree ≡ Leaf leaf → leaf < length tallies.old.items }
     ensures { tallies.new.items ≡ line_back task tallies.old.items }
 {
@@ -119,9 +122,13 @@ pub(crate) fn give_line_back<T: Drop>(tallies: &mut Vec<Option<Prior<T>>>, task:
         LineTask::Tree(task) => give_back(tallies, task),
         LineTask::Pass {
             segment: _segment,
-            correction: _correction,
-            effect: _effect,
-        } => {}
+            correction,
+            effect,
+        } => Used {
+            prior: None,
+            first: Some(correction),
+            second: Some(effect),
+        },
     }
 }
 

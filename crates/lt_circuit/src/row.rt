@@ -194,7 +194,7 @@ impl Row {
         let first = self.give_root(s + 1, correction);
         Stood {
             held,
-            first,
+            first: Some(first),
             second: None,
         }
     }

@@ -16,6 +16,14 @@ pub struct Prior<T> {
     pub correction: Marks,
 }
 
+/// What a job used that stands nowhere now: a leaf's tally of before, and inputs.
+#[derive(Drop)]
+pub(crate) struct Used<T> {
+    pub(crate) prior: Option<Prior<T>>,
+    pub(crate) first: Option<Marks>,
+    pub(crate) second: Option<Marks>,
+}
+
 /// What is to be done.
 #[derive(Drop)]
 pub enum Task<T> {
@@ -180,28 +188,41 @@ pub fn take_task<T: Drop>(
     }
 }
 
-/// A leaf's tally goes back to its place.
-pub fn give_back<T: Drop>(tallies: &mut Vec<Option<Prior<T>>>, task: Task<T>)
+/// A leaf's tally goes back to its place. What the task had besides is of no more use.
+pub(crate) fn give_back<T: Drop>(tallies: &mut Vec<Option<Prior<T>>>, task: Task<T>) -> Used<T>
     requires { (leaf : ℕ) → task_name task ≡ Leaf leaf → leaf < length tallies.old.items }
     ensures { tallies.new.items ≡ tallies_back task tallies.old.items }
 {
     match task {
         Task::Leaf {
             leaf,
-            correction: _correction,
+            correction,
             prior,
         } => {
             tallies[leaf as usize] = prior;
+            Used {
+                prior: None,
+                first: Some(correction),
+                second: None,
+            }
         }
         Task::Merge {
             node: _node,
-            left: _left,
-            right: _right,
-        } => {}
+            left,
+            right,
+        } => Used {
+            prior: None,
+            first: Some(left),
+            second: Some(right),
+        },
         Task::Correct {
             node: _node,
-            correction: _correction,
-            left: _left,
-        } => {}
+            correction,
+            left,
+        } => Used {
+            prior: None,
+            first: Some(correction),
+            second: Some(left),
+        },
     }
 }

@@ -62,10 +62,11 @@ impl<W: LeafWork> Machine for Circuit<W> {
         spent
     }
 
-    fn give_up(&mut self, worker: u32, job: Job<W>) {
+    fn give_up(&mut self, worker: u32, job: Job<W>) -> Spent<W> {
         let _before = self.journal();
-        self.abandon(worker, job);
+        let spent = self.abandon(worker, job);
         let _after = self.journal();
+        spent
     }
 
     fn code(job: &Job<W>) -> u32 {

@@ -63,10 +63,11 @@ impl<W: LeafWork> Machine for Line<W> {
         spent
     }
 
-    fn give_up(&mut self, worker: u32, job: LineJob<W>) {
+    fn give_up(&mut self, worker: u32, job: LineJob<W>) -> Spent<W> {
         let _before = self.journal();
-        self.abandon(worker, job);
+        let spent = self.abandon(worker, job);
         let _after = self.journal();
+        spent
     }
 
     fn code(job: &LineJob<W>) -> u32 {

@@ -18,7 +18,7 @@ pub trait Machine: Drop {
 
     type Output: Drop;
 
-    /// What a stored output has no more use for.
+    /// What the end of a claim has no more use for.
     type Spent: Drop;
 
     ghost net: { Self.Basis → Net };
@@ -73,8 +73,8 @@ pub trait Machine: Drop {
         ensures stores { stores self.old self.new worker output }
         ensures free { (stand self.new).state.claim worker ≡ None };
 
-    /// The worker gives its job up.
-    fn give_up(&mut self, worker: u32, job: Self::Job)
+    /// The worker gives its job up. What it answers may be dropped later.
+    fn give_up(&mut self, worker: u32, job: Self::Job) -> Self::Spent
         requires worker { worker < most_workers }
         requires work { is_job_of (stand self.old).basis job }
         requires claim { (stand self.old).state.claim worker ≡ Some (claim_of job) }

@@ -137,8 +137,9 @@ impl<M: Machine> Shared<M> {
         ensures others { KeepsOthers M.net (view seat.old) (view seat.new) }
     {
         let mut handed = self.receive(rt, seat);
-        handed.machine.give_up(seat.first(), job);
+        let spent = handed.machine.give_up(seat.first(), job);
         self.give_back(seat, handed);
+        drop(spent);
     }
 
     /// The machine, with all that every seat wrote down. Where none of the workers has a claim, no claim stands.

@@ -35,7 +35,7 @@ impl Board {
         let first = self.store_effect(node, effect);
         Stood {
             held,
-            first,
+            first: Some(first),
             second: None,
         }
     }
@@ -56,7 +56,7 @@ impl Board {
         let second = self.keep(leaf, kept);
         Stood {
             held,
-            first,
+            first: Some(first),
             second,
         }
     }
@@ -88,7 +88,7 @@ impl Board {
                 let second = self.store_correction(right, to_right);
                 Stood {
                     held,
-                    first,
+                    first: Some(first),
                     second: Some(second),
                 }
             }

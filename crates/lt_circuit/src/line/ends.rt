@@ -19,11 +19,11 @@ ghost use Rattle.lt_circuit.specs.Row.{parts, row_of, sizes, HasChangedClaim};
 
 use super::{Line, LineEntry};
 use crate::cells::Stood;
-use crate::ends::{Spent, Used};
+use crate::ends::Spent;
 use crate::entry::Event;
 use crate::line_job::{LineDone, LineJob, LineOutput, give_line_back};
 use crate::row::Row;
-use crate::task::{Done, Prior};
+use crate::task::{Done, Prior, Used};
 use crate::work::LeafWork;
 
 /// What a tree's job did stands in its segment's tables, and a leaf's tally in its place.
@@ -158,7 +158,7 @@ impl<W: LeafWork> Line<W> {
     }
 
     /// The worker gives its job up, and the tally that a leaf's claim took goes back.
-    pub fn abandon(&mut self, worker: u32, job: LineJob<W>)
+    pub fn abandon(&mut self, worker: u32, job: LineJob<W>) -> Spent<W>
         requires worker { worker < most_workers }
         requires work { job.work ≡ self.old.work }
         requires claim { (line_state self.old).claim worker ≡ Some (claim_of_line_job job) }
@@ -170,14 +170,20 @@ impl<W: LeafWork> Line<W> {
         ensures tallies { self.new.tallies ≡ line_back job.task self.old.tallies }
     {
         let _segments = self.row.count();
-        let LineJob { work: _work, task } = job;
+        let LineJob { work, task } = job;
         let code = task.code();
-        self.row.abandon_at(worker, code);
-        give_line_back(&mut self.tallies, task);
+        let held = self.row.abandon_at(worker, code);
+        let used = give_line_back(&mut self.tallies, task);
         self.journal.push_reserved(LineEntry {
             worker,
             job: code,
             event: Event::Abandon,
         });
+        let stood = Stood {
+            held,
+            first: None,
+            second: None,
+        };
+        Spent { work, stood, used }
     }
 }

@@ -6,15 +6,15 @@ use Rattle.lt_circuit.specs.Job.{task_name}
 use Rattle.lt_circuit.proofs.Steps.{other_claim, claim_of_task, abandon_circuit, task_busy, is_inside, leaf_there, end_fits}
 use Rattle.lt_circuit.proofs.circuit.Circuit.abandon.Goals as goal
 
-pub abandon-requires-clause-job : goal.abandon-requires-clause-job
-abandon-requires-clause-job g c =
+pub abandon-held-requires-clause-job : goal.abandon-held-requires-clause-job
+abandon-held-requires-clause-job g c =
     let cl = rw (← c.self.view_is, ← c.job.view_is) at c.requires.claim in
     let task = c.job.inside.task in
     let k = is_inside _ _ _ _ _ _ _ _ _ c.self.invariant (task_name task) (task_busy _ _ _ _ _ _ _ _ _ c.self.invariant c.args.worker task cl) in
     omega (arith, k, ap code_of c.name-name.ensures)
 
-pub give_back-requires : goal.give_back-requires
-give_back-requires g c =
+pub give_back-used-requires : goal.give_back-used-requires
+give_back-used-requires g c =
     let cl = rw (← c.self.view_is, ← c.job.view_is) at c.requires.claim in
     let task = c.job.inside.task in
     leaf_there _ _ _ _ _ _ _ _ _ c.self.invariant (task_name task) (task_busy _ _ _ _ _ _ _ _ _ c.self.invariant c.args.worker task cl)
@@ -30,15 +30,15 @@ invariant_of-self g c =
     let w = rw (← c.self.view_is, ← c.job.view_is) at c.requires.work in
     let ok = rw w at c.job.invariant in
     let code = ap code_of c.name-name.ensures in
-    let st = c.abandon.ensures.state (claim_of_task c.job.inside.task) (sym code) in
-    rw (c.push_reserved.ensures.items, c.push_reserved.ensures.len, c.push_reserved.ensures.capacity, c.give_back.ensures, c.name-name.ensures)
-    (abandon_circuit _ _ _ _ _ _ _ _ _ c.self.invariant c.args.worker c.job.inside.task c.abandon.new.self cl c.abandon.ensures.leaves st c.abandon.ensures.claims ok)
+    let st = c.abandon-held.ensures.state (claim_of_task c.job.inside.task) (sym code) in
+    rw (c.push_reserved.ensures.items, c.push_reserved.ensures.len, c.push_reserved.ensures.capacity, c.give_back-used.ensures, c.name-name.ensures)
+    (abandon_circuit _ _ _ _ _ _ _ _ _ c.self.invariant c.args.worker c.job.inside.task c.abandon-held.new.self cl c.abandon-held.ensures.leaves st c.abandon-held.ensures.claims ok)
 
 pub returns-clause-state : goal.returns-clause-state
 returns-clause-state g c =
-    rw (← c.self.view_is, ← c.job.view_is) (c.abandon.ensures.state (claim_of_task c.job.inside.task) (sym (ap code_of c.name-name.ensures)))
+    rw (← c.self.view_is, ← c.job.view_is) (c.abandon-held.ensures.state (claim_of_task c.job.inside.task) (sym (ap code_of c.name-name.ensures)))
 
 pub returns-clause-others : goal.returns-clause-others
 returns-clause-others g c =
-    rw (← c.self.view_is) (λ v ne. ap (λ (s : State). s.claim v) (c.abandon.ensures.state (claim_of_task c.job.inside.task) (sym (ap code_of c.name-name.ensures)))
+    rw (← c.self.view_is) (λ v ne. ap (λ (s : State). s.claim v) (c.abandon-held.ensures.state (claim_of_task c.job.inside.task) (sym (ap code_of c.name-name.ensures)))
     ∙ other_claim (state_of c.self.inside.board).claim c.args.worker None v ne)
