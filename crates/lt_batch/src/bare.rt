@@ -23,17 +23,6 @@ pub(crate) fn copied_bare(alloc: Global, old: &BareTally) -> Result<BareTally, N
     Ok(BareTally { reply, on, effect })
 }
 
-/// The tally, where nothing was laid on the snapshot before its run.
-fn if_unlaid(bare: &BareTally) -> Option<&BareTally>
-    ensures same { IfSome result (λ unlaid. unlaid.now ≡ bare.now) }
-    ensures unlaid { IfSome result (λ unlaid. unlaid.now.on ≡ []) }
-{
-    if bare.on.len() == 0 {
-        return Some(bare);
-    }
-    None
-}
-
 /// A tally of the program's run on the snapshot itself: the prior one, where it is such, or the early one. Where a prior run is kept
 /// there is none, as that one helps more.
 fn unlaid<'a>(prior: Option<&'a LeafTally>, early: Option<&'a BareTally>) -> Option<&'a BareTally>
@@ -44,7 +33,12 @@ fn unlaid<'a>(prior: Option<&'a LeafTally>, early: Option<&'a BareTally>) -> Opt
         None => early,
         Some(old) => match old {
             LeafTally::Kept(_) => None,
-            LeafTally::Bare(bare) => if_unlaid(bare),
+            LeafTally::Bare(bare) => {
+                if bare.on.len() == 0 {
+                    return Some(bare);
+                }
+                early
+            }
         },
     }
 }
