@@ -48,12 +48,7 @@ fn reports_displaced_rows(rt: HostRuntime) -> Result<(), Fail> {
         ),
     ];
     for (name, script, report) in rows {
-        let case = Case {
-            name,
-            script,
-            report,
-            status: 0,
-        };
+        let case = Case::new(name, script, report, 0);
         marks_by_workers(&rt, alloc, &case)?;
     }
     Ok(())
@@ -108,12 +103,7 @@ fn reports_arrows(rt: HostRuntime) -> Result<(), Fail> {
         ),
     ];
     for (name, script, report, status) in rows {
-        let case = Case {
-            name,
-            script,
-            report,
-            status,
-        };
+        let case = Case::new(name, script, report, status);
         reports_in_pieces(&rt, alloc, &case)?;
     }
     Ok(())

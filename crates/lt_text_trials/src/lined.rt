@@ -79,12 +79,7 @@ fn reports_a_line_as_its_batches(rt: HostRuntime) -> Result<(), Fail> {
         ),
     ];
     for (name, script, report, status) in rows {
-        let case = Case {
-            name,
-            script,
-            report,
-            status,
-        };
+        let case = Case::new(name, script, report, status);
         reports_in_lines(&rt, alloc, &case)?;
     }
     Ok(())

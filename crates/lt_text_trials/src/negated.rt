@@ -68,12 +68,7 @@ fn reports_absent_rows(rt: HostRuntime) -> Result<(), Fail> {
         ),
     ];
     for (name, script, report) in rows {
-        let case = Case {
-            name,
-            script,
-            report,
-            status: 0,
-        };
+        let case = Case::new(name, script, report, 0);
         reports_in_pieces(&rt, alloc, &case)?;
     }
     Ok(())
@@ -116,12 +111,7 @@ fn reports_the_same_by_all_workers(rt: HostRuntime) -> Result<(), Fail> {
         ),
     ];
     for (name, script, report) in rows {
-        let case = Case {
-            name,
-            script,
-            report,
-            status: 0,
-        };
+        let case = Case::new(name, script, report, 0);
         reports_by_workers(&rt, alloc, &case)?;
     }
     Ok(())

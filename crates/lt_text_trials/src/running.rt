@@ -35,6 +35,23 @@ pub(crate) struct Case {
     pub(crate) status: u8,
 }
 
+impl Case {
+    /// The case of this name.
+    pub(crate) fn new(
+        name: &'static str,
+        script: &'static str,
+        report: &'static str,
+        status: u8,
+    ) -> Case {
+        Case {
+            name,
+            script,
+            report,
+            status,
+        }
+    }
+}
+
 // Ends the test unless the script is reported so by `run` with these options, and comes in pieces of so many bytes.
 fn reports<R: Threads + Wait + Abort + Sync>(
     rt: &R,

@@ -189,12 +189,7 @@ fn reports_scripts(rt: HostRuntime) -> Result<(), Fail> {
         ),
     ];
     for (name, script, report, status) in rows {
-        let case = Case {
-            name,
-            script,
-            report,
-            status,
-        };
+        let case = Case::new(name, script, report, status);
         reports_in_pieces(&rt, alloc, &case)?;
     }
     Ok(())
