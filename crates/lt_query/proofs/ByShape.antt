@@ -21,7 +21,7 @@ use Rattle.lt_query.specs.Shape.{shape_of, plan_of, order_of, filled}
 use Rattle.lt_query.specs.Stated.{guides_from, stated_guides, stated_plan}
 use Rattle.lt_query.proofs.LevelSteps.{places_left}
 use Rattle.lt_query.proofs.Needed.{with_names-append}
-use Rattle.lt_query.proofs.Shapes.{order_of-shape, guides_of-shape, filled-shape}
+use Rattle.lt_query.proofs.SameShape.{order_of-shape, guides_of-shape, filled-shape}
 use Rattle.lt_query.proofs.StatedPlan.{All-order}
 
 -- ---- routes

@@ -11,7 +11,7 @@ pub mod Picks
 pub mod PlaceSteps
 pub mod Precedence
 pub mod Running
-pub mod Shapes
+pub mod SameShape
 pub mod Standing
 pub mod StatedPlan
 pub mod Text

@@ -15,7 +15,7 @@ pub mod shape;
 
 pub use indexes::{body_of, own_columns};
 pub use lt_model::normal::{Atom, Body, Prog, Stmt, Term, TermList, Test};
-pub use planned::{Planned, plan_all};
+pub use planned::{Planned, Shapes, plan_all};
 pub use planning::{plan, plan_by, route};
 pub use plans::{Guide, Guides, IndexName, Level, Perms, Plan, Route};
 pub use shape::same_shape;

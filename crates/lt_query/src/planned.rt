@@ -49,7 +49,8 @@ impl Planned {
         requires widths { HaveWidths (arc_value prog.now) }
         ensures { IfOk result (λ planned. planned ≡ arc_value prog.now) }
     {
-        let made = with_routes(alloc, &[], &[], prog)?;
+        let shapes = Shapes::none(alloc);
+        let made = shapes.with_routes(alloc, prog)?;
         let (planned, _) = made;
         Ok(planned)
     }
@@ -142,68 +143,115 @@ fn known<'a>(planned: &'a [Arc<Planned>], spots: &[Spot], body: &Body) -> Option
     None
 }
 
-/// The route of the body's shape, and whether it is new.
-fn route_for(
-    alloc: Global,
-    planned: &[Arc<Planned>],
-    spots: &[Spot],
-    body: &Body,
-) -> Result<(Arc<Route>, bool), NoMemory>
-    requires widths { HasWidths body.now }
-    ensures { IfOk result (λ found. arc_value found.0 ≡ route_of body.now) }
-{
-    match known(planned, spots, body) {
-        Some(old) => {
-            let same = old.clone()?;
-            Ok((same, false))
-        }
-        None => {
-            let made = route(body)?;
-            let made = Arc::new(alloc, made)?;
-            Ok((made, true))
-        }
-    }
+/// Shapes of bodies that were planned: where they stand in programs. At most so many are looked through, and then all are forgotten.
+#[derive(Drop)]
+pub struct Shapes {
+    seen: Vec<Arc<Planned>>,
+    spots: Vec<Spot>,
+    last: Vec<Arc<Planned>>,
 }
 
-/// The program with its routes, and whether one of them is new.
-fn with_routes(
-    alloc: Global,
-    planned: &[Arc<Planned>],
-    spots: &[Spot],
-    prog: &Arc<Prog>,
-) -> Result<(Planned, bool), NoMemory>
-    requires widths { HaveWidths (arc_value prog.now) }
-    ensures { IfOk result (λ with. with.0 ≡ arc_value prog.now) }
-{
-    let mut routes = Items::from_vec(Vec::with_capacity(alloc, prog.len())?);
-    let mut news = false;
-    for stmt in prog.as_slice() {
-        let found = route_for(alloc, planned, spots, body_of(stmt))?;
-        let (route, is_new) = found;
-        routes.push(route)?;
-        news |= is_new;
-    }
-    let prog = prog.clone()?;
-    Ok((Planned { prog, routes }, news))
-}
-
-/// Notes where the bodies of the last program stand whose shapes aren't known, as long as they are few.
-fn note(spots: &mut Vec<Spot>, planned: &[Arc<Planned>]) -> Result<(), NoMemory> {
-    let Some((last, earlier)) = planned.split_last() else {
-        return Ok(());
-    };
-    let stmts = last.statements();
-    for stmt in 0..stmts.len() {
-        if spots.len() < MOST_SHAPES
-            && known(planned, spots.as_slice(), body_of(&stmts[stmt])).is_none()
-        {
-            spots.push(Spot {
-                prog: earlier.len(),
-                stmt,
-            })?;
+impl Shapes {
+    /// None.
+    pub fn none(alloc: Global) -> Shapes {
+        Shapes {
+            seen: Vec::new(alloc),
+            spots: Vec::new(alloc),
+            last: Vec::new(alloc),
         }
     }
-    Ok(())
+
+    /// The route of the body's shape, if it is known. The statement at the same place of the program before is looked at first.
+    fn find(&self, stmt: usize, body: &Body) -> Option<&Arc<Route>>
+        ensures { IfSome result (λ route. arc_value route.now ≡ route_of body.now) }
+    {
+        match route_at(self.last.as_slice(), Spot { prog: 0, stmt }, body) {
+            Some(route) => Some(route),
+            None => known(self.seen.as_slice(), self.spots.as_slice(), body),
+        }
+    }
+
+    /// The route of a body, and whether its shape is new.
+    fn route_of(
+        &self,
+        alloc: Global,
+        stmt: usize,
+        body: &Body,
+    ) -> Result<(Arc<Route>, bool), NoMemory>
+        requires widths { HasWidths body.now }
+        ensures { IfOk result (λ found. arc_value found.0 ≡ route_of body.now) }
+    {
+        match self.find(stmt, body) {
+            Some(old) => {
+                let same = old.clone()?;
+                Ok((same, false))
+            }
+            None => {
+                let made = route(body)?;
+                let made = Arc::new(alloc, made)?;
+                Ok((made, true))
+            }
+        }
+    }
+
+    /// The program with the routes of its statements, and whether a shape is new.
+    fn with_routes(&self, alloc: Global, prog: &Arc<Prog>) -> Result<(Planned, bool), NoMemory>
+        requires widths { HaveWidths (arc_value prog.now) }
+        ensures { IfOk result (λ with. with.0 ≡ arc_value prog.now) }
+    {
+        let mut routes = Items::from_vec(Vec::with_capacity(alloc, prog.len())?);
+        let mut news = false;
+        for stmt in prog.as_slice() {
+            let found = self.route_of(alloc, routes.len(), body_of(stmt))?;
+            let (route, is_new) = found;
+            routes.push(route)?;
+            news |= is_new;
+        }
+        let prog = prog.clone()?;
+        Ok((Planned { prog, routes }, news))
+    }
+
+    /// Notes where the bodies of the program stand whose shapes aren't known.
+    fn note(&mut self, planned: &Arc<Planned>) -> Result<(), NoMemory> {
+        if self.spots.len() >= MOST_SHAPES {
+            self.seen.clear();
+            self.spots.clear();
+        }
+        let prog = self.seen.len();
+        let same = planned.clone()?;
+        self.seen.push(same)?;
+        let stmts = planned.statements();
+        for stmt in 0..stmts.len() {
+            if self.spots.len() < MOST_SHAPES
+                && known(
+                    self.seen.as_slice(),
+                    self.spots.as_slice(),
+                    body_of(&stmts[stmt]),
+                )
+                .is_none()
+            {
+                self.spots.push(Spot { prog, stmt })?;
+            }
+        }
+        Ok(())
+    }
+
+    /// The program with the routes of its statements. A shape that is known isn't planned again. Each atom has 1 to 8 terms.
+    pub fn plan(&mut self, alloc: Global, prog: &Arc<Prog>) -> Result<Arc<Planned>, NoMemory>
+        requires widths { HaveWidths (arc_value prog.now) }
+        ensures { IfOk result (λ planned. arc_value planned ≡ arc_value prog.now) }
+    {
+        let made = self.with_routes(alloc, prog)?;
+        let (planned, news) = made;
+        let planned = Arc::new(alloc, planned)?;
+        if news {
+            self.note(&planned)?;
+        }
+        let same = planned.clone()?;
+        self.last.clear();
+        self.last.push(same)?;
+        Ok(planned)
+    }
 }
 
 /// The programs, each with the routes of its statements; each shape is planned once, where they have few. Each atom has 1 to
@@ -213,15 +261,10 @@ pub fn plan_all(alloc: Global, progs: &[Arc<Prog>]) -> Result<Vec<Arc<Planned>>,
     ensures { IfOk result (λ planned. map arc_value planned.items ≡ map arc_value progs.now) }
 {
     let mut planned = Vec::with_capacity(alloc, progs.len())?;
-    let mut spots = Vec::new(alloc);
+    let mut shapes = Shapes::none(alloc);
     for prog in progs {
-        let made = with_routes(alloc, planned.as_slice(), spots.as_slice(), prog)?;
-        let (with, news) = made;
-        let with = Arc::new(alloc, with)?;
+        let with = shapes.plan(alloc, prog)?;
         planned.push(with)?;
-        if news {
-            note(&mut spots, planned.as_slice())?;
-        }
     }
     Ok(planned)
 }

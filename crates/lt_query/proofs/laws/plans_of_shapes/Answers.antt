@@ -1,4 +1,4 @@
-use Rattle.lt_query.proofs.Shapes.{plan_of-shape, filled-shape}
+use Rattle.lt_query.proofs.SameShape.{plan_of-shape, filled-shape}
 use Rattle.lt_query.proofs.laws.plans_of_shapes.Goals as goal
 
 pub returns-clause-blank : goal.returns-clause-blank

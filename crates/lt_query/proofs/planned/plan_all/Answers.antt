@@ -3,5 +3,5 @@ use Rattle.lt_query.specs.Planned.{HaveWidths}
 use Rattle.lt_query.proofs.ByShape.{each_item}
 use Rattle.lt_query.proofs.planned.plan_all.Goals as goal
 
-pub with_routes-requires : goal.with_routes-requires
-with_routes-requires c = record { widths = each_item HaveWidths arc_value c.args.progs.now c.loop-prog.prog-index c.prog-item.result c.loop-prog-test.true c.prog-item.is c.requires.widths }
+pub plan-requires : goal.plan-requires
+plan-requires c = record { widths = each_item HaveWidths arc_value c.args.progs.now c.loop-prog.prog-index c.prog-item.result c.loop-prog-test.true c.prog-item.is c.requires.widths }

@@ -1,6 +1,6 @@
 use Rattle.std.proofs.Common.{rules, ◌≡◌, ◌↔◌, true, subst, sym}
 use Rattle.lt_query.specs.Shape.{shape_of, same_shape}
-use Rattle.lt_query.proofs.Shapes.{same_shape-is}
+use Rattle.lt_query.proofs.SameShape.{same_shape-is}
 use Rattle.lt_query.proofs.shape.same_shape.Goals as goal
 
 pub returns-then-same_atoms-clause-shapes : goal.returns-then-same_atoms-clause-shapes

@@ -2,7 +2,7 @@ use Rattle.std.proofs.Common.{◌∙◌, map, ap}
 use Rattle.std.specs.Arc.{arc_value}
 use Rattle.lt_query.specs.Planned.{route_of}
 use Rattle.lt_query.proofs.ByShape.{routes_pushed}
-use Rattle.lt_query.proofs.planned.with_routes.Goals as goal
+use Rattle.lt_query.proofs.planned.Shapes.with_routes.Goals as goal
 
 pub loop-stmt-preserved : goal.loop-stmt-preserved
 loop-stmt-preserved c =
