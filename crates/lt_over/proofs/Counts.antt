@@ -1,5 +1,5 @@
 -- How many rows there are, where rows are laid over others.
-use Rattle.std.proofs.Common.{◌≡◌, ℕ, zero, suc, ◌+◌, ◌<◌, ◌≤◌, Bool, true, false, cond, not, ◌&&◌, ◌||◌, List, [], ◌∷◌, length, take, get_or, refl, sym, ap, ◌∙◌, arith}
+use Rattle.std.proofs.Common.{◌≡◌, ◌+◌, ◌≤◌, Bool, true, false, cond, not, ◌&&◌, ◌||◌, List, [], ◌∷◌, length, refl, sym, ap, ◌∙◌, arith}
 use Rattle.std.specs.Prelude.{filter}
 use Rattle.lt_face.specs.Rows.{IsAscending, has_row}
 use Rattle.lt_face.specs.State.{Row}
@@ -8,37 +8,11 @@ use Rattle.lt_model.proofs.Composition.{rows_same}
 use Rattle.lt_over.specs.Overlaid.{overlaid, stays}
 use Rattle.lt_over.proofs.Overlays.{has-filter, has-overlaid, ascending-overlaid}
 
--- ---- a count, row by row
+-- ---- a filter leaves no more
 
 pub le_all : (p : Row → Bool) (rows : List Row) → length (filter p rows) ≤ length rows
 le_all p [] = omega arith
 le_all p (x ∷ rows) = elim (p x) as (λ b. length (cond b (x ∷ filter p rows) (filter p rows)) ≤ length (x ∷ rows)) [ true ↦ omega (arith, le_all p rows) | false ↦ omega (arith, le_all p rows) ]
-
-front : (p : Row → Bool) (x : Row) (xs ys : List Row) (n : ℕ) → length (filter p ys) ≡ length (filter p xs) + n → length (filter p (x ∷ ys)) ≡ length (filter p (x ∷ xs)) + n
-front p x xs ys n h = elim (p x) as (λ b. length (cond b (x ∷ filter p ys) (filter p ys)) ≡ length (cond b (x ∷ filter p xs) (filter p xs)) + n) [ true ↦ omega (arith, h) | false ↦ h ]
-
-counted : (p : Row → Bool) (rows : List Row) (i : ℕ) (row : Row) (n : ℕ) → i < length rows → row ≡ get_or rows i row → length (filter p (row ∷ [])) ≡ n → length (filter p (take (i + 1) rows)) ≡ length (filter p (take i rows)) + n
-counted p [] i row n lt is one = absurd (omega arith)
-counted p (x ∷ rows) zero row n lt is one =
-    let e : length (filter p (x ∷ [])) ≡ n = ap (λ (r : Row). length (filter p (r ∷ []))) (sym is) ∙ one in
-    e ∙ omega arith
-counted p (x ∷ rows) (suc i) row n lt is one =
-    let e : suc i + 1 ≡ suc (i + 1) = omega arith in
-    ap (λ k. length (filter p (take k (x ∷ rows)))) e ∙ front p x (take i rows) (take (i + 1) rows) n (counted p rows i row n (omega arith) is one)
-
-one_of : (p : Row → Bool) (row : Row) → p row ≡ true → length (filter p (row ∷ [])) ≡ 1
-one_of p row h = ap (λ b. length (cond b (row ∷ []) [])) h
-
-none_of : (p : Row → Bool) (row : Row) → p row ≡ false → length (filter p (row ∷ [])) ≡ 0
-none_of p row h = ap (λ b. length (cond b (row ∷ []) [])) h
-
-pub counts : (p : Row → Bool) (rows : List Row) (i count : ℕ) (row : Row) → i < length rows → row ≡ get_or rows i row → count ≡ length (filter p (take i rows)) → p row ≡ true → count + 1 ≡ length (filter p (take (i + 1) rows))
-counts p rows i count row lt is so_far h = ap (λ n. n + 1) so_far ∙ sym (counted p rows i row 1 lt is (one_of p row h))
-
-pub passes_over : (p : Row → Bool) (rows : List Row) (i count : ℕ) (row : Row) → i < length rows → row ≡ get_or rows i row → count ≡ length (filter p (take i rows)) → p row ≡ false → count ≡ length (filter p (take (i + 1) rows))
-passes_over p rows i count row lt is so_far h =
-    let e : length (filter p (take (i + 1) rows)) ≡ length (filter p (take i rows)) + 0 = counted p rows i row 0 lt is (none_of p row h) in
-    omega (arith, so_far, e)
 
 -- ---- the rows of a set, and of those laid over it
 

@@ -1,5 +1,3 @@
-pub mod Candidates
-pub mod Held
+pub mod Edits
 pub mod Layers
-pub mod Masks
 pub mod Overlaid

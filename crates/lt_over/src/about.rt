@@ -1,10 +1,8 @@
 //! Rows about so far along a set of rows that has edits laid over it. Which row it is is free, so nothing is said of it here:
 //! who asks seeks the first row of the set that is at least this one.
 
-use crate::layer::Layer;
 use lt_face::{Fraction, Row, RowReads};
 use lt_flat::FlatRows;
-use std::sync::Arc;
 
 /// A row about so far along the base, which has at most so many rows, or along those that are put in, where these are more.
 pub(crate) fn near_either<'a, B: RowReads>(
@@ -17,21 +15,4 @@ pub(crate) fn near_either<'a, B: RowReads>(
         return put.row_about(along);
     }
     base.row_about(along)
-}
-
-/// A row about so far along the base, or along what one layer puts in, where that is half of the rows or more. There are at
-/// most so many rows in all.
-pub(crate) fn near_stacked<'a, B: RowReads>(
-    base: &'a B,
-    most: usize,
-    layers: &'a [Arc<Layer>],
-    along: Fraction,
-) -> Option<&'a Row> {
-    match layers.iter().max_by_key(|layer| layer.come().len()) {
-        Some(layer) => {
-            let put = layer.come();
-            near_either(base, most.saturating_sub(put.len()), put, along)
-        }
-        None => base.row_about(along),
-    }
 }

@@ -1,8 +1,7 @@
 //! Edits of the rows that are laid over a set, without a look at the set.
-ghost use Rattle.std.specs.Prelude.{◌≡◌, ◌<◌, ◌≤◌, ◌+◌, ◌^◌, IsTrue, List, true, ℕ, length, OnOk, OnErr};
+ghost use Rattle.std.specs.Prelude.{◌≡◌, ◌<◌, ◌≤◌, ◌+◌, ◌^◌, IsTrue, List, ℕ, length, OnOk, OnErr};
 ghost use Rattle.lt_face.specs.Rows.{IsAscending, IsRow, has_row, with_row, without_row};
 ghost use Rattle.lt_over.specs.Layers.{under};
-ghost use Rattle.lt_over.specs.Masks.{AreMasked, may_have};
 ghost use Rattle.lt_over.specs.Overlaid.{overlaid};
 
 use crate::layer::Layer;
@@ -42,8 +41,6 @@ pub(crate) fn take_row(gone: &mut FlatRows, come: &mut FlatRows, row: &Row) -> R
     requires { IsRow gone.old.width row.now }
     ensures ok { OnOk result ((base : List (List ℕ)) → IsAscending base → overlaid base gone.new.rows come.new.rows ≡ without_row (overlaid base gone.old.rows come.old.rows) row.now) }
     ensures err { OnErr result ((base : List (List ℕ)) → IsAscending base → overlaid base gone.new.rows come.new.rows ≡ overlaid base gone.old.rows come.old.rows) }
-    ensures gone_masked { (words : List ℕ) → may_have words row.now ≡ true → AreMasked words gone.old.rows → AreMasked words gone.new.rows }
-    ensures come_masked { (words : List ℕ) → AreMasked words come.old.rows → AreMasked words come.new.rows }
     ensures fewer { length come.new.rows ≤ length come.old.rows }
     ensures gone_width { gone.new.width ≡ gone.old.width }
     ensures come_width { come.new.width ≡ come.old.width }

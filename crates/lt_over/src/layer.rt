@@ -1,13 +1,11 @@
-//! `Layer`: edits of a set of rows, made once and shared.
-ghost use Rattle.std.specs.Prelude.{◌≡◌, ◌≤◌, ◌∷◌, [], ℕ, List, false, length, IfOk, IsTrue, OnOk, OnErr};
+//! `Layer`: edits of a set of rows.
+ghost use Rattle.std.specs.Prelude.{◌≡◌, ◌≤◌, [], List, length, IfOk, IsTrue, OnOk, OnErr};
 ghost use Rattle.lt_face.specs.Limits.{most_columns};
 ghost use Rattle.lt_face.specs.Rows.{IsAscending, IsRow, IsRowSet, has_row, with_row, without_row};
 ghost use Rattle.lt_face.specs.State.{Row as RowView};
 ghost use Rattle.lt_over.specs.Layers.{IsLayer, under};
-ghost use Rattle.lt_over.specs.Masks.{AreMasked};
 
 use crate::edits::take_row;
-use crate::mask::{Mask, add_all};
 use lt_face::{Items, Key, NoMemory, Row, RowList, RowReads, RowSet};
 use lt_flat::FlatRows;
 use std::alloc::Global;
@@ -18,35 +16,22 @@ use std::marker::Model;
 pub struct Layer {
     gone: FlatRows,
     come: FlatRows,
-    mask: Mask,
 }
 
 impl Model for Layer {
     ghost use Rattle.std.specs.Prelude.{◌≡◌};
     ghost use Rattle.lt_over.specs.Layers.{Edits};
-    ghost use Rattle.lt_over.specs.Masks.{AreMasked};
 
     ghost Value = { Edits };
 
     ghost view = { λ l. record { width = l.gone.width; gone = l.gone.rows; come = l.come.rows } };
 
-    ghost invariant = { λ l. (l.come.width ≡ l.gone.width) × AreMasked l.mask l.gone.rows × AreMasked l.mask l.come.rows };
-}
-
-/// The mask of the rows of both.
-fn masked(gone: &FlatRows, come: &FlatRows) -> Mask
-    ensures gone { AreMasked result gone.now.rows }
-    ensures come { AreMasked result come.now.rows }
-{
-    let mut mask = Mask::none();
-    add_all(&mut mask, gone.as_slice());
-    add_all(&mut mask, come.as_slice());
-    mask
+    ghost invariant = { λ l. l.come.width ≡ l.gone.width };
 }
 
 impl Layer {
     /// The layer of these rows, each list ascending.
-    pub fn new(width: usize, gone: RowList, come: RowList) -> Result<Layer, NoMemory>
+    pub(crate) fn new(width: usize, gone: RowList, come: RowList) -> Result<Layer, NoMemory>
         requires narrow { width ≤ most_columns }
         requires gone { IsRowSet width gone }
         requires come { IsRowSet width come }
@@ -54,8 +39,7 @@ impl Layer {
     {
         let gone = FlatRows::from_sorted(width, gone)?;
         let come = FlatRows::from_sorted(width, come)?;
-        let mask = masked(&gone, &come);
-        Ok(Layer { gone, come, mask })
+        Ok(Layer { gone, come })
     }
 
     /// The layer that changes nothing.
@@ -73,8 +57,7 @@ impl Layer {
     {
         let gone = self.gone.share()?;
         let come = self.come.share()?;
-        let mask = self.mask.copy();
-        Ok(Layer { gone, come, mask })
+        Ok(Layer { gone, come })
     }
 
     /// Whether no row goes or comes.
@@ -96,7 +79,6 @@ impl Layer {
         ensures ok { OnOk result (self.new ≡ record { width = self.old.width; gone = self.old.gone; come = with_row self.old.come row }) }
         ensures err { OnErr result (self.new ≡ self.old) }
     {
-        self.mask.add(&row);
         self.come.insert(row)?;
         Ok(())
     }
@@ -109,13 +91,12 @@ impl Layer {
         ensures fewer { length self.new.come ≤ length self.old.come }
         ensures width { self.new.width ≡ self.old.width }
     {
-        self.mask.add(row);
         take_row(&mut self.gone, &mut self.come, row)?;
         Ok(())
     }
 
     /// How many cells each row has.
-    pub fn width(&self) -> usize
+    pub(crate) fn width(&self) -> usize
         ensures value { result ≡ self.now.width }
         ensures is_layer { IsLayer self.now.width self.now }
     {
@@ -140,37 +121,22 @@ impl Layer {
         &self.come
     }
 
-    /// Whether the row goes. The mask is asked first.
+    /// Whether the row goes.
     pub(crate) fn takes(&self, row: &Row) -> bool
         ensures { result ≡ has_row self.now.gone row.now }
     {
-        if self.mask.lacks_row(row) {
-            return false;
-        }
         self.gone.has(row)
     }
 
-    /// Whether the row comes. The mask is asked first.
+    /// Whether the row comes.
     pub(crate) fn puts(&self, row: &Row) -> bool
         ensures { result ≡ has_row self.now.come row.now }
     {
-        if self.mask.lacks_row(row) {
-            return false;
-        }
         self.come.has(row)
     }
 
-    /// Whether it is known without a search that no row goes or comes whose first cell lies from one to another.
-    #[inline]
-    pub(crate) fn lacks(&self, low: Key, high: Key) -> bool
-        ensures gone { IsTrue result → (cell : ℕ) (cells : RowView) → low ≤ cell → cell ≤ high → has_row self.now.gone (cell ∷ cells) ≡ false }
-        ensures come { IsTrue result → (cell : ℕ) (cells : RowView) → low ≤ cell → cell ≤ high → has_row self.now.come (cell ∷ cells) ≡ false }
-    {
-        self.mask.lacks(low, high)
-    }
-
     /// One layer in place of two.
-    pub fn and_then(first: &Layer, second: &Layer) -> Result<Layer, NoMemory>
+    pub(crate) fn and_then(first: &Layer, second: &Layer) -> Result<Layer, NoMemory>
         requires { second.now.width ≡ first.now.width }
         ensures width { IfOk result (λ layer. layer.width ≡ first.now.width) }
         ensures rows { IfOk result (λ layer. (rows : List RowView) → IsAscending rows → under rows layer ≡ under (under rows first.now) second.now) }
@@ -178,7 +144,6 @@ impl Layer {
         let gone = first.gone.union(&second.gone)?;
         let left = first.come.difference(&second.gone)?;
         let come = left.union(&second.come)?;
-        let mask = Mask::both(&first.mask, &second.mask);
-        Ok(Layer { gone, come, mask })
+        Ok(Layer { gone, come })
     }
 }

@@ -1,23 +1,22 @@
 //! `Over`, and what it does as a set of rows.
 ghost use Rattle.std.specs.Prelude.{◌≡◌, ◌≤◌, length, IfOk, OnOk, OnErr};
-ghost use Rattle.lt_face.specs.Rows.{IsRow, with_row, without_row};
+ghost use Rattle.lt_face.specs.Rows.{IsRow};
 ghost use Rattle.lt_shared.specs.Shared.{root_rows};
+ghost use Rattle.lt_over.specs.Edits.{edited, is_change};
 ghost use Rattle.lt_over.specs.Layers.{under};
 
 use crate::about::near_either;
 use crate::counting::{count_lacked, count_staying};
 use crate::edits::{has_over, has_room, put_row};
 use crate::layer::Layer;
-use crate::layers::Layers;
+use crate::many::{put_all, take_all};
 use crate::search::least_from;
-use crate::stack::Stack;
 use lt_face::{Fraction, Key, Near, NoMemory, Row, RowList, RowReads, RowSet};
 use lt_shared::SharedRows;
 use std::alloc::Global;
 use std::marker::Model;
 
-/// A set of rows with a layer of edits laid over it, which is edited in place. Sets share the base and the edits. No edit
-/// costs a copy of the base, and those by `put`, `take` and `laid_by` don't even look at it.
+/// A set of rows with a layer of edits laid over it, which is edited in place. Sets share the base and the edits.
 #[derive(Drop)]
 pub struct Over<B: RowSet> {
     base: B,
@@ -41,47 +40,7 @@ impl<B: RowSet> Model for Over<B> {
 }
 
 impl<B: RowSet> Over<B> {
-    /// The set of at most so many rows, with nothing laid over it.
-    pub(crate) fn on(alloc: Global, base: B, most: usize) -> Result<Over<B>, NoMemory>
-        requires { length (B.rows base) ≤ most }
-        ensures rows { IfOk result (λ set. set.rows ≡ B.rows base) }
-        ensures width { IfOk result (λ set. set.width ≡ B.width_of base) }
-    {
-        let width = base.width();
-        let layer = Layer::none(alloc, width)?;
-        Ok(Over { base, layer, most })
-    }
-
-    /// How many rows are laid over the base.
-    pub fn edits(&self) -> usize {
-        self.layer.len()
-    }
-
-    /// Puts a row in, without a look at the base. Want of memory leaves the set as it was.
-    pub fn put(&mut self, row: Row) -> Result<(), NoMemory>
-        requires { IsRow self.old.width row }
-        ensures ok { OnOk result (self.new.rows ≡ with_row self.old.rows row) }
-        ensures err { OnErr result (self.new.rows ≡ self.old.rows) }
-        ensures width { self.new.width ≡ self.old.width }
-    {
-        let _width = self.base.width();
-        put_row(self.most, &mut self.layer, row)?;
-        Ok(())
-    }
-
-    /// Takes a row out, without a look at the base. Want of memory leaves the rows as they were.
-    pub fn take(&mut self, row: &Row) -> Result<(), NoMemory>
-        requires { IsRow self.old.width row.now }
-        ensures ok { OnOk result (self.new.rows ≡ without_row self.old.rows row.now) }
-        ensures err { OnErr result (self.new.rows ≡ self.old.rows) }
-        ensures width { self.new.width ≡ self.old.width }
-    {
-        let _width = self.base.width();
-        self.layer.take(row)?;
-        Ok(())
-    }
-
-    /// The set with one more layer of edits among its own.
+    /// The set with more edits laid over it, as one layer with its own.
     pub(crate) fn laid_by(&self, more: &Layer) -> Result<Over<B>, NoMemory>
         requires { more.now.width ≡ self.now.width }
         ensures rows { IfOk result (λ set. set.rows ≡ under self.now.rows more.now) }
@@ -99,49 +58,83 @@ impl<B: RowSet> Over<B> {
             most: self.most,
         })
     }
-
-    /// A number that the rows don't pass.
-    pub(crate) fn most(&self) -> usize
-        ensures { length self.now.rows ≤ result }
-    {
-        self.most + self.layer.come().len()
-    }
 }
 
-impl<B: RowSet> Over<Stack<B>> {
-    /// The same rows, with the edits as the last layer of the base.
-    pub(crate) fn raised(&self) -> Result<Stack<B>, NoMemory>
-        ensures { IfOk result (λ stack. stack ≡ self.now) }
-    {
-        let _width = self.base.width();
-        let mut stack = self.base.share()?;
-        if self.layer.is_bare() {
-            return Ok(stack);
-        }
-        let layer = self.layer.share()?;
-        let layers = Layers::one(stack.allocator(), layer)?;
-        stack.push(&layers)?;
-        Ok(stack)
-    }
+/// So many edits stay over pages that other sets share; where there are more, all of them are made in pages.
+const FEW: usize = 16;
 
-    /// Whether rows are laid over the base, or layers over its own.
-    pub(crate) fn is_edited(&self) -> bool {
-        self.edits() > 0 || self.base.is_layered()
+/// Puts a row into a set, or takes it out. Answers whether that changed the set. Want of memory changes nothing.
+fn edit_set<S: RowSet>(set: &mut S, row: &Row, plus: bool) -> Result<bool, NoMemory>
+    requires { IsRow (S.width_of set.old) row.now }
+    ensures rows { OnOk result (S.rows set.new ≡ edited (S.rows set.old) row.now plus) }
+    ensures changed { IfOk result (λ changed. changed ≡ is_change (S.rows set.old) row.now plus) }
+    ensures err { OnErr result (S.rows set.new ≡ S.rows set.old) }
+    ensures width { S.width_of set.new ≡ S.width_of set.old }
+{
+    if plus {
+        let new = set.insert(row.copy_row())?;
+        return Ok(new);
     }
+    let there = set.remove(row)?;
+    Ok(there)
 }
 
 impl Over<SharedRows> {
-    /// The same rows in pages: those on which no edit is laid are shared with the base.
-    pub(crate) fn merged(&self) -> Result<SharedRows, NoMemory>
+    /// The same rows in pages. A page is copied at its first edit; those on which no edit is laid are shared with the base.
+    fn merged(&self) -> Result<SharedRows, NoMemory>
         ensures rows { IfOk result (λ set. root_rows set.nodes ≡ self.now.rows) }
         ensures width { IfOk result (λ set. set.width ≡ self.now.width) }
     {
         let _width = self.base.width();
         let _width = self.layer.width();
-        let gone = self.layer.gone();
-        let come = self.layer.come();
-        let set = self.base.bulk(gone.as_slice(), come.as_slice())?;
+        let mut set = self.base.share()?;
+        take_all(&mut set, self.layer.gone().as_slice())?;
+        put_all(&mut set, self.layer.come().as_slice())?;
         Ok(set)
+    }
+
+    /// Makes all edits in the pages. The rows stay what they are.
+    fn sink(&mut self) -> Result<(), NoMemory>
+        ensures { self.new ≡ self.old }
+    {
+        let layer = Layer::none(self.base.allocator(), self.base.width())?;
+        let base = self.merged()?;
+        self.most = base.len();
+        self.base = base;
+        self.layer = layer;
+        Ok(())
+    }
+
+    /// Makes an edit over the pages. Where the edits become many they are all made in the pages. After want of memory the rows may
+    /// be either.
+    fn edit_over(&mut self, row: &Row, plus: bool) -> Result<bool, NoMemory>
+        requires { IsRow self.old.width row.now }
+        ensures rows { OnOk result (self.new.rows ≡ edited self.old.rows row.now plus) }
+        ensures changed { IfOk result (λ changed. changed ≡ is_change self.old.rows row.now plus) }
+        ensures width { self.new.width ≡ self.old.width }
+    {
+        let few = self.layer.len() <= FEW;
+        let changed = edit_set(self, row, plus)?;
+        if few && self.layer.len() > FEW {
+            self.sink()?;
+        }
+        Ok(changed)
+    }
+
+    /// Puts a row in, or takes it out. Answers whether that changed the set. It is done in the pages where they are this set's own.
+    /// After want of memory the rows may be either.
+    pub(crate) fn edit(&mut self, row: &Row, plus: bool) -> Result<bool, NoMemory>
+        requires { IsRow self.old.width row.now }
+        ensures rows { OnOk result (self.new.rows ≡ edited self.old.rows row.now plus) }
+        ensures changed { IfOk result (λ changed. changed ≡ is_change self.old.rows row.now plus) }
+        ensures width { self.new.width ≡ self.old.width }
+    {
+        if self.layer.is_bare() && self.base.is_own() {
+            let changed = edit_set(&mut self.base, row, plus)?;
+            self.most = self.base.len();
+            return Ok(changed);
+        }
+        self.edit_over(row, plus)
     }
 }
 

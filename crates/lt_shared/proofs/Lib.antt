@@ -1,6 +1,5 @@
 pub mod Joins
 pub mod Edits
 pub mod Counts
-pub mod Laying
 pub mod Gathered
 pub mod Here

@@ -83,10 +83,6 @@ pub trait Entry: Sized + Drop {
     fn row_about(&self, along: Fraction) -> &Row
         ensures { has_row (rows self.now) result.now ≡ true };
 
-    /// How many such entries stay together in a list that a few edits touch.
-    fn together() -> usize
-        ensures { result ≤ 64 };
-
     /// A second owner of the same entry.
     fn share(&self) -> Result<Self, NoMemory>
         ensures { IfOk result (λ entry. entry ≡ self.now) };
@@ -169,10 +165,6 @@ impl Entry for Row {
 
     fn row_about(&self, _along: Fraction) -> &Row {
         self
-    }
-
-    fn together() -> usize {
-        24
     }
 
     fn share(&self) -> Result<Row, NoMemory> {

@@ -231,10 +231,6 @@ impl<T: Entry> Entry for Level<T> {
         row_along(&self.entries, along)
     }
 
-    fn together() -> usize {
-        LIMIT
-    }
-
     fn share(&self) -> Result<Level<T>, NoMemory> {
         let entries = self.entries.clone()?;
         Ok(Level { entries })

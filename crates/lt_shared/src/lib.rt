@@ -2,7 +2,6 @@
 #![tactic(auto)]
 
 mod building;
-mod bulk;
 mod edit;
 mod entry;
 mod level;

@@ -1,12 +1,11 @@
 //! `SharedRows`, and what it does as a set of rows.
 ghost use Rattle.std.specs.Prelude.{◌≡◌, ◌≤◌, ◌+◌, ◌/◌, length, not, IfOk, OnOk, OnErr};
+ghost use Rattle.std.specs.Arc.{arc_value};
 ghost use Rattle.lt_face.specs.Limits.{most_columns};
-ghost use Rattle.lt_face.specs.Rows.{IsAscending, IsRow, IsRowSet, has_row, with_row, without_row};
-ghost use Rattle.lt_shared.specs.Laid.{laid};
+ghost use Rattle.lt_face.specs.Rows.{IsRow, IsRowSet, has_row, with_row, without_row};
 ghost use Rattle.lt_shared.specs.Shared.{root_rows, IsGrown};
 
 use crate::building::nodes_of;
-use crate::bulk::bulk_root;
 use crate::level::Node;
 use crate::root::{put_in, take_from};
 use crate::search::{has_among, least_among, near_among, row_along};
@@ -38,16 +37,13 @@ impl Model for SharedRows {
     ghost invariant = { λ s. (s.width ≤ most_columns) × IsRowSet s.width (root_rows (arc_value s.nodes).items) × (s.count ≡ length (root_rows (arc_value s.nodes).items)) };
 }
 
-/// A count with so many more, and then so many less.
-fn count_after(count: usize, more: usize, less: usize) -> Result<usize, NoMemory>
-    ensures { IfOk result (λ n. n + less ≡ count + more) }
+/// Whether the list has one owner.
+fn has_one_owner(list: &mut Arc<Vec<Node>>) -> bool
+    ensures { arc_value list.new ≡ arc_value list.old }
 {
-    let Some(all) = count.checked_add(more) else {
-        return Err(NoMemory);
-    };
-    match all.checked_sub(less) {
-        Some(left) => Ok(left),
-        None => Err(NoMemory),
+    match Arc::get_mut(list) {
+        Some(_own) => true,
+        None => false,
     }
 }
 
@@ -59,23 +55,16 @@ impl SharedRows {
         self.nodes.len()
     }
 
-    /// The set without some rows, and then with others, each list ascending: one pass, which copies each page that an edit
-    /// is laid on once, and shares the others.
-    pub fn bulk(&self, gone: &[Row], come: &[Row]) -> Result<SharedRows, NoMemory>
-        requires gone { IsAscending gone.now }
-        requires come { IsRowSet self.now.width come.now }
-        ensures rows { IfOk result (λ set. root_rows set.nodes ≡ laid (root_rows self.now.nodes) gone.now come.now) }
-        ensures width { IfOk result (λ set. set.width ≡ self.now.width) }
+    /// What the set takes its memory from.
+    pub fn allocator(&self) -> Global {
+        *self.nodes.allocator()
+    }
+
+    /// Whether no other set has the root's list, so that an edit is made in it. No clause speaks of it.
+    pub fn is_own(&mut self) -> bool
+        ensures { self.new ≡ self.old }
     {
-        let alloc = *self.nodes.allocator();
-        let (nodes, met) = bulk_root(alloc, &self.nodes, gone, come)?;
-        let count = count_after(self.count, come.len(), met)?;
-        let nodes = Arc::new(alloc, nodes)?;
-        Ok(SharedRows {
-            width: self.width,
-            count,
-            nodes,
-        })
+        has_one_owner(&mut self.nodes)
     }
 
     /// Adds a row, and answers whether it was new. `made` counts the entries that are put into lists.

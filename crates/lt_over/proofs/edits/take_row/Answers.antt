@@ -3,7 +3,6 @@ use Rattle.lt_face.specs.Rows.{with_row}
 use Rattle.lt_face.specs.State.{Row}
 use Rattle.lt_over.specs.Overlaid.{overlaid}
 use Rattle.lt_over.proofs.Edited.{taken_rows, hidden_rows, not_put, fewer_put, on_err}
-use Rattle.lt_over.proofs.Masks.{masked_with, masked_without}
 use Rattle.lt_over.proofs.edits.take_row.Goals as goal
 
 pub returns-in_err-remove-clause-err : goal.returns-in_err-remove-clause-err
@@ -23,15 +22,3 @@ pub returns-else-has-clause-ok : goal.returns-else-has-clause-ok
 returns-else-has-clause-ok c = λ base up.
     taken_rows base c.args.gone.now.rows c.args.come.now.rows c.insert.new.self.rows c.args.come.now.rows c.args.row.now up (c.in_ok-insert.ensures.ok ∙ ap (with_row c.args.gone.now.rows) c.copy_row.ensures)
     (not_put c.args.come.now.rows c.args.row.now (sym c.has.ensures ∙ c.if-has.false))
-
-pub returns-in_err-remove-clause-gone_masked : goal.returns-in_err-remove-clause-gone_masked
-returns-in_err-remove-clause-gone_masked c = λ words one all. masked_with words c.args.gone.now.rows c.insert.new.self.rows c.args.row.now (c.in_ok-insert.ensures.ok ∙ ap (with_row c.args.gone.now.rows) c.copy_row.ensures) one all
-
-pub returns-in_ok-remove-clause-gone_masked : goal.returns-in_ok-remove-clause-gone_masked
-returns-in_ok-remove-clause-gone_masked c = λ words one all. masked_with words c.args.gone.now.rows c.insert.new.self.rows c.args.row.now (c.in_ok-insert.ensures.ok ∙ ap (with_row c.args.gone.now.rows) c.copy_row.ensures) one all
-
-pub returns-else-has-clause-gone_masked : goal.returns-else-has-clause-gone_masked
-returns-else-has-clause-gone_masked c = λ words one all. masked_with words c.args.gone.now.rows c.insert.new.self.rows c.args.row.now (c.in_ok-insert.ensures.ok ∙ ap (with_row c.args.gone.now.rows) c.copy_row.ensures) one all
-
-pub returns-in_ok-remove-clause-come_masked : goal.returns-in_ok-remove-clause-come_masked
-returns-in_ok-remove-clause-come_masked c = λ words all. masked_without words c.args.come.now.rows c.remove.new.self.rows c.args.row.now c.in_ok-remove.ensures.ok all

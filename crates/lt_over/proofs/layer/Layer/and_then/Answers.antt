@@ -1,8 +1,7 @@
-use Rattle.std.proofs.Common.{◌≡◌, ap, sym, ◌∙◌}
+use Rattle.std.proofs.Common.{ap, sym, ◌∙◌}
 use Rattle.lt_over.specs.Layers.{Edits, under}
 use Rattle.lt_over.specs.Overlaid.{overlaid}
 use Rattle.lt_over.proofs.Edited.{laid_over}
-use Rattle.lt_over.proofs.Masks.{joined_masked}
 use Rattle.lt_over.proofs.layer.Layer.and_then.Goals as goal
 
 pub returns-clause-rows : goal.returns-clause-rows
@@ -13,8 +12,4 @@ returns-clause-rows c = λ rows up.
     ∙ ap (λ (l : Edits). under (under rows l) c.args.second.now) c.first.view_is
 
 pub invariant_of-result : goal.invariant_of-result
-invariant_of-result c =
-    let wide : c.in_ok-come.come.width ≡ c.in_ok-gone.gone.width = c.in_ok-come.ensures.width ∙ c.in_ok-left.ensures.width ∙ c.first.invariant.0 ∙ sym c.in_ok-gone.ensures.width in
-    let masked = joined_masked c.both-mask.result c.first.inside.mask c.second.inside.mask c.first.inside.gone.rows c.first.inside.come.rows c.second.inside.gone.rows c.second.inside.come.rows
-    c.in_ok-gone.gone.rows c.in_ok-left.left.rows c.in_ok-come.come.rows c.in_ok-gone.ensures.rows c.in_ok-left.ensures.rows c.in_ok-come.ensures.rows c.both-mask.ensures.first c.both-mask.ensures.second
-    c.first.invariant.1 c.first.invariant.2 c.second.invariant.1 c.second.invariant.2 in (wide, masked.0, masked.1)
+invariant_of-result c = c.in_ok-come.ensures.width ∙ c.in_ok-left.ensures.width ∙ c.first.invariant ∙ sym c.in_ok-gone.ensures.width
