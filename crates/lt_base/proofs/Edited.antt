@@ -173,7 +173,7 @@ each_marked P relation plus (m ∷ marks) all = by (each_marked P relation plus 
 pub IsRowSet-marked : (width relation : ℕ) (plus : Bool) (marks : Marks) → AreMarks marks → AllByRecursion (λ (m : Mark). m.relation ≡ relation → IsRow width m.row) marks → IsRowSet width (marked relation plus marks)
 IsRowSet-marked width relation plus marks up fits = record { rises = rises_marked relation plus marks up; each = each_marked (IsRow width) relation plus marks fits }
 
-ascending-laid : (relation : ℕ) (rows : List Row) (marks : Marks) → IsAscending rows → IsAscending (rows_laid relation rows marks)
+pub ascending-laid : (relation : ℕ) (rows : List Row) (marks : Marks) → IsAscending rows → IsAscending (rows_laid relation rows marks)
 ascending-laid relation rows [] up = up
 ascending-laid relation rows (m ∷ marks) up = ascending-laid relation (row_laid relation rows m) marks (by (m.relation == relation) m.plus)
   where
@@ -194,10 +194,6 @@ laid_by_lists relation rows gone come marks up apart out in_ =
     ∙ ap (λ b. b || (has_row rows q && not (has_row gone q))) (in_ q)
     ∙ ap (λ b. has_row (marked relation true marks) q || (has_row rows q && not b)) (out q)
     ∙ sym (has-laid relation rows marks q (apart q)))
-
-pub laid_by_own : (relation : ℕ) (rows gone come : List Row) (marks : Marks) → IsAscending rows → AreMarks marks → gone ≡ marked relation false marks → come ≡ marked relation true marks → overlaid rows gone come ≡ rows_laid relation rows marks
-laid_by_own relation rows gone come marks up are out in_ =
-    laid_by_lists relation rows gone come marks up (λ q. apart_signs relation marks q are) (λ q. ap (λ (l : List Row). has_row l q) out) (λ q. ap (λ (l : List Row). has_row l q) in_)
 
 -- ---- in another order of the columns
 

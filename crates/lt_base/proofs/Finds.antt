@@ -5,8 +5,6 @@ use Rattle.std.proofs.Common.{refl, sym, ap, ◌∙◌, subst, inl, inr, arith, 
 use Rattle.lt_face.specs.Lists.{IsIn}
 use Rattle.lt_face.specs.Rows.{IsRow, IsRowSet}
 use Rattle.lt_face.specs.State.{Row, row_eq, IsIndexOf}
-use Rattle.lt_model.specs.declared.mark.Mark.{Mark}
-use Rattle.lt_model.specs.Marks.{Marks}
 use Rattle.lt_base.specs.declared.index.Index.{Index}
 use Rattle.lt_delta.specs.Columns.{IsPermOf}
 use Rattle.lt_base.specs.Indexed.{IsIndexed}
@@ -61,7 +59,3 @@ other_index width rows others index perm set all h is =
 pub perms_of : (width : ℕ) (rows : List Row) (others : List Index) → AllByRecursion (IsIndexed width rows) others → AllByRecursion (λ (i : Index). IsPermOf i.rows.width i.columns) others
 perms_of width rows [] all = tt
 perms_of width rows (o ∷ others) all = (subst (λ n. IsPermOf n o.columns) (sym all.0.wide) all.0.same.perm, perms_of width rows others all.1)
-
-pub fit_all : (width relation : ℕ) (rows : List Row) (marks : Marks) (others : List Index) → AllByRecursion (IsIndexed width rows) others → AllByRecursion (λ (m : Mark). m.relation ≡ relation → IsRow width m.row) marks → AllByRecursion (λ (i : Index). AllByRecursion (λ (m : Mark). m.relation ≡ relation → IsRow i.rows.width m.row) marks) others
-fit_all width relation rows marks [] all fits = tt
-fit_all width relation rows marks (o ∷ others) all fits = (subst (λ n. AllByRecursion (λ (m : Mark). m.relation ≡ relation → IsRow n m.row) marks) (sym all.0.wide) fits, fit_all width relation rows marks others all.1 fits)

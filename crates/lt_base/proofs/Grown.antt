@@ -1,6 +1,7 @@
 -- Lists that a loop makes, one element for each of another list.
 use Rattle.std.specs.Prelude.{◌≡◌, ℕ, zero, suc, ◌+◌, ◌<◌, ◌≤◌, List, [], ◌∷◌, ◌++◌, length, map, take, Some, None, slice_get}
-use Rattle.std.proofs.Common.{refl, sym, ap, ◌∙◌, arith, get_or}
+use Rattle.std.specs.List.{AllByRecursion}
+use Rattle.std.proofs.Common.{refl, sym, ap, ◌∙◌, subst, arith, get_or}
 use Rattle.std.proofs.lemmas.List.{map-append}
 
 pub taken_more : {X : Type 0} (xs : List X) (i : ℕ) (x : X) → i < length xs → x ≡ get_or xs i x → take (i + 1) xs ≡ take i xs ++ x ∷ []
@@ -29,3 +30,11 @@ pub map_past : {X Y : Type 0} (f : X → Y) (xs : List X) (i : ℕ) → length x
 map_past f [] i le = refl
 map_past f (y ∷ xs) zero le = absurd (omega arith)
 map_past f (y ∷ xs) (suc i) le = map_past f xs i (omega arith)
+
+-- what holds of each element before a place, and of the one there
+pub each_more : {X : Type 0} (P : X → Type 0) (xs : List X) (i : ℕ) (x : X) → slice_get xs i ≡ Some x → AllByRecursion P (take i xs) → P x → AllByRecursion P (take (i + 1) xs)
+each_more P [] i x at all here = absurd cc
+each_more P (y ∷ xs) zero x at all here = let e : x ≡ y = cc in (subst P e here, tt)
+each_more P (y ∷ xs) (suc i) x at all here =
+    let e : suc (i + 1) ≡ suc i + 1 = omega arith in
+    subst (λ n. AllByRecursion P (take n (y ∷ xs))) e (all.0, each_more P xs i x at all.1 here)

@@ -18,9 +18,6 @@ use Rattle.lt_base.proofs.OwnOrder.{row_at}
 
 -- ---- rows that are the same in the order of all columns are the same
 
-in_tails : (x y : ℕ) (xs ys : Row) → ((c : ℕ) → c < suc (length xs) → slice_index (x ∷ xs) c ≡ slice_index (y ∷ ys) c) → (c : ℕ) → c < length xs → slice_index xs c ≡ slice_index ys c
-in_tails x y xs ys same c lt = same (suc c) (omega arith)
-
 same_cells : (xs ys : Row) → length xs ≡ length ys → ((c : ℕ) → c < length xs → slice_index xs c ≡ slice_index ys c) → xs ≡ ys
 same_cells [] [] long same = refl
 same_cells [] (y ∷ ys) long same = absurd (omega arith)
@@ -72,7 +69,7 @@ module _ (width : ℕ) (columns : List ℕ) (rows index : List Row) (is : IsPerm
         (old.0, without_other rows q old.0 (λ e. k.0 (ap (permuted columns) e ∙ old.2)) old.1, old.2);
   }
 
-  written : (m : Mark) → AllByRecursion (IsRow width) rows → IsRow width m.row → IsPermuted width columns (write m rows) (write (permuted_mark columns m) index)
+  pub written : (m : Mark) → AllByRecursion (IsRow width) rows → IsRow width m.row → IsPermuted width columns (write m rows) (write (permuted_mark columns m) index)
   written m wide fits = go m.plus
     where
       go : (plus : Bool) → IsPermuted width columns (cond plus (with_row rows m.row) (without_row rows m.row)) (cond plus (with_row index (permuted columns m.row)) (without_row index (permuted columns m.row)))
@@ -107,6 +104,11 @@ all_laid width columns relation rows index (m ∷ marks) is wide fits =
     (one_laid width columns rows index is relation m wide fits.0)
     (still_wide width relation rows m wide fits.0)
     fits.1
+
+-- rows stay as wide
+pub wide_laid : (width relation : ℕ) (rows : List Row) (marks : Marks) → AllByRecursion (IsRow width) rows → AllByRecursion (λ (m : Mark). m.relation ≡ relation → IsRow width m.row) marks → AllByRecursion (IsRow width) (rows_laid relation rows marks)
+wide_laid width relation rows [] wide fits = wide
+wide_laid width relation rows (m ∷ marks) wide fits = wide_laid width relation (row_laid relation rows m) marks (still_wide width relation rows m wide fits.0) fits.1
 
 pub indexes_laid : (width relation : ℕ) (rows : List Row) (marks : Marks) (others : List Index) → AllByRecursion (IsIndexed width rows) others → AllByRecursion (IsRow width) rows → AllByRecursion (λ (m : Mark). m.relation ≡ relation → IsRow width m.row) marks
     → AllByRecursion (IsIndexed width (rows_laid relation rows marks)) (map (index_laid relation marks) others)

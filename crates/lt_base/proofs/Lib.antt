@@ -3,11 +3,12 @@ pub mod Elements
 pub mod Kept
 pub mod Sorts
 pub mod Grown
-pub mod Marked
 pub mod Finds
 pub mod States
 pub mod Replaced
 pub mod Tabled
 pub mod Apart
 pub mod Edited
-pub mod Layered
+pub mod SameIndex
+pub mod OneRow
+pub mod Used

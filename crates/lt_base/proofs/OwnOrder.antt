@@ -1,12 +1,12 @@
 -- Columns in their own order.
-use Rattle.std.specs.Prelude.{◌≡◌, ◌≢◌, ℕ, zero, suc, ◌+◌, ◌-◌, ◌<◌, ◌≤◌, true, false, ◌==◌, List, [], ◌∷◌, map, length, drop, slice_index}
+use Rattle.std.specs.Prelude.{◌≡◌, ◌≢◌, ℕ, zero, suc, ◌+◌, ◌-◌, ◌<◌, ◌≤◌, Bool, true, false, ◌==◌, List, [], ◌∷◌, ◌++◌, map, length, drop, slice_index}
 use Rattle.std.specs.List.{AllByRecursion}
 use Rattle.std.proofs.Common.{refl, sym, ap, ◌∙◌, subst, inl, inr, arith}
-use Rattle.std.proofs.lemmas.Bool.{and_parts, eqb-true, eq-eqb, ne_eqb, cases_Bool}
+use Rattle.std.proofs.lemmas.Bool.{and_parts, eqb-true, eqb-false, eq-eqb, ne_eqb, cases_Bool}
 use Rattle.lt_face.specs.Rows.{IsRow, IsRowSet}
 use Rattle.lt_face.specs.Lists.{IsIn}
 use Rattle.lt_face.specs.State.{Row, row_eq, permuted, IsIndexOf}
-use Rattle.lt_delta.specs.Columns.{numbers}
+use Rattle.lt_delta.specs.Columns.{numbers, IsPermOf, IsPermuted}
 
 pub row_eq-true : (xs ys : List ℕ) → row_eq xs ys ≡ true → xs ≡ ys
 row_eq-true [] [] h = refl
@@ -38,12 +38,6 @@ drop_next [] i lt = absurd (omega arith)
 drop_next (x ∷ xs) zero lt = refl
 drop_next (x ∷ xs) (suc i) lt = drop_next xs i (omega arith) ∙ (let e : suc (i + 1) ≡ suc i + 1 = omega arith in ap (λ n. slice_index xs i ∷ drop n (x ∷ xs)) e)
 
-drop_done : (xs : List ℕ) (i : ℕ) → length xs ≤ i → drop i xs ≡ []
-drop_done [] zero le = refl
-drop_done [] (suc i) le = refl
-drop_done (x ∷ xs) zero le = absurd (omega arith)
-drop_done (x ∷ xs) (suc i) le = drop_done xs i (omega arith)
-
 numbers_next : (n i : ℕ) → i < n → numbers i (n - i) ≡ i ∷ numbers (i + 1) (n - (i + 1))
 numbers_next n i lt = let e : n - i ≡ suc (n - (i + 1)) = omega arith in ap (numbers i) e
 
@@ -52,9 +46,6 @@ own_step xs n i long lt same = rw (drop_next xs i (omega arith), numbers_next n 
 
 pub own_differs : (xs : List ℕ) (n i : ℕ) → length xs ≡ n → i < n → slice_index xs i ≢ i → row_eq (drop i xs) (numbers i (n - i)) ≡ false
 own_differs xs n i long lt differs = rw (drop_next xs i (omega arith), numbers_next n i lt, ne_eqb (slice_index xs i) i differs) refl
-
-pub own_done : (xs : List ℕ) (n i : ℕ) → length xs ≡ n → n ≤ i → row_eq (drop i xs) (numbers i (n - i)) ≡ true
-own_done xs n i long le = let e : n - i ≡ 0 = omega arith in rw (drop_done xs i (omega arith), e) refl
 
 -- ---- the index
 
@@ -88,3 +79,39 @@ own_index width rows columns set own =
       there = λ row h. rw (permuted_own columns row width is (wide row h)) h;
       from = λ row h. (row, h, permuted_own columns row width is (wide row h));
     }
+
+-- ---- the columns of a relation in their own order
+
+numbers_within : (from n bound : ℕ) → from + n ≤ bound → AllByRecursion (λ c. c < bound) (numbers from n)
+numbers_within from zero bound le = tt
+numbers_within from (suc n) bound le = (omega (arith, le), numbers_within (from + 1) n bound (omega (arith, le)))
+
+numbered : (from n c : ℕ) → from ≤ c → c < from + n → IsIn c (numbers from n)
+numbered from zero c le lt = absurd (omega (arith, le, lt))
+numbered from (suc n) c le lt = by (from == c) refl (λ up. numbered (from + 1) n c up (omega (arith, lt)))
+  where
+    by : (b : Bool) → (from == c) ≡ b → (from + 1 ≤ c → IsIn c (numbers (from + 1) n)) → IsIn c (numbers from (suc n))
+    by true e more = inl (eqb-true from c e)
+    by false e more = inr (more (let ne = eqb-false from c e in omega (arith, le, ne)))
+
+own_perm : (width : ℕ) → IsPermOf width (numbers 0 width)
+own_perm width = record { as_long = long_numbers 0 width; within = numbers_within 0 width width (omega arith); each = λ c lt. numbered 0 width c (omega arith) (omega (arith, lt)) }
+
+pub own_order : (width : ℕ) (columns : List ℕ) → columns ≡ numbers 0 width → IsPermOf width columns
+own_order width columns is = subst (IsPermOf width) (sym is) (own_perm width)
+
+pub own_permuted : (width : ℕ) (columns : List ℕ) (rows : List Row) → columns ≡ numbers 0 width → AllByRecursion (IsRow width) rows → IsPermuted width columns rows rows
+own_permuted width columns rows is wide = record {
+  perm = own_order width columns is;
+  there = λ row h. subst (λ (r : Row). IsIn r rows) (sym (permuted_own columns row width is (row_at (IsRow width) rows row wide h).is_wide)) h;
+  from = λ row h. (row, h, permuted_own columns row width is (row_at (IsRow width) rows row wide h).is_wide);
+}
+
+numbers_more : (from n : ℕ) → numbers from (suc n) ≡ numbers from n ++ (from + n) ∷ []
+numbers_more from zero = let e : from + 0 ≡ from = omega arith in ap (λ (k : ℕ). k ∷ []) (sym e)
+numbers_more from (suc n) =
+    let e : (from + 1) + n ≡ from + suc n = omega arith in
+    ap (λ (ns : List ℕ). from ∷ ns) (numbers_more (from + 1) n ∙ ap (λ (k : ℕ). numbers (from + 1) n ++ k ∷ []) e)
+
+pub numbers_end : (n : ℕ) → numbers 0 (n + 1) ≡ numbers 0 n ++ n ∷ []
+numbers_end n = let e : n + 1 ≡ suc n = omega arith in let f : 0 + n ≡ n = omega arith in ap (numbers 0) e ∙ numbers_more 0 n ∙ ap (λ (k : ℕ). numbers 0 n ++ k ∷ []) f

@@ -65,11 +65,20 @@ has_more t u perm columns e =
     ∙ ap (λ b. row_eq columns (numbers 0 t.width) || b) (any_end columns t.others perm)
     ∙ or_assoc (row_eq columns (numbers 0 t.width)) (list_any (row_eq columns) t.others) (row_eq columns perm)
 
-pub more_indexes : {X : Type 0} (f : X → Table) (xs : List X) (n : ℕ) (x y : X) (perm : List ℕ) → n < length xs → x ≡ get_or xs n x → f y ≡ record { width = (f x).width; rows = (f x).rows; others = (f x).others ++ perm ∷ [] }
+-- a relation with an index that it has already, or with one more
+pub with_used : (t u : Table) (perm : List ℕ) → (has_columns t perm ≡ true → u ≡ t) → (has_columns t perm ≡ false → u ≡ record { width = t.width; rows = t.rows; others = t.others ++ perm ∷ [] })
+    → (relation_of u ≡ relation_of t) × ((columns : List ℕ) → has_columns u columns ≡ (has_columns t columns || row_eq columns perm))
+with_used t u perm same more = go (has_columns t perm) refl
+  where
+    go : (b : Bool) → has_columns t perm ≡ b → (relation_of u ≡ relation_of t) × ((columns : List ℕ) → has_columns u columns ≡ (has_columns t columns || row_eq columns perm))
+    go true e = (ap relation_of (same e), λ columns. ap (λ (w : Table). has_columns w columns) (same e) ∙ already (t ∷ []) 0 perm e 0 columns)
+    go false e = (ap relation_of (more e), λ columns. has_more t u perm columns (more e))
+
+pub more_indexes : {X : Type 0} (f : X → Table) (xs : List X) (n : ℕ) (x y : X) (perm : List ℕ) → n < length xs → x ≡ get_or xs n x → ((columns : List ℕ) → has_columns (f y) columns ≡ (has_columns (f x) columns || row_eq columns perm))
     → (r : ℕ) (columns : List ℕ) → has_index (map f (set xs n y)) r columns ≡ (has_index (map f xs) r columns || (r == n && row_eq columns perm))
 more_indexes f [] n x y perm lt is one r columns = absurd (omega arith)
 more_indexes f (z ∷ xs) zero x y perm lt is one zero columns =
-    has_more (f x) (f y) perm columns one
+    one columns
     ∙ ap (λ w. has_columns (f w) columns || row_eq columns perm) is
     ∙ ap (λ b. has_columns (f z) columns || (b && row_eq columns perm)) (sym (eq-eqb 0 0 refl))
 more_indexes f (z ∷ xs) zero x y perm lt is one (suc r) columns =

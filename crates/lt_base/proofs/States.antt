@@ -35,7 +35,7 @@ index_past [] n columns h = refl
 index_past (x ∷ tables) zero columns h = absurd cc
 index_past (x ∷ tables) (suc n) columns h = index_past tables n columns h
 
-rows_at : (tables : List Table) (n : ℕ) (t : Table) → Some t ≡ slice_get tables n → rows_in (state_of tables) n ≡ t.rows
+pub rows_at : (tables : List Table) (n : ℕ) (t : Table) → Some t ≡ slice_get tables n → rows_in (state_of tables) n ≡ t.rows
 rows_at tables n t h = rw (at_state tables n t h) refl
 
 -- an index of one relation is one in the state of all
@@ -94,25 +94,6 @@ laid_more {X = X} f out xs i new x marks lt is one before =
     ∙ sym (end_laid 0 (map f (take i xs)) (f x) marks)
     ∙ ap (λ (l : List Table). tables_laid 0 l marks) (sym (map-append f (take i xs) (x ∷ [])))
     ∙ ap (λ (l : List X). tables_laid 0 (map f l) marks) (sym (taken_more xs i x lt is))
-
-laid_long : (n : ℕ) (ts : List Table) (marks : Marks) → length (tables_laid n ts marks) ≡ length ts
-laid_long n [] marks = refl
-laid_long n (t ∷ ts) marks = let e = laid_long (n + 1) ts marks in omega arith
-
--- as many relations are laid as were given
-pub as_many : {X : Type 0} (f : X → Table) (out ys : List X) (marks : Marks) → map f out ≡ tables_laid 0 (map f ys) marks → length out ≡ length ys
-as_many f out ys marks is =
-    let same : length (map f out) ≡ length (tables_laid 0 (map f ys) marks) = ap length is in
-    omega (arith, same, map_long f out, map_long f ys, laid_long 0 (map f ys) marks)
-
-pub laid_end : {X : Type 0} (f : X → Table) (out ys : List X) (n : ℕ) (new x : X) (marks : Marks) → n ≡ length ys → f new ≡ table_laid n (f x) marks → map f out ≡ tables_laid 0 (map f ys) marks → map f (out ++ new ∷ []) ≡ tables_laid 0 (map f (ys ++ x ∷ [])) marks
-laid_end f out ys n new x marks at one before =
-    let count : n ≡ 0 + length (map f ys) = omega (arith, at, map_long f ys) in
-    map-append f out (new ∷ [])
-    ∙ ap (λ (l : List Table). l ++ f new ∷ []) before
-    ∙ ap (λ (t : Table). tables_laid 0 (map f ys) marks ++ t ∷ []) (one ∙ ap (λ k. table_laid k (f x) marks) count)
-    ∙ sym (end_laid 0 (map f ys) (f x) marks)
-    ∙ ap (λ (l : List Table). tables_laid 0 l marks) (sym (map-append f ys (x ∷ [])))
 
 none_changed : (n : ℕ) (ts : List Table) (m : Mark) → m.relation < n → state_of (tables_laid n ts (m ∷ [])) ≡ state_of ts
 none_changed n [] m lt = refl

@@ -2,3 +2,4 @@ pub mod Tables
 pub mod Indexed
 pub mod Shown
 pub mod Changed
+pub mod Edited

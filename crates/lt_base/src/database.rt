@@ -1,5 +1,5 @@
 //! `Database`: relations by number.
-ghost use Rattle.std.specs.Prelude.{◌≡◌, ◌≢◌, ◌<◌, ◌≤◌, ◌^◌, ◌||◌, ◌&&◌, ◌==◌, ℕ, List, true, false, [], ◌∷◌, ◌++◌, map, length, is_some, slice_get, IfOk, IsTrue};
+ghost use Rattle.std.specs.Prelude.{◌≡◌, ◌≢◌, ◌<◌, ◌≤◌, ◌^◌, ◌||◌, ◌&&◌, ◌==◌, ℕ, List, true, false, [], ◌∷◌, ◌++◌, map, length, is_some, slice_get, IfOk, OnOk, IsTrue};
 ghost use Rattle.std.specs.Arc.{arc_value};
 ghost use Rattle.std.specs.List.{AllByRecursion};
 ghost use Rattle.std.specs.Option.{option_copied};
@@ -10,13 +10,14 @@ ghost use Rattle.lt_model.specs.declared.mark.Mark.{Mark as MarkType};
 ghost use Rattle.lt_model.specs.Fits.{FitMarks, IsWide};
 ghost use Rattle.lt_model.specs.Marks.{laid};
 ghost use Rattle.lt_model.specs.State.{IsState};
-ghost use Rattle.lt_delta.specs.IndexEdits.{IsEditsOf};
 ghost use Rattle.lt_delta.specs.Columns.{IsPermOf};
-ghost use Rattle.lt_base.specs.Tables.{Table, IsTable, state_of, has_index};
+ghost use Rattle.lt_base.specs.Tables.{Table, IsTable, state_of, relation_of, has_columns, has_index};
+ghost use Rattle.lt_base.specs.Edited.{table_edited};
 ghost use Rattle.lt_base.specs.Shown.{table_laid, tables_laid};
+ghost use Rattle.lt_over.specs.Edits.{is_change};
 
 use crate::relation::Relation;
-use lt_delta::{IndexEdits, Marks};
+use lt_delta::Marks;
 use lt_face::indexes::Indexes;
 use lt_face::items::Perm;
 use lt_face::memory::NoMemory;
@@ -91,57 +92,6 @@ fn relation_laid(
     Ok(laid)
 }
 
-/// Lays the marks on the relation of this number, which is copied where another database shares it.
-fn lay_own(relation: Arc<Relation>, number: usize, marks: &Marks) -> Result<Relation, NoMemory>
-    requires small { number < 2 ^ 32 }
-    requires fit { AllByRecursion (λ (m : MarkType). m.relation ≡ number → IsRow (arc_value relation).width m.row) marks.now }
-    ensures { IfOk result (λ laid. laid ≡ table_laid number (arc_value relation) marks.now) }
-{
-    match Arc::try_unwrap(relation) {
-        Ok(own) => {
-            let laid = own.lay(number as u32, marks)?;
-            Ok(laid)
-        }
-        Err(shared) => {
-            let laid = shared.laid(number as u32, marks)?;
-            Ok(laid)
-        }
-    }
-}
-
-/// Lays the marks on the relation of this number. Where none names it, it stays.
-fn lay_one(
-    alloc: Global,
-    relation: Arc<Relation>,
-    number: usize,
-    marks: &Marks,
-) -> Result<Arc<Relation>, NoMemory>
-    requires { AllByRecursion (λ (m : MarkType). m.relation ≡ number → IsRow (arc_value relation).width m.row) marks.now }
-    ensures { IfOk result (λ laid. arc_value laid ≡ table_laid number (arc_value relation) marks.now) }
-{
-    if is_named(marks, number) {
-        let laid = lay_own(relation, number, marks)?;
-        let laid = Arc::new(alloc, laid)?;
-        return Ok(laid);
-    }
-    Ok(relation)
-}
-
-/// Lays the marks on the relations.
-fn lay_all(relations: Vec<Arc<Relation>>, marks: &Marks) -> Result<Vec<Arc<Relation>>, NoMemory>
-    requires { FitMarks (state_of (map arc_value relations.items)) marks.now }
-    ensures { IfOk result (λ laid. map arc_value laid.items ≡ tables_laid 0 (map arc_value relations.items) marks.now) }
-{
-    let alloc = *relations.allocator();
-    let mut laid = Vec::with_capacity(alloc, relations.len())?;
-    for relation in relations {
-        let number = laid.len();
-        let relation = lay_one(alloc, relation, number, marks)?;
-        laid.push(relation)?;
-    }
-    Ok(laid)
-}
-
 /// Looks at each relation.
 fn look_over(relations: &Vec<Arc<Relation>>)
     ensures { AllByRecursion IsTable (map arc_value relations.now.items) }
@@ -163,30 +113,59 @@ fn shared(relations: &Vec<Arc<Relation>>) -> Result<Vec<Arc<Relation>>, NoMemory
     Ok(shared)
 }
 
-/// The same relation, with nothing laid over its rows where that was long.
-fn relation_folded(alloc: Global, relation: &Arc<Relation>) -> Result<Arc<Relation>, NoMemory>
-    ensures { IfOk result (λ folded. arc_value folded ≡ arc_value relation.now) }
+/// Puts a row into the relation, or takes it out, in place. Where another database has the relation too, it is copied, unless nothing
+/// changes. Answers whether something did.
+fn edit_relation(
+    alloc: Global,
+    relation: &mut Arc<Relation>,
+    row: &Row,
+    plus: bool,
+) -> Result<bool, NoMemory>
+    requires { IsRow (arc_value relation.old).width row.now }
+    ensures table { OnOk result (arc_value relation.new ≡ table_edited row.now plus (arc_value relation.old)) }
+    ensures changed { IfOk result (λ changed. changed ≡ is_change (arc_value relation.old).rows row.now plus) }
 {
-    if relation.is_edited() {
-        let folded = relation.folded()?;
-        let folded = Arc::new(alloc, folded)?;
-        return Ok(folded);
+    match Arc::get_mut(relation) {
+        Some(own) => own.edit(row, plus),
+        None => {
+            let _width = relation.rows().width();
+            if relation.rows().has(row) == plus {
+                return Ok(false);
+            }
+            let mut own = relation.share()?;
+            let changed = own.edit(row, plus)?;
+            *relation = Arc::new(alloc, own)?;
+            Ok(changed)
+        }
     }
-    let same = relation.clone()?;
-    Ok(same)
 }
 
-/// The same relations, with nothing laid over the rows of those where that was long.
-fn all_folded(relations: &Vec<Arc<Relation>>) -> Result<Vec<Arc<Relation>>, NoMemory>
-    ensures { IfOk result (λ folded. map arc_value folded.items ≡ map arc_value relations.now.items) }
+/// One more batch has written the relation, where no other database has it.
+fn age_relation(relation: &mut Arc<Relation>)
+    ensures { relation_of (arc_value relation.new) ≡ relation_of (arc_value relation.old) }
 {
-    let alloc = *relations.allocator();
-    let mut folded = Vec::new(alloc);
-    for relation in relations {
-        let relation = relation_folded(alloc, relation)?;
-        folded.push(relation)?;
+    match Arc::get_mut(relation) {
+        Some(own) => own.age(),
+        None => {}
     }
-    Ok(folded)
+}
+
+/// The relation with the index, which is needed now: made by one sort where it lacks.
+fn with_used_index<R: Threads + Sync>(
+    rt: &R,
+    relation: &Relation,
+    perm: &Perm,
+) -> Result<Relation, NoMemory>
+    requires perm { IsPermOf relation.now.width perm.now }
+    ensures there { has_columns relation.now perm.now ≡ true → IfOk result (λ with. with ≡ relation.now) }
+    ensures new { has_columns relation.now perm.now ≡ false → IfOk result (λ with. with ≡ record relation.now { others = relation.now.others ++ perm.now ∷ [] }) }
+{
+    if relation.index(perm).is_some() {
+        let used = relation.used(perm)?;
+        return Ok(used);
+    }
+    let with = relation.with_index(rt, perm)?;
+    Ok(with)
 }
 
 impl Database {
@@ -275,14 +254,14 @@ impl Database {
             has_index db r columns ≡ (has_index self.now r columns || (r == relation && row_eq columns perm.now))) }
         ensures same { IfOk result (λ db. has_index self.now relation perm.now ≡ true → db ≡ self.now) }
     {
-        if self.index(relation, perm).is_some() {
+        if self.is_in_use(relation, perm) {
             let same = self.share()?;
             return Ok(same);
         }
         let place = relation as usize;
         let alloc = *self.relations.allocator();
         let mut relations = shared(&self.relations)?;
-        let indexed = relations[place].with_index(rt, perm)?;
+        let indexed = with_used_index(rt, &relations[place], perm)?;
         let indexed = Arc::new(alloc, indexed)?;
         relations[place] = indexed;
         Ok(Database { relations })
@@ -299,34 +278,49 @@ impl Database {
         Ok(Database { relations })
     }
 
-    /// Lays the marks on each index of their relations. A few are laid in place, where no other database shares the relation.
-    pub fn lay(self, marks: &Marks) -> Result<Database, NoMemory>
-        requires { FitMarks (state_of self) marks.now }
-        ensures state { IfOk result (λ db. state_of db ≡ laid (state_of self) marks.now) }
-        ensures indexes { IfOk result (λ db. (relation : ℕ) (columns : List ℕ) →
-            has_index db relation columns ≡ has_index self relation columns) }
+    /// Whether there is the index, and it was needed of late.
+    pub fn is_in_use(&self, relation: u32, perm: &Perm) -> bool
+        ensures { IsTrue result → has_index self.now relation perm.now ≡ true }
     {
-        let Database { relations } = self;
-        let relations = lay_all(relations, marks)?;
-        Ok(Database { relations })
+        match self.relation(relation) {
+            Some(relation) => relation.is_in_use(perm),
+            None => false,
+        }
     }
 
-    /// The same marks, with what they do to each index of their relations, for many states that they are laid on.
-    pub fn prepared(&self, marks: &Marks) -> Result<Marks, NoMemory>
-        requires { FitMarks (state_of self.now) marks.now }
-        ensures { IfOk result (λ same. same ≡ marks.now) }
+    /// Puts a row into a relation, or takes it out, in place: what other databases have, too, is copied once. Answers whether that changed
+    /// the database. After want of memory it is no more than let go.
+    pub fn edit(&mut self, relation: u32, row: &Row, plus: bool) -> Result<bool, NoMemory>
+        requires { FitMarks (state_of self.old) (record { relation = relation; row = row.now; plus = plus } ∷ []) }
+        ensures state { OnOk result (state_of self.new ≡ laid (state_of self.old) (record { relation = relation; row = row.now; plus = plus } ∷ [])) }
+        ensures changed { IfOk result (λ changed. changed ≡ is_change (rows_in (state_of self.old) relation) row.now plus) }
+        ensures indexes { OnOk result ((r : ℕ) (columns : List ℕ) → has_index self.new r columns ≡ has_index self.old r columns) }
     {
-        let edits = all_edits(&self.relations, marks)?;
-        let same = marks.with_edits(edits)?;
-        Ok(same)
+        let alloc = *self.relations.allocator();
+        let changed = edit_relation(alloc, &mut self.relations[relation as usize], row, plus)?;
+        Ok(changed)
     }
 
-    /// The same database, where long lists of rows that are laid over others are folded in: to be called once for many marks.
-    pub fn folded(&self) -> Result<Database, NoMemory>
-        ensures { IfOk result (λ db. db ≡ self.now) }
+    /// Lays the marks, in place.
+    pub fn lay(&mut self, marks: &Marks) -> Result<(), NoMemory>
+        requires { FitMarks (state_of self.old) marks.now }
+        ensures state { OnOk result (state_of self.new ≡ laid (state_of self.old) marks.now) }
+        ensures indexes { OnOk result ((relation : ℕ) (columns : List ℕ) → has_index self.new relation columns ≡ has_index self.old relation columns) }
     {
-        let relations = all_folded(&self.relations)?;
-        Ok(Database { relations })
+        for i in 0..marks.len() {
+            let mark = marks.mark(i);
+            self.edit(mark.relation, &mark.row, mark.plus)?;
+        }
+        Ok(())
+    }
+
+    /// A batch is over: of the relations that it wrote the indexes go that no program has needed for long.
+    pub fn age(&mut self)
+        ensures { state_of self.new ≡ state_of self.old }
+    {
+        for i in 0..self.relations.len() {
+            age_relation(&mut self.relations[i]);
+        }
     }
 
     /// A second owner of the same relations and indexes.
@@ -350,24 +344,6 @@ fn all_laid(relations: &Vec<Arc<Relation>>, marks: &Marks) -> Result<Vec<Arc<Rel
         laid.push(relation)?;
     }
     Ok(laid)
-}
-
-/// What the marks do to each index of the relations that they name.
-fn all_edits(
-    relations: &Vec<Arc<Relation>>,
-    marks: &Marks,
-) -> Result<Vec<Arc<IndexEdits>>, NoMemory>
-    requires { FitMarks (state_of (map arc_value relations.now.items)) marks.now }
-    ensures { IfOk result (λ edits. AllByRecursion (IsEditsOf marks.now) (map arc_value edits.items)) }
-{
-    let alloc = *relations.allocator();
-    let mut edits = Vec::new(alloc);
-    for (number, relation) in relations.iter().enumerate() {
-        if is_named(marks, number) {
-            relation.add_edits(number as u32, marks, &mut edits)?;
-        }
-    }
-    Ok(edits)
 }
 
 impl Indexes for Database {

@@ -1,5 +1,5 @@
 //! One index: the rows of a relation, with their cells in another order of the columns.
-ghost use Rattle.std.specs.Prelude.{◌≡◌, ◌≤◌, ℕ, List, IfOk};
+ghost use Rattle.std.specs.Prelude.{◌≡◌, ◌≤◌, ℕ, List, IfOk, OnOk};
 ghost use Rattle.std.specs.List.{AllByRecursion};
 ghost use Rattle.std.specs.List.Sorted.{IsPermutation, IsSorted};
 ghost use Rattle.lt_face.specs.Limits.{most_columns};
@@ -7,18 +7,17 @@ ghost use Rattle.lt_face.specs.Rows.{IsRow, IsRowSet, row_cmp};
 ghost use Rattle.lt_face.specs.State.{Row as RowView};
 ghost use Rattle.lt_model.specs.declared.mark.Mark.{Mark as MarkType};
 ghost use Rattle.lt_delta.specs.Columns.{IsPermOf, IsPermuted};
-ghost use Rattle.lt_delta.specs.IndexEdits.{IsEditsOf};
 ghost use Rattle.lt_delta.specs.Laying.{rows_laid};
-ghost use Rattle.lt_base.specs.Indexed.{IsIndexed, AreEditsIn, index_laid};
+ghost use Rattle.lt_base.specs.Indexed.{IsIndexed, AreEditsIn, index_edited, index_laid};
 
 use crate::database::Rows;
 use crate::sorting::sort_rows;
 use crate::walk::permuted_rows;
-use lt_delta::{Columns, Edits, IndexEdits, Marks};
+use lt_delta::{Columns, Edits, Marks, permuted_row};
 use lt_face::items::{Items, Perm, RowList};
 use lt_face::memory::NoMemory;
+use lt_face::row::Row;
 use lt_face::row_set::{RowReads, RowSet};
-use lt_over::Layer;
 use std::thread::Threads;
 
 /// Rows with their cells in the order of the columns.
@@ -26,6 +25,8 @@ use std::thread::Threads;
 pub(crate) struct Index {
     pub(crate) columns: Columns,
     pub(crate) rows: Rows,
+    /// How many batches have written the relation since a program is known to have needed the index. No clause speaks of it.
+    pub(crate) idle: u32,
 }
 
 /// The rows, ascending.
@@ -49,26 +50,7 @@ fn edits_in(columns: &Columns, relation: u32, marks: &Marks) -> Result<Edits, No
     Ok(Edits { gone, come })
 }
 
-/// What the marks do to an index of their relation on these columns, as one layer of edits.
-pub(crate) fn index_edits(
-    columns: &Columns,
-    relation: u32,
-    marks: &Marks,
-) -> Result<IndexEdits, NoMemory>
-    requires { (width : ℕ) × IsPermOf width columns.now × (width ≤ most_columns) × AllByRecursion (λ (m : MarkType). m.relation ≡ relation → IsRow width m.row) marks.now }
-    ensures relation { IfOk result (λ edits. edits.relation ≡ relation) }
-    ensures columns { IfOk result (λ edits. edits.columns ≡ columns.now) }
-    ensures edits { IfOk result (IsEditsOf marks.now) }
-{
-    let edits = edits_in(columns, relation, marks)?;
-    let columns = columns.copy();
-    let layer = Layer::new(columns.len(), edits.gone, edits.come)?;
-    let edits = IndexEdits::of_layer(relation, columns, layer)?;
-    Ok(edits)
-}
-
-/// The rows of an index on these columns with the marks of its relation laid on them: as the layers that are kept with the
-/// marks, where they are, else as one more.
+/// The rows of an index on these columns with the marks of its relation laid on them.
 pub(crate) fn rows_with(
     rows: &Rows,
     columns: &Columns,
@@ -82,17 +64,9 @@ pub(crate) fn rows_with(
         → IsPermuted rows.now.width columns.now (rows_laid relation table marks.now) set.rows) }
 {
     let _width = rows.width();
-    match marks.edits_of(relation, columns.as_slice()) {
-        Some(edits) => {
-            let set = rows.layered(&edits.layers)?;
-            Ok(set)
-        }
-        None => {
-            let edits = edits_in(columns, relation, marks)?;
-            let set = rows.laid(edits.gone, edits.come)?;
-            Ok(set)
-        }
-    }
+    let edits = edits_in(columns, relation, marks)?;
+    let set = rows.laid(edits.gone, edits.come)?;
+    Ok(set)
 }
 
 impl Index {
@@ -108,7 +82,11 @@ impl Index {
         let mut list = permuted_rows(perm.allocator(), rows, perm.as_slice())?;
         sort_rows(rt, &mut list);
         let rows = Rows::from_sorted(width, Items::from_vec(list))?;
-        Ok(Index { columns, rows })
+        Ok(Index {
+            columns,
+            rows,
+            idle: 0,
+        })
     }
 
     /// The index with the marks of its relation laid on it.
@@ -121,29 +99,25 @@ impl Index {
         let columns = self.columns.copy();
         let rows = rows_with(&self.rows, &self.columns, relation, marks)?;
         let _width = rows.width();
-        Ok(Index { columns, rows })
+        Ok(Index {
+            columns,
+            rows,
+            idle: self.idle,
+        })
     }
 
-    /// Lays the marks of its relation on the index: in place, where they are few and nobody shares its rows.
-    pub(crate) fn lay(self, relation: u32, marks: &Marks) -> Result<Index, NoMemory>
-        requires perm { IsPermOf self.rows.width self.columns }
-        requires fit { AllByRecursion (λ (m : MarkType). m.relation ≡ relation → IsRow self.rows.width m.row) marks.now }
-        ensures { IfOk result (λ index. index ≡ index_laid relation marks.now self) }
+    /// Puts a row of the relation in, or takes it out, in place.
+    pub(crate) fn edit(&mut self, row: &Row, plus: bool) -> Result<(), NoMemory>
+        requires perm { IsPermOf self.old.rows.width self.old.columns }
+        requires row { IsRow self.old.rows.width row.now }
+        ensures index { OnOk result (self.new ≡ index_edited row.now plus self.old) }
+        ensures width { self.new.rows.width ≡ self.old.rows.width }
+        ensures columns { self.new.columns ≡ self.old.columns }
     {
-        let Index { columns, rows } = self;
-        let _width = rows.width();
-        let edits = edits_in(&columns, relation, marks)?;
-        let rows = rows.lay(edits.gone, edits.come)?;
-        Ok(Index { columns, rows })
-    }
-
-    /// The same index, with nothing laid over its rows.
-    pub(crate) fn folded(&self) -> Result<Index, NoMemory>
-        ensures { IfOk result (λ index. index ≡ self.now) }
-    {
-        let columns = self.columns.copy();
-        let rows = self.rows.folded(columns.allocator())?;
-        Ok(Index { columns, rows })
+        let _width = self.rows.width();
+        let row = permuted_row(self.columns.allocator(), self.columns.as_slice(), row);
+        self.rows.edit(&row, plus)?;
+        Ok(())
     }
 
     /// The same index, with a second owner of its rows.
@@ -152,6 +126,10 @@ impl Index {
     {
         let columns = self.columns.copy();
         let rows = self.rows.share()?;
-        Ok(Index { columns, rows })
+        Ok(Index {
+            columns,
+            rows,
+            idle: self.idle,
+        })
     }
 }

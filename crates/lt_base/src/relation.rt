@@ -1,6 +1,5 @@
 //! A relation of a database.
-ghost use Rattle.std.specs.Prelude.{◌≡◌, ◌≤◌, ℕ, List, [], ◌∷◌, ◌++◌, map, IfOk, OnOk, IfSome, is_some};
-ghost use Rattle.std.specs.Arc.{arc_value};
+ghost use Rattle.std.specs.Prelude.{◌≡◌, ◌≤◌, ℕ, List, [], ◌∷◌, ◌++◌, map, true, IfOk, OnOk, IfSome, IsTrue, is_some};
 ghost use Rattle.std.specs.List.{AllByRecursion, list_any};
 ghost use Rattle.lt_face.specs.Limits.{most_columns};
 ghost use Rattle.lt_face.specs.Rows.{IsRow, IsRowSet};
@@ -9,21 +8,28 @@ ghost use Rattle.lt_face.specs.State.{Row as RowView, IsIndexOf, row_eq};
 ghost use Rattle.lt_model.specs.declared.mark.Mark.{Mark as MarkType};
 ghost use Rattle.lt_delta.specs.Laying.{rows_laid};
 ghost use Rattle.lt_delta.specs.Columns.{IsPermOf, IsPermuted};
-ghost use Rattle.lt_delta.specs.IndexEdits.{IsEditsOf};
 ghost use Rattle.lt_base.specs.Tables.{relation_of, has_columns};
-ghost use Rattle.lt_base.specs.Indexed.{IsIndexed, index_laid};
+ghost use Rattle.lt_base.specs.Edited.{table_edited};
+ghost use Rattle.lt_base.specs.Indexed.{IsIndexed, index_edited, index_laid};
+ghost use Rattle.lt_over.specs.Edits.{edited, is_change};
 
 use crate::columns::{is_own_order, is_same_order, own_columns};
 use crate::database::Rows;
-use crate::index::{Index, index_edits, rows_with};
-use lt_delta::{Columns, IndexEdits, Marks};
+use crate::index::{Index, rows_with};
+use lt_delta::Marks;
 use lt_face::items::Perm;
 use lt_face::memory::NoMemory;
+use lt_face::row::Row;
 use lt_face::row_set::{RowReads, RowSet};
 use std::alloc::Global;
 use std::marker::Model;
-use std::sync::Arc;
 use std::thread::Threads;
+
+/// An index goes where so many batches have written its relation and, as far as is known, no program needed it.
+const IDLE: u32 = 96;
+
+/// A need of the index isn't noted again before so many batches.
+const LATE: u32 = 32;
 
 /// The rows with their cells in the order of the columns, and the same rows in other orders.
 #[derive(Drop)]
@@ -72,52 +78,66 @@ fn all_laid(others: &Vec<Index>, relation: u32, marks: &Marks) -> Result<Vec<Ind
     Ok(laid)
 }
 
-/// Puts what the marks do to an index on these columns to the edits of others.
-fn add_edits(
-    columns: &Columns,
-    relation: u32,
-    marks: &Marks,
-    edits: &mut Vec<Arc<IndexEdits>>,
-) -> Result<(), NoMemory>
-    requires order { (width : ℕ) × IsPermOf width columns.now × (width ≤ most_columns) × AllByRecursion (λ (m : MarkType). m.relation ≡ relation → IsRow width m.row) marks.now }
-    requires before { AllByRecursion (IsEditsOf marks.now) (map arc_value edits.old.items) }
-    ensures { OnOk result (AllByRecursion (IsEditsOf marks.now) (map arc_value edits.new.items)) }
+/// Puts a row of the relation into each of the indexes, or takes it out, in place.
+fn edit_all(others: &mut [Index], row: &Row, plus: bool) -> Result<(), NoMemory>
+    requires perms { AllByRecursion (λ index. IsPermOf index.rows.width index.columns) others.old }
+    requires rows { AllByRecursion (λ index. IsRow index.rows.width row.now) others.old }
+    ensures { OnOk result (others.new ≡ map (index_edited row.now plus) others.old) }
 {
-    let more = index_edits(columns, relation, marks)?;
-    let more = Arc::new(*edits.allocator(), more)?;
-    edits.push(more)?;
-    Ok(())
-}
-
-/// Puts what the marks do to the indexes of their relation to the edits of others.
-fn add_all_edits(
-    others: &[Index],
-    relation: u32,
-    marks: &Marks,
-    edits: &mut Vec<Arc<IndexEdits>>,
-) -> Result<(), NoMemory>
-    requires orders { AllByRecursion (λ index. (width : ℕ) × IsPermOf width index.columns × (width ≤ most_columns) × AllByRecursion (λ (m : MarkType). m.relation ≡ relation → IsRow width m.row) marks.now) others.now }
-    requires before { AllByRecursion (IsEditsOf marks.now) (map arc_value edits.old.items) }
-    ensures { OnOk result (AllByRecursion (IsEditsOf marks.now) (map arc_value edits.new.items)) }
-{
-    for index in others {
-        add_edits(&index.columns, relation, marks, edits)?;
+    for i in 0..others.len() {
+        others[i].edit(row, plus)?;
     }
     Ok(())
 }
 
-/// Lays the marks of their relation on the indexes.
-fn lay_all(others: Vec<Index>, relation: u32, marks: &Marks) -> Result<Vec<Index>, NoMemory>
-    requires perms { AllByRecursion (λ index. IsPermOf index.rows.width index.columns) others.items }
-    requires fit { AllByRecursion (λ index. AllByRecursion (λ (m : MarkType). m.relation ≡ relation → IsRow index.rows.width m.row) marks.now) others.items }
-    ensures { IfOk result (λ laid. laid.items ≡ map (index_laid relation marks.now) others.items) }
+/// Puts a row into the own order, or takes it out, and where that changed something also in the other indexes, in place.
+fn edit_each(
+    first: &mut Rows,
+    others: &mut [Index],
+    row: &Row,
+    plus: bool,
+) -> Result<bool, NoMemory>
+    requires row { IsRow first.old.width row.now }
+    requires indexed { AllByRecursion (IsIndexed first.old.width first.old.rows) others.old }
+    ensures rows { OnOk result (first.new.rows ≡ edited first.old.rows row.now plus) }
+    ensures changed { IfOk result (λ changed. changed ≡ is_change first.old.rows row.now plus) }
+    ensures indexed { OnOk result (AllByRecursion (IsIndexed first.new.width first.new.rows) others.new) }
+    ensures columns { OnOk result (map (λ index. index.columns) others.new ≡ map (λ index. index.columns) others.old) }
+    ensures width { first.new.width ≡ first.old.width }
 {
-    let mut laid = Vec::new(*others.allocator());
-    for index in others {
-        let index = index.lay(relation, marks)?;
-        laid.push(index)?;
+    let _width = first.width();
+    let changed = first.edit(row, plus)?;
+    if changed {
+        edit_all(others, row, plus)?;
     }
-    Ok(laid)
+    Ok(changed)
+}
+
+/// The index on these columns is needed now.
+fn note_use(others: &mut [Index], perm: &Perm)
+    ensures same { (width : ℕ) (rows : List RowView) → AllByRecursion (IsIndexed width rows) others.old → AllByRecursion (IsIndexed width rows) others.new }
+    ensures columns { map (λ index. index.columns) others.new ≡ map (λ index. index.columns) others.old }
+{
+    for at in 0..others.len() {
+        if is_same_order(others[at].columns.as_slice(), perm.as_slice()) {
+            others[at].idle = 0;
+        }
+    }
+}
+
+/// One more batch of which it isn't known that it needed the indexes. Those that have gone without for many batches go.
+fn age_all(others: &mut Vec<Index>)
+    ensures { (width : ℕ) (rows : List RowView) → AllByRecursion (IsIndexed width rows) others.old.items → AllByRecursion (IsIndexed width rows) others.new.items }
+{
+    let mut at = 0;
+    while at < others.len() {
+        if others[at].idle >= IDLE {
+            drop(others.remove(at));
+        } else {
+            others[at].idle += 1;
+            at += 1;
+        }
+    }
 }
 
 /// The same indexes, each with a second owner of its rows.
@@ -130,18 +150,6 @@ fn all_shared(others: &Vec<Index>) -> Result<Vec<Index>, NoMemory>
         shared.push(index)?;
     }
     Ok(shared)
-}
-
-/// The same indexes, with nothing laid over their rows.
-fn all_folded(others: &Vec<Index>) -> Result<Vec<Index>, NoMemory>
-    ensures { IfOk result (λ folded. folded.items ≡ others.now.items) }
-{
-    let mut folded = Vec::new(*others.allocator());
-    for index in others {
-        let index = index.folded()?;
-        folded.push(index)?;
-    }
-    Ok(folded)
 }
 
 impl Relation {
@@ -196,18 +204,61 @@ impl Relation {
         Ok(Relation { first, others })
     }
 
-    /// Whether rows were laid over the relation's since it was folded.
-    pub(crate) fn is_edited(&self) -> bool {
-        self.first.is_edited()
-    }
-
-    /// The same relation, with nothing laid over its rows.
-    pub(crate) fn folded(&self) -> Result<Relation, NoMemory>
+    /// A second owner of the rows of each index.
+    pub(crate) fn share(&self) -> Result<Relation, NoMemory>
         ensures { IfOk result (λ relation. relation ≡ self.now) }
     {
-        let first = self.first.folded(*self.others.allocator())?;
-        let others = all_folded(&self.others)?;
+        let first = self.first.share()?;
+        let others = all_shared(&self.others)?;
         Ok(Relation { first, others })
+    }
+
+    /// Puts a row in, or takes it out, in place. Answers whether that changed the relation. After want of memory it has no index but the
+    /// one in its own order.
+    pub(crate) fn edit(&mut self, row: &Row, plus: bool) -> Result<bool, NoMemory>
+        requires { IsRow self.old.width row.now }
+        ensures table { OnOk result (self.new ≡ table_edited row.now plus self.old) }
+        ensures changed { IfOk result (λ changed. changed ≡ is_change self.old.rows row.now plus) }
+    {
+        let _width = self.first.width();
+        match edit_each(&mut self.first, self.others.as_mut_slice(), row, plus) {
+            Ok(changed) => Ok(changed),
+            Err(_) => {
+                self.others.clear();
+                Err(NoMemory)
+            }
+        }
+    }
+
+    /// Whether there is such an index, and it was needed of late.
+    pub(crate) fn is_in_use(&self, perm: &Perm) -> bool
+        ensures { IsTrue result → has_columns self.now perm.now ≡ true }
+    {
+        if is_own_order(perm.as_slice(), self.first.width()) {
+            return true;
+        }
+        match found(&self.others, perm) {
+            Some(index) => index.idle < LATE,
+            None => false,
+        }
+    }
+
+    /// The same relation. The index is needed now.
+    pub(crate) fn used(&self, perm: &Perm) -> Result<Relation, NoMemory>
+        ensures { IfOk result (λ relation. relation ≡ self.now) }
+    {
+        let mut relation = self.share()?;
+        note_use(relation.others.as_mut_slice(), perm);
+        Ok(relation)
+    }
+
+    /// One more batch has written the relation: indexes that none of many batches needed go.
+    pub(crate) fn age(&mut self)
+        ensures width { self.new.width ≡ self.old.width }
+        ensures rows { self.new.rows ≡ self.old.rows }
+    {
+        let _width = self.first.width();
+        age_all(&mut self.others);
     }
 
     /// The relation of this number with the marks laid on all its indexes.
@@ -219,36 +270,6 @@ impl Relation {
         let first = rows_with(&self.first, &own, number, marks)?;
         let _width = first.width();
         let others = all_laid(&self.others, number, marks)?;
-        Ok(Relation { first, others })
-    }
-
-    /// Puts what the marks do to each index of the relation of this number to the edits of other indexes.
-    pub(crate) fn add_edits(
-        &self,
-        number: u32,
-        marks: &Marks,
-        edits: &mut Vec<Arc<IndexEdits>>,
-    ) -> Result<(), NoMemory>
-        requires fit { AllByRecursion (λ (m : MarkType). m.relation ≡ number → IsRow self.now.width m.row) marks.now }
-        requires before { AllByRecursion (IsEditsOf marks.now) (map arc_value edits.old.items) }
-        ensures { OnOk result (AllByRecursion (IsEditsOf marks.now) (map arc_value edits.new.items)) }
-    {
-        let own = own_columns(*self.others.allocator(), self.first.width());
-        add_edits(&own, number, marks, edits)?;
-        add_all_edits(&self.others, number, marks, edits)?;
-        Ok(())
-    }
-
-    /// Lays the marks on all indexes of the relation of this number: in place, where they are few and nobody shares its rows.
-    pub(crate) fn lay(self, number: u32, marks: &Marks) -> Result<Relation, NoMemory>
-        requires { AllByRecursion (λ (m : MarkType). m.relation ≡ number → IsRow self.width m.row) marks.now }
-        ensures { IfOk result (λ relation. relation ≡ record self { rows = rows_laid number self.rows marks.now }) }
-    {
-        let Relation { first, others } = self;
-        let _width = first.width();
-        let edits = marks.edits(*others.allocator(), number)?;
-        let first = first.lay(edits.gone, edits.come)?;
-        let others = lay_all(others, number, marks)?;
         Ok(Relation { first, others })
     }
 }

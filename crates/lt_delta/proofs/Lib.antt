@@ -9,6 +9,5 @@ pub mod Kept
 pub mod Finds
 pub mod Edited
 pub mod Puts
-pub mod Layered
 pub mod Starts
 pub mod Searched

@@ -15,9 +15,6 @@ use Rattle.lt_delta.proofs.Owners.{pushed, owned_at, owned_within}
 pub above_lower : (a b : Mark) (marks : Marks) → mark_cmp a b ≡ Less → AllByRecursion (λ n. mark_cmp b n ≡ Less) marks → AllByRecursion (λ n. mark_cmp a n ≡ Less) marks
 above_lower a b marks less above = each_weaker (λ n. mark_cmp b n ≡ Less) (λ n. mark_cmp a n ≡ Less) (λ n h. mark_total.trans a b n less h) marks above
 
-pub above_tied : (a b : Mark) (marks : Marks) → mark_cmp a b ≡ Equal → AllByRecursion (λ n. mark_cmp b n ≡ Less) marks → AllByRecursion (λ n. mark_cmp a n ≡ Less) marks
-above_tied a b marks tied above = each_weaker (λ n. mark_cmp b n ≡ Less) (λ n. mark_cmp a n ≡ Less) (λ n h. mark_total.congr a b n tied ∙ h) marks above
-
 -- a mark that is below all later ones stays in front
 pub front_stays : (x : Mark) (xs ys : Marks) → AllByRecursion (λ y. mark_cmp x y ≡ Less) ys → and_then (x ∷ xs) ys ≡ x ∷ and_then xs ys
 front_stays x xs [] above = refl

@@ -1,5 +1,5 @@
 -- Few marks after many, where the place of each is searched for.
-use Rattle.std.proofs.Common.{◌≡◌, ℕ, zero, suc, ◌+◌, ◌<◌, ◌≤◌, true, false, [], ◌∷◌, ◌++◌, length, take, drop, get_or, refl, sym, ap, ◌∙◌, subst, append_assoc, drop_of_length-le}
+use Rattle.std.proofs.Common.{◌≡◌, ℕ, zero, suc, ◌+◌, ◌<◌, true, false, [], ◌∷◌, ◌++◌, length, take, drop, get_or, refl, sym, ap, ◌∙◌, subst, append_assoc}
 use mathlib.Core.Bool.{true≢false}
 use Rattle.std.specs.List.{AllByRecursion}
 use Rattle.lt_model.specs.declared.mark.Mark.{Mark}
@@ -45,7 +45,3 @@ searched out mid new left before behind rest second whole j p y lt is_y up place
     ∙ append_assoc out before (y ∷ and_then rest (drop (j + 1) second))
     ∙ ap (λ (l : Marks). out ++ l) (sym step)
     ∙ done
-
--- no mark of the second list is left
-pub all_searched : (out new left second whole : Marks) (j : ℕ) → length second ≤ j → out ++ and_then left (drop j second) ≡ whole → new ≡ out ++ left → new ≡ whole
-all_searched out new left second whole j over done is = is ∙ ap (λ (l : Marks). out ++ and_then left l) (sym (drop_of_length-le second over)) ∙ done

@@ -2,4 +2,3 @@ pub mod LastRow
 pub mod Laying
 pub mod Finding
 pub mod Columns
-pub mod IndexEdits

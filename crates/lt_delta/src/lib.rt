@@ -5,9 +5,6 @@ mod adding;
 mod columns;
 mod edits;
 mod finding;
-mod index_edits;
-mod joining;
-mod known;
 pub mod laws;
 mod laying;
 mod marks;
@@ -18,6 +15,5 @@ mod sorting;
 
 pub use columns::{Columns, permuted_row};
 pub use edits::Edits;
-pub use index_edits::IndexEdits;
 pub use lt_model::mark::{Mark, MarkList};
 pub use marks::Marks;

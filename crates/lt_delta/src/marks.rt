@@ -1,18 +1,13 @@
 //! `Marks`: a list of marks, shared by count, and each of them too.
-ghost use Rattle.std.specs.Prelude.{◌≡◌, ◌<◌, ◌≤◌, ◌↔◌, ℕ, [], true, false, map, length, slice_get, Some, IfOk, IfSome, OnOk, OnErr, IsTrue};
+ghost use Rattle.std.specs.Prelude.{◌≡◌, ◌<◌, ◌≤◌, ◌↔◌, ℕ, [], true, false, map, length, slice_get, Some, IfOk, OnOk, OnErr, IsTrue};
 ghost use Rattle.std.specs.Arc.{arc_value};
-ghost use Rattle.std.specs.List.{AllByRecursion};
 ghost use Rattle.lt_model.specs.declared.mark.Mark.{Mark as MarkView};
 ghost use Rattle.lt_model.specs.Laws.{mark_on};
 ghost use Rattle.lt_model.specs.Marks.{AreMarks, and_then};
 ghost use Rattle.lt_delta.specs.Finding.{is_before};
-ghost use Rattle.lt_delta.specs.IndexEdits.{IsEditsOf};
 
 use crate::adding::put_all;
 use crate::finding::{place_for, sign_on};
-use crate::index_edits::IndexEdits;
-use crate::joining::{Way, joined_all};
-use crate::known::KnownEdits;
 use crate::merging::merged_lists;
 use crate::order::is_same;
 use crate::sorting::in_order;
@@ -26,24 +21,23 @@ use std::sync::Arc;
 /// So many marks are put among others one by one.
 const FEW: usize = 8;
 
-/// Marks, strictly ascending by (relation, row): one for each row at most. What they do to an index may be kept with them.
+/// Marks, strictly ascending by (relation, row): one for each row at most.
 #[derive(Drop)]
 pub struct Marks {
     list: Arc<Vec<Arc<Mark>>>,
-    known: KnownEdits,
 }
 
 impl Model for Marks {
     ghost use Rattle.std.specs.Prelude.{List, map};
     ghost use Rattle.std.specs.Arc.{arc_value};
     ghost use Rattle.lt_model.specs.declared.mark.Mark.{Mark};
-    ghost use Rattle.lt_delta.specs.IndexEdits.{AreKept};
+    ghost use Rattle.lt_model.specs.Marks.{AreMarks};
 
     ghost Value = { List Mark };
 
     ghost view = { λ m. map arc_value (arc_value m.list).items };
 
-    ghost invariant = { λ m. AreKept (map arc_value (arc_value m.list).items) m.known };
+    ghost invariant = { λ m. AreMarks (map arc_value (arc_value m.list).items) };
 }
 
 impl Marks {
@@ -52,8 +46,7 @@ impl Marks {
         ensures { IfOk result (λ marks. marks ≡ []) }
     {
         let list = Arc::new(alloc, Vec::new(alloc))?;
-        let known = KnownEdits::none();
-        Ok(Marks { list, known })
+        Ok(Marks { list })
     }
 
     /// The marks of a list, in order. Of several on one row the last stays.
@@ -64,8 +57,7 @@ impl Marks {
         let marks = in_order(list.into_vec())?;
         let marks = each_shared(alloc, marks)?;
         let list = Arc::new(alloc, marks)?;
-        let known = KnownEdits::none();
-        Ok(Marks { list, known })
+        Ok(Marks { list })
     }
 
     /// A second owner of the same marks.
@@ -73,12 +65,11 @@ impl Marks {
         ensures { IfOk result (λ marks. marks ≡ self.now) }
     {
         let list = self.list.clone()?;
-        let known = self.known.share()?;
-        Ok(Marks { list, known })
+        Ok(Marks { list })
     }
 
     /// The marks of both, the second's where both have one on a row.
-    fn joined(first: &Marks, second: &Marks, way: Way) -> Result<Marks, NoMemory>
+    pub fn and_then(first: &Marks, second: &Marks) -> Result<Marks, NoMemory>
         ensures { IfOk result (λ marks. marks ≡ and_then first.now second.now) }
     {
         if second.len() == 0 {
@@ -89,52 +80,8 @@ impl Marks {
         }
         let alloc = first.allocator();
         let marks = merged_lists(alloc, &first.list, &second.list)?;
-        let edits = joined_all(alloc, first, second, way)?;
-        let known = KnownEdits::of(edits)?;
         let list = Arc::new(alloc, marks)?;
-        Ok(Marks { list, known })
-    }
-
-    /// The marks of both, the second's where both have one on a row. Of each index one layer of edits is made of two.
-    pub fn and_then(first: &Marks, second: &Marks) -> Result<Marks, NoMemory>
-        ensures { IfOk result (λ marks. marks ≡ and_then first.now second.now) }
-    {
-        let marks = Marks::joined(first, second, Way::Merged)?;
-        Ok(marks)
-    }
-
-    /// The same marks as by `and_then`, with the layers of both one after another, so that none is made.
-    pub fn stacked(first: &Marks, second: &Marks) -> Result<Marks, NoMemory>
-        ensures { IfOk result (λ marks. marks ≡ and_then first.now second.now) }
-    {
-        let marks = Marks::joined(first, second, Way::Listed)?;
-        Ok(marks)
-    }
-
-    /// The same marks, and what they do to some indexes.
-    pub fn with_edits(&self, edits: Vec<Arc<IndexEdits>>) -> Result<Marks, NoMemory>
-        requires { AllByRecursion (IsEditsOf self.now) (map arc_value edits.items) }
-        ensures { IfOk result (λ marks. marks ≡ self.now) }
-    {
-        let list = self.list.clone()?;
-        let known = KnownEdits::of(edits)?;
-        Ok(Marks { list, known })
-    }
-
-    /// What the marks do to an index of a relation on these columns, where that is kept with them.
-    pub fn edits_of(&self, relation: u32, columns: &[u32]) -> Option<&IndexEdits>
-        ensures relation { IfSome result (λ edits. edits.now.relation ≡ relation) }
-        ensures columns { IfSome result (λ edits. edits.now.columns ≡ columns.now) }
-        ensures edits { IfSome result (λ edits. IsEditsOf self.now edits.now) }
-    {
-        self.known.find(relation, columns)
-    }
-
-    /// What the marks do to indexes, as far as it is kept with them.
-    pub(crate) fn known(&self) -> &[Arc<IndexEdits>]
-        ensures { AllByRecursion (IsEditsOf self.now) (map arc_value result.now) }
-    {
-        self.known.as_slice()
+        Ok(Marks { list })
     }
 
     /// What the marks take their memory from.
@@ -153,7 +100,6 @@ impl Marks {
             match Arc::get_mut(there) {
                 Some(list) => {
                     put_all(list, &later.list)?;
-                    self.known = KnownEdits::none();
                     return Ok(());
                 }
                 None => {}

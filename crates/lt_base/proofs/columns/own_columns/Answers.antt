@@ -1,5 +1,5 @@
 use Rattle.std.proofs.Common.{◌≡◌, ◌+◌, ◌++◌, ◌∷◌, [], ℕ, List, length, sym, ap, ◌∙◌, arith, length-append}
-use Rattle.lt_base.proofs.Layered.{numbers_end}
+use Rattle.lt_base.proofs.OwnOrder.{numbers_end}
 use Rattle.lt_base.proofs.columns.own_columns.Goals as goal
 
 pub loop-i-preserved : goal.loop-i-preserved

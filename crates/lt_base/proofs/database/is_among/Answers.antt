@@ -1,6 +1,6 @@
 use Rattle.std.proofs.Common.{◌≢◌}
 use Rattle.lt_model.specs.declared.mark.Mark.{Mark}
-use Rattle.lt_base.proofs.Marked.{each_more}
+use Rattle.lt_base.proofs.Grown.{each_more}
 use Rattle.lt_base.proofs.database.is_among.Goals as goal
 
 pub loop-i-preserved : goal.loop-i-preserved

@@ -9,7 +9,8 @@ use Rattle.lt_base.specs.declared.index.Index.{Index}
 use Rattle.lt_delta.specs.Columns.{IsPermuted, numbers}
 use Rattle.lt_base.specs.Indexed.{IsIndexed}
 use Rattle.lt_base.specs.Tables.{Table}
-use Rattle.lt_base.proofs.Layered.{own_exact, own_order, own_permuted}
+use Rattle.lt_base.proofs.OwnOrder.{own_order, own_permuted}
+use Rattle.lt_base.proofs.SameIndex.{own_exact}
 use Rattle.lt_base.proofs.Kept.{indexes_laid, same_columns}
 use Rattle.lt_base.proofs.relation.Relation.laid.Goals as goal
 

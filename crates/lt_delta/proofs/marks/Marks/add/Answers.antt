@@ -6,8 +6,5 @@ use Rattle.lt_delta.proofs.marks.Marks.add.Goals as goal
 
 pub invariant_of-self-in-Some : goal.invariant_of-self-in-Some
 invariant_of-self-in-Some c =
-    let up : AreMarks (map arc_value c.in-Some.list.now.items) = rw c.in-Some.ensures.value c.self.invariant.ascend in
-    record {
-      ascend = rw c.in_ok-put_all-in-Some.ensures.ok (AreMarks-and_then (map arc_value c.in-Some.list.now.items) (map arc_value c.deref-in-Some.result.now) up);
-      known = rw c.none.ensures tt;
-    }
+    let up : AreMarks (map arc_value c.in-Some.list.now.items) = rw c.in-Some.ensures.value c.self.invariant in
+    rw c.in_ok-put_all-in-Some.ensures.ok (AreMarks-and_then (map arc_value c.in-Some.list.now.items) (map arc_value c.deref-in-Some.result.now) up)

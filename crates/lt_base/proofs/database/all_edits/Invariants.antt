@@ -1,8 +1,0 @@
-use Rattle.std.proofs.Common.{map}
-use Rattle.std.specs.Arc.{arc_value}
-use Rattle.std.specs.List.{AllByRecursion}
-use Rattle.lt_delta.specs.IndexEdits.{IsEditsOf}
-use Rattle.lt_base.proofs.database.all_edits.Given as goal
-
-abbrev pub invariant-loop-number : goal.invariant-loop-number
-invariant-loop-number l = AllByRecursion (IsEditsOf l.marks) (map arc_value l.edits.items)
