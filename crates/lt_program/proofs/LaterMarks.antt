@@ -1,55 +1,50 @@
 -- A database with the first of a program's marks laid on it, and those that came later.
-use Rattle.std.proofs.Common.{◌≡◌, ℕ, List, [], ◌∷◌, Some, None, inl, inr, refl, sym, ap, ◌∙◌, subst}
+use Rattle.std.proofs.Common.{◌≡◌, ℕ, List, [], ◌∷◌, length, Some, None, refl, sym, ap, ◌∙◌, subst}
 use Rattle.std.specs.List.{AllByRecursion}
 use Rattle.std.specs.declared.cmp.Ordering.TheVariants.{Less, Equal, Greater}
-use Rattle.lt_face.specs.Lists.{IsIn}
-use Rattle.lt_face.specs.Rows.{by_order}
-use Rattle.lt_face.specs.State.{State}
+use Rattle.lt_face.specs.Rows.{IsCell, by_order}
+use Rattle.lt_face.specs.State.{Row, State}
 use Rattle.lt_model.specs.declared.mark.Mark.{Mark}
-use Rattle.lt_model.specs.Fits.{IsMarkOf, FitMarks}
+use Rattle.lt_model.specs.Fits.{IsWide, IsMarkOf, FitMarks}
 use Rattle.lt_model.specs.Laws.{Rises}
 use Rattle.lt_model.specs.Marks.{Marks, AreMarks, mark_cmp, with_mark, and_then, lay, laid}
 use Rattle.lt_model.specs.State.{IsState}
 use Rattle.lt_model.proofs.Composition.{AreMarks-and_then, laid_twice}
 use Rattle.lt_delta.proofs.Composes.{associative}
 use Rattle.lt_delta.proofs.Kept.{FitMarks-lay}
+use Rattle.lt_delta.proofs.MarkOrder.{tied_row}
 use Rattle.lt_base.specs.Tables.{Table, state_of, has_index}
 use Rattle.lt_program.specs.declared.course.Laid.{Laid}
 use Rattle.lt_program.specs.Tally.{IsLaidOn, IsLaidUpTo, those}
 
--- ---- each mark of the later list is one of both
+-- ---- what is so of rows, of both lists of marks
 
-put_there : (marks : Marks) (m : Mark) → IsIn m (with_mark marks m)
-put_there [] m = inl refl
-put_there (n ∷ marks) m =
-    elim (mark_cmp n m) as (λ o. IsIn m (by_order o (n ∷ with_mark marks m) (m ∷ marks) (m ∷ (n ∷ marks)))) [
-      | Less ↦ inr (put_there marks m)
-      | Equal ↦ inl refl
-      | Greater ↦ inl refl
-    ]
+module _ (P : Mark → Type 0) (same : (m n : Mark) → m.relation ≡ n.relation → m.row ≡ n.row → P m → P n) where
+  one_taken : (marks : Marks) (m : Mark) → AllByRecursion P (with_mark marks m) → AllByRecursion P marks × P m
+  one_taken [] m all = (tt, all.0)
+  one_taken (n ∷ marks) m all =
+      elim (mark_cmp n m) as (λ o. mark_cmp n m ≡ o → AllByRecursion P (by_order o (n ∷ with_mark marks m) (m ∷ marks) (m ∷ (n ∷ marks))) → AllByRecursion P (n ∷ marks) × P m) [
+        | Less ↦ λ e h. let rest = one_taken marks m h.1 in ((h.0, rest.0), rest.1)
+        | Equal ↦ λ e h. let tied = tied_row n m e in ((same m n (sym tied.0) (sym tied.1) h.0, h.1), h.0)
+        | Greater ↦ λ e h. (h.1, h.0)
+      ] refl all
 
--- a mark stays where another row is marked
-stays_there : (marks : Marks) (m n : Mark) → mark_cmp m n ≡ Less → IsIn m marks → IsIn m (with_mark marks n)
-stays_there [] m n less h = absurd h
-stays_there (x ∷ marks) m n less h =
-    elim (mark_cmp x n) as (λ o. mark_cmp x n ≡ o → IsIn m (by_order o (x ∷ with_mark marks n) (n ∷ marks) (n ∷ (x ∷ marks)))) [
-      | Less ↦ λ e. elim h [ inl is ↦ inl is | inr k ↦ inr (stays_there marks m n less k) ]
-      | Equal ↦ λ e. elim h [ inl is ↦ absurd (let tied : mark_cmp m n ≡ Equal = subst (λ (y : Mark). mark_cmp y n ≡ Equal) is e in cc) | inr k ↦ inr k ]
-      | Greater ↦ λ e. inr h
-    ] refl
+  each_of_both : (a b : Marks) → AllByRecursion P (and_then a b) → AllByRecursion P a × AllByRecursion P b
+  each_of_both a [] all = (all, tt)
+  each_of_both a (m ∷ b) all =
+      let rest = each_of_both (with_mark a m) b all in
+      let taken = one_taken a m rest.0 in
+      (taken.0, (taken.1, rest.1))
 
-all_stay : (marks later : Marks) (m : Mark) → AllByRecursion (λ n. mark_cmp m n ≡ Less) later → IsIn m marks → IsIn m (and_then marks later)
-all_stay marks [] m above h = h
-all_stay marks (n ∷ later) m above h = all_stay (with_mark marks n) later m above.1 (stays_there marks m n above.0 h)
-
-of_each : (P : Mark → Type 0) (marks : Marks) (m : Mark) → AllByRecursion P marks → IsIn m marks → P m
-of_each P [] m all h = absurd h
-of_each P (x ∷ marks) m all h = elim h [ inl is ↦ subst P is all.0 | inr k ↦ of_each P marks m all.1 k ]
-
-each_later : (P : Mark → Type 0) (marks later : Marks) → AreMarks later → AllByRecursion P (and_then marks later) → AllByRecursion P later
-each_later P marks [] up all = tt
-each_later P marks (m ∷ later) up all =
-    (of_each P (and_then (with_mark marks m) later) m all (all_stay (with_mark marks m) later m up.0 (put_there marks m)), each_later P (with_mark marks m) later up.1 all)
+-- marks that fit are lists that fit
+pub both_fit : (state : State) (a b : Marks) → FitMarks state (and_then a b) → FitMarks state a × FitMarks state b
+both_fit state a b fits =
+    each_of_both (IsMarkOf state)
+    (λ m n relation row h. record {
+      is_wide = subst (λ (r : Row). IsWide state n.relation (length r)) row (subst (λ k. IsWide state k (length m.row)) relation h.is_wide);
+      has_cells = subst (AllByRecursion IsCell) row h.has_cells;
+    })
+    a b fits
 
 -- ---- states
 
@@ -57,7 +52,7 @@ pub rises : (state : State) → IsState state → Rises state
 rises [] all = tt
 rises (relation ∷ state) all = (all.0.rises, rises state all.1)
 
-FitMarks-laid : (state : State) (first marks : Marks) → FitMarks state marks → FitMarks (laid state first) marks
+pub FitMarks-laid : (state : State) (first marks : Marks) → FitMarks state marks → FitMarks (laid state first) marks
 FitMarks-laid state [] marks fits = fits
 FitMarks-laid state (m ∷ first) marks fits = FitMarks-laid (lay state m) first marks (FitMarks-lay state m marks fits)
 
@@ -84,7 +79,7 @@ module _ (base : List Table) (marks : Marks) (l : Laid) (is : IsLaidUpTo base ma
   later_fits fits =
       subst (λ (s : State). FitMarks s (those l.later)) (sym is.on.state)
       (FitMarks-laid (state_of base) is.first (those l.later)
-      (each_later (IsMarkOf (state_of base)) is.first (those l.later) is.later_up (subst (FitMarks (state_of base)) is.joined fits)))
+      (both_fit (state_of base) is.first (those l.later) (subst (FitMarks (state_of base)) is.joined fits)).1)
 
   -- once they are laid, too, all are
   pub laid_finished : (tables : List Table) → Rises (state_of base) → state_of tables ≡ laid (state_of l.tables) (those l.later) → ((relation : ℕ) (columns : List ℕ) → has_index tables relation columns ≡ has_index l.tables relation columns) → IsLaidOn base marks tables

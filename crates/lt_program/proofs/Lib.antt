@@ -34,3 +34,5 @@ pub mod SenseGrows
 pub mod Alike
 pub mod ReadingMarked
 pub mod SplitCosts
+pub mod Undone
+pub mod InUse

@@ -23,7 +23,7 @@ module _ (relation : ℕ) (plus : Bool) where
   AreMarks-map [] up = tt
   AreMarks-map (row ∷ rows) up = (above row rows up.0, AreMarks-map rows up.1)
 
-  pub marked_all : (rows items : List Row) (i : ℕ) (list marks : Marks) → IsAscending rows → items ≡ rows → length items ≤ i → list ≡ map mark (take i items) → marks ≡ and_then [] list → marks ≡ map mark rows
-  marked_all rows items i list marks up same done so_far all =
-      let whole : list ≡ map mark rows = so_far ∙ ap (map mark) (take_all i items done ∙ same) in
+  pub marked_all : (rows : List Row) (i : ℕ) (list marks : Marks) → IsAscending rows → length rows ≤ i → list ≡ map mark (take i rows) → marks ≡ and_then [] list → marks ≡ map mark rows
+  marked_all rows i list marks up done so_far all =
+      let whole : list ≡ map mark rows = so_far ∙ ap (map mark) (take_all i rows done) in
       all ∙ (ap (and_then []) whole ∙ after_none (map mark rows) (AreMarks-map rows up))

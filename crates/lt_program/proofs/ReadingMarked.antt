@@ -61,7 +61,7 @@ unmarked s (m ∷ marks) k h =
     let both = neither (m.relation == k) (is_marked marks k) h in
     changed_off m.relation k (write m) s (λ e. true≢false (sym (eq-eqb m.relation k e) ∙ both.0)) ∙ unmarked (lay s m) marks k both.1
 
-long_laid : (s : State) (marks : Marks) → length s ≡ length (laid s marks)
+pub long_laid : (s : State) (marks : Marks) → length s ≡ length (laid s marks)
 long_laid s [] = refl
 long_laid s (m ∷ marks) = sym (change_length m.relation (write m) s) ∙ long_laid (lay s m) marks
 

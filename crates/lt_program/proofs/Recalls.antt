@@ -1,6 +1,6 @@
 -- What a statement does, by its outcome alone, is what it does on the state.
 use Rattle.std.proofs.Common.{◌≡◌, ℕ, suc, ◌+◌, ◌<◌, Bool, true, false, cond, not, List, [], ◌∷◌, ◌++◌, length, Some, refl, sym, ap, ◌∙◌, subst}
-use Rattle.std.specs.Prelude.{slice_get, flat_map, if◌then◌else◌}
+use Rattle.std.specs.Prelude.{slice_get, flat_map, nat_lt, if◌then◌else◌}
 use Rattle.lt_face.specs.Rows.{IsAscending}
 use Rattle.lt_face.specs.State.{Row, State}
 use Rattle.lt_model.specs.Answers.{answers}
@@ -13,17 +13,21 @@ use Rattle.lt_model.specs.declared.reply.Printed.{Printed}
 use Rattle.lt_model.specs.declared.reply.Reply.{Reply}
 use Rattle.lt_model.specs.declared.reply.Reply.TheVariants.{Done, Refused}
 use Rattle.lt_model.specs.Effect.{Effect, Writes, Requires, Clashes, marks_on, is_plain, displacing, displaced_by, displaced, has_clash, coming, behind, effect}
+use Rattle.lt_model.specs.Fits.{FitsStatement, FitMarks}
 use Rattle.lt_model.specs.Marks.{Marks, and_then, laid}
+use Rattle.lt_model.specs.State.{IsState}
 use Rattle.lt_base.specs.Tables.{state_of}
 use Rattle.lt_program.specs.declared.course.Course.{Course}
 use Rattle.lt_program.specs.declared.part.Found.{Found}
 use Rattle.lt_program.specs.declared.part.Found.TheVariants.{Rows, Both, Keyed}
 use Rattle.lt_program.specs.declared.part.Part.{Part}
+use Rattle.lt_program.specs.Alone.{is_refusing, with_prints}
 use Rattle.lt_program.specs.Kept.{IsOrdered, first_rows, second_rows, displaced_rows, clashes_in, written_by, refused_by, marks_past, effect_by}
 use Rattle.lt_program.specs.Tally.{TallyView, IsPartOn, IsRun, Grows, looked_up, keyed_on, outcome_on, is_refused, next, run_of_first, state_before}
 use Rattle.lt_query.proofs.Ascending.{IsAscending-ascending}
 use Rattle.lt_query.proofs.Wide.{answers_wide}
 use Rattle.lt_program.specs.Displacing.{HaveOneWidth}
+use Rattle.lt_program.proofs.FittingRuns.{FitsEffect, fits_on}
 use Rattle.lt_program.proofs.Picked.{answers_rise}
 use Rattle.lt_program.proofs.RunGrows.{first_more}
 
@@ -160,7 +164,7 @@ refused_coming : (number : ℕ) (b : Bool) (marks : Marks) (prints : List Printe
 refused_coming number true marks prints before = refl
 refused_coming number false marks prints before = refl
 
-next_marks : (number : ℕ) (stmt : Stmt) (outcome : Found) (reply : Reply) (before : Marks) → is_refused reply ≡ false → (next number (effect_by stmt outcome) (reply, before)).1 ≡ marks_past stmt outcome before
+pub next_marks : (number : ℕ) (stmt : Stmt) (outcome : Found) (reply : Reply) (before : Marks) → is_refused reply ≡ false → (next number (effect_by stmt outcome) (reply, before)).1 ≡ marks_past stmt outcome before
 next_marks number stmt outcome (Refused j) before going = cc
 next_marks number (Insert head keys body) outcome (Done prints) before going = marks_coming number (clashes_in keys outcome) (written_by (Insert head keys body) outcome) prints before
 next_marks number (Delete head body) outcome (Done prints) before going = refl
@@ -172,7 +176,7 @@ next_marks number (Require some body) outcome (Done prints) before going = by (r
     by false = refl
 next_marks number (Print terms kinds body) outcome (Done prints) before going = refl
 
-next_refused : (number : ℕ) (stmt : Stmt) (outcome : Found) (reply : Reply) (before : Marks) → is_refused reply ≡ false → is_refused (next number (effect_by stmt outcome) (reply, before)).0 ≡ refused_by stmt outcome
+pub next_refused : (number : ℕ) (stmt : Stmt) (outcome : Found) (reply : Reply) (before : Marks) → is_refused reply ≡ false → is_refused (next number (effect_by stmt outcome) (reply, before)).0 ≡ refused_by stmt outcome
 next_refused number stmt outcome (Refused j) before going = cc
 next_refused number (Insert head keys body) outcome (Done prints) before going = refused_coming number (clashes_in keys outcome) (written_by (Insert head keys body) outcome) prints before
 next_refused number (Delete head body) outcome (Done prints) before going = refl
@@ -183,6 +187,53 @@ next_refused number (Require some body) outcome (Done prints) before going = by 
     by true = refl
     by false = refl
 next_refused number (Print terms kinds body) outcome (Done prints) before going = refl
+
+reply_coming : (number : ℕ) (b : Bool) (marks : Marks) (prints : List Printed) (before : Marks) → (next number (cond b Clashes (Writes marks)) (Done prints, before)).0 ≡ cond b (Refused number) (Done prints)
+reply_coming number true marks prints before = refl
+reply_coming number false marks prints before = refl
+
+pub next_reply : (number : ℕ) (stmt : Stmt) (outcome : Found) (reply : Reply) (before : Marks) → is_refused reply ≡ false → (next number (effect_by stmt outcome) (reply, before)).0 ≡ (if refused_by stmt outcome then Refused number else with_prints number stmt outcome reply)
+next_reply number stmt outcome (Refused j) before going = cc
+next_reply number (Insert head keys body) outcome (Done prints) before going = reply_coming number (clashes_in keys outcome) (written_by (Insert head keys body) outcome) prints before
+next_reply number (Delete head body) outcome (Done prints) before going = refl
+next_reply number (Replace gone come keys body) outcome (Done prints) before going = reply_coming number (clashes_in keys outcome) (written_by (Replace gone come keys body) outcome) prints before
+next_reply number (Require some body) outcome (Done prints) before going = by (refused_by (Require some body) outcome)
+  where
+    by : (b : Bool) → (next number (Requires (not b)) (Done prints, before)).0 ≡ (if b then Refused number else Done prints)
+    by true = refl
+    by false = refl
+next_reply number (Print terms kinds body) outcome (Done prints) before going = refl
+
+-- only a requirement, or a statement whose rows come into a relation with value columns, may refuse the program
+refused_plain : (b : Bool) (head : Atom) (keys : ℕ) (plain keyed : Found) → clashes_in keys plain ≡ false → clashes_in keys (cond b plain keyed) ≡ true → nat_lt 0 (length (cond b [] (head ∷ []))) ≡ true
+refused_plain true head keys plain keyed none refused = absurd cc
+refused_plain false head keys plain keyed none refused = refl
+
+pub refuses_only : (stmt : Stmt) (state : State) (outcome : Found) → outcome ≡ outcome_on stmt state → refused_by stmt outcome ≡ true → is_refusing stmt ≡ true
+refuses_only stmt state outcome is refused = on stmt (subst (λ (o : Found). refused_by stmt o ≡ true) is refused)
+  where
+    on : (s : Stmt) → refused_by s (outcome_on s state) ≡ true → is_refusing s ≡ true
+    on (Insert head keys body) h = refused_plain (is_plain head keys) head keys (Rows (answers head.terms body state)) (keyed_on head keys [] (answers head.terms body state) state) refl h
+    on (Delete head body) h = absurd cc
+    on (Replace gone come keys body) h =
+        refused_plain (is_plain come keys) come keys (Both (answers gone.terms body state) (answers come.terms body state)) (keyed_on come keys (answers gone.terms body state) (answers come.terms body state) state) refl h
+    on (Require some body) h = refl
+    on (Print terms kinds body) h = absurd cc
+
+-- what it writes fits, where it doesn't refuse
+written_fits : (state : State) (b : Bool) (marks : Marks) → FitsEffect state (cond b Clashes (Writes marks)) → b ≡ false → FitMarks state marks
+written_fits state true marks fits on = absurd cc
+written_fits state false marks fits on = fits
+
+pub outcome_fits : (stmt : Stmt) (state : State) (outcome : Found) → IsState state → FitsStatement state stmt → outcome ≡ outcome_on stmt state → refused_by stmt outcome ≡ false → FitMarks state (written_by stmt outcome)
+outcome_fits stmt state outcome is_state fits is on = by stmt (subst (FitsEffect state) (sym (effect_told stmt state outcome is)) (fits_on state [] stmt is_state tt fits)) on
+  where
+    by : (s : Stmt) → FitsEffect state (effect_by s outcome) → refused_by s outcome ≡ false → FitMarks state (written_by s outcome)
+    by (Insert head keys body) h k = written_fits state (clashes_in keys outcome) (written_by (Insert head keys body) outcome) h k
+    by (Delete head body) h k = h
+    by (Replace gone come keys body) h k = written_fits state (clashes_in keys outcome) (written_by (Replace gone come keys body) outcome) h k
+    by (Require some body) h k = tt
+    by (Print terms kinds body) h k = tt
 
 module _ (t : TallyView) (run : IsRun t) (j : ℕ) (stmt : Stmt) (part : Part) (there : slice_get t.program j ≡ Some stmt) (at : slice_get t.parts j ≡ Some part) (below : j < length t.parts) where
   -- the run of the statements up to this one, by its outcome

@@ -1,18 +1,13 @@
 -- The moves of a run whose joins are done in some way.
-use Rattle.std.proofs.Common.{◌≡◌, ℕ, zero, suc, ◌+◌, ◌<◌, ◌≤◌, false, List, Option, Some, None, refl, ap, ◌∙◌, inl, inr, subst, arith}
+use Rattle.std.proofs.Common.{◌≡◌, ℕ, zero, suc, ◌+◌, ◌<◌, ◌≤◌, List, Option, Some, None, refl, ap, ◌∙◌, inl, inr, arith}
 use Rattle.std.specs.Prelude.{slice_get}
 use Rattle.std.proofs.lemmas.Bool.{cases_lt}
 use Rattle.lt_face.specs.State.{State}
 use Rattle.lt_model.specs.declared.normal.Body.{Body}
 use Rattle.lt_model.specs.declared.normal.Stmt.{Stmt}
 use Rattle.lt_model.specs.declared.normal.Stmt.TheVariants.{Insert, Delete, Replace, Require, Print}
-use Rattle.lt_model.specs.Marks.{Marks, laid}
-use Rattle.lt_base.specs.Tables.{Table, state_of}
-use Rattle.lt_program.specs.Run.{reads_rows}
 use Rattle.lt_program.specs.Split.{whole_cost, statement_cost_by, cost_on_by, cost_of_first_by}
-use Rattle.lt_program.specs.Tally.{IsLaidOn, statement_cost, cost_on, cost_of_first, ends_at, state_before}
-use Rattle.lt_program.proofs.Bare.{reads_none}
-use Rattle.lt_program.proofs.NoAtoms.{costs_nothing}
+use Rattle.lt_program.specs.Tally.{statement_cost, cost_on, cost_of_first, ends_at, state_before}
 
 -- ---- joins as wholes
 
@@ -32,18 +27,6 @@ costs_whole zero program state = refl
 costs_whole (suc n) program state =
     ap (λ c. c + cost_on_by whole_cost (slice_get program n) (state_before n program state)) (costs_whole n program state)
     ∙ ap (λ c. cost_of_first n program state + c) (on_whole (slice_get program n) (state_before n program state))
-
--- ---- one statement
-
--- one that reads no relation takes no moves
-pub bare_costs_nothing : (base : State) (stmt : Stmt) (old new : ℕ) → reads_rows stmt ≡ false → new ≤ old + statement_cost_by whole_cost stmt base → new ≤ old
-bare_costs_nothing base stmt old new none h =
-    let none_taken : new ≤ old + 0 = subst (λ n. new ≤ old + n) (statement_whole stmt base ∙ costs_nothing base stmt (reads_none stmt none)) h in
-    omega (arith, none_taken)
-
-pub cost_laid : (most : Body → State → ℕ) (base : List Table) (marks : Marks) (tables : List Table) (stmt : Stmt) (old new : ℕ) → IsLaidOn base marks tables → new ≤ old + statement_cost_by most stmt (state_of tables)
-    → new ≤ old + statement_cost_by most stmt (laid (state_of base) marks)
-cost_laid most base marks tables stmt old new on h = subst (λ (s : State). new ≤ old + statement_cost_by most stmt s) on.state h
 
 -- ---- one statement after another
 

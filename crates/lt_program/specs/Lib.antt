@@ -8,4 +8,5 @@ pub mod Sound
 pub mod Alone
 pub mod Kept
 pub mod Displacing
+pub mod Undo
 pub mod Split

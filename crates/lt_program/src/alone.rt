@@ -4,23 +4,19 @@ ghost use Rattle.std.specs.Prelude.{◌≡◌, ◌+◌, ◌≤◌, false, length
 ghost use Rattle.std.specs.List.{AllByRecursion};
 ghost use Rattle.lt_face.specs.Rows.{IsAscending, IsRow};
 ghost use Rattle.lt_model.specs.Answers.{answers as answers_of, some_answer};
-ghost use Rattle.lt_model.specs.Effect.{effect as effect_of, is_plain as is_plain_in};
+ghost use Rattle.lt_model.specs.Effect.{is_plain as is_plain_in};
 ghost use Rattle.lt_model.specs.Fits.{IsWide, IsHeadOf, AreKeysOf};
 ghost use Rattle.lt_base.specs.Tables.{state_of};
 ghost use Rattle.lt_query.specs.Needs.{body_of as body_in};
-ghost use Rattle.lt_query.specs.Planned.{route_of};
 ghost use Rattle.lt_query.specs.Runnable.{AreWide};
 ghost use Rattle.lt_program.specs.Asked.{CanFollow, CanEvaluate};
-ghost use Rattle.lt_program.specs.Effect.{view};
 ghost use Rattle.lt_program.specs.Planned.{IsPlanned, ArePicked};
 ghost use Rattle.lt_program.specs.Split.{statement_cost_by, whole_cost};
 ghost use Rattle.lt_program.specs.Tally.{keyed_on, keys_cost, outcome_on};
 
-use crate::effect::Effect;
-use crate::evaluation::{keyed, planned};
+use crate::evaluation::keyed;
 use crate::heads::{split_answers, terms_of_both};
 use crate::joining::Joiner;
-use crate::kept::effect_by;
 use crate::part::{Found, Part};
 use crate::slicing::{have_room, is_plain};
 use lt_base::Database;
@@ -29,7 +25,7 @@ use lt_face::memory::NoMemory;
 use lt_face::moves::Moves;
 use lt_join::some_alone;
 use lt_model::normal::{Atom, Body, Stmt, TermList};
-use lt_query::{Plan, Route, body_of};
+use lt_query::Plan;
 use lt_sense::Sense;
 use std::alloc::Global;
 
@@ -189,7 +185,7 @@ fn replaced_alone<J: Joiner<L>, L>(
 }
 
 /// What the evaluation of a statement on the database gives.
-fn outcome_alone<J: Joiner<L>, L>(
+pub(crate) fn outcome_alone<J: Joiner<L>, L>(
     by: &J,
     alloc: Global,
     tables: &Database,
@@ -235,26 +231,4 @@ fn outcome_alone<J: Joiner<L>, L>(
             Ok(Found::Rows(rows))
         }
     }
-}
-
-/// What the statement does on the database.
-pub(crate) fn effect_alone<J: Joiner<L>, L>(
-    by: &J,
-    alloc: Global,
-    tables: &Database,
-    stmt: &Stmt,
-    route: &Route,
-    moves: &mut Moves<L>,
-) -> Result<Effect, NoMemory>
-    requires ready { J.is_ready by.now }
-    requires route { route.now ≡ route_of (body_in stmt.now) }
-    requires can_evaluate { CanEvaluate tables.now stmt.now }
-    ensures effect { IfOk result (λ e. view e ≡ effect_of stmt.now (state_of tables.now)) }
-    ensures cost { moves.new ≤ moves.old + statement_cost_by (J.most by.now) stmt.now (state_of tables.now) }
-    ensures moves { moves.old ≤ moves.new }
-{
-    let plan = planned(route, body_of(stmt))?;
-    let outcome = outcome_alone(by, alloc, tables, stmt, &plan, moves)?;
-    let effect = effect_by(alloc, stmt, &outcome)?;
-    Ok(effect)
 }

@@ -64,8 +64,9 @@ impl Laid {
         match later {
             None => Ok(tables),
             Some(marks) => {
-                let tables = tables.lay(&marks)?;
-                Ok(tables)
+                let mut all = tables;
+                all.lay(&marks)?;
+                Ok(all)
             }
         }
     }
@@ -103,7 +104,7 @@ fn followed(laid: Laid, marks: &Marks) -> Option<Laid>
 }
 
 /// What is laid, with more marks to be laid after it, if anything is.
-pub(crate) fn followed_by(laid: Option<Laid>, marks: &Marks) -> Option<Laid>
+fn followed_by(laid: Option<Laid>, marks: &Marks) -> Option<Laid>
     ensures { (base : List Table) (before : MarksView) → IsLaid base before laid → IsLaid base (and_then before marks.now) result }
 {
     match laid {
@@ -113,11 +114,7 @@ pub(crate) fn followed_by(laid: Option<Laid>, marks: &Marks) -> Option<Laid>
 }
 
 /// The database with the marks laid on it, of which the first may be laid.
-pub(crate) fn all_laid(
-    laid: Option<Laid>,
-    base: &Database,
-    marks: &Marks,
-) -> Result<Database, NoMemory>
+fn all_laid(laid: Option<Laid>, base: &Database, marks: &Marks) -> Result<Database, NoMemory>
     requires laid { IsLaid base.now marks.now laid }
     requires fits { FitMarks (state_of base.now) marks.now }
     ensures laid { IfOk result (IsLaidOn base.now marks.now) }

@@ -1,38 +1,39 @@
-//! The run of a program of which the reply and the marks alone are kept. What is said of moves holds also where memory is refused.
-ghost use Rattle.std.specs.Prelude.{◌≡◌, ◌≤◌, ◌<◌, ◌+◌, ◌||◌, ◌==◌, List, [], false, length, slice_get, None, OnOk, IfOk};
-ghost use Rattle.std.specs.Arc.{arc_value};
+//! The run of a program on a database that takes its marks as they come. What is said of moves holds also where memory is refused.
+ghost use Rattle.std.specs.Prelude.{◌≡◌, ◌≤◌, ◌<◌, ◌+◌, ◌||◌, ◌==◌, ℕ, List, [], true, false, length, nat_lt, slice_get, Some, OnOk, IfOk};
+ghost use Rattle.lt_face.specs.State.{State};
+ghost use Rattle.lt_model.specs.declared.normal.Stmt.{Stmt as StmtType};
 ghost use Rattle.lt_model.specs.Fits.{Fits, FitMarks};
-ghost use Rattle.lt_model.specs.Marks.{AreMarks, and_then, laid};
+ghost use Rattle.lt_model.specs.Marks.{laid};
 ghost use Rattle.lt_model.specs.Run.{run as run_of};
 ghost use Rattle.lt_model.specs.State.{IsState};
-ghost use Rattle.lt_base.specs.Tables.{Table, state_of};
-ghost use Rattle.lt_query.specs.Needs.{body_of as body_in};
-ghost use Rattle.lt_query.specs.Planned.{route_of};
-ghost use Rattle.lt_query.specs.Runnable.{AreWide};
-ghost use Rattle.lt_program.specs.Asked.{CanEvaluate};
-ghost use Rattle.lt_program.specs.Alone.{GoesOn, IsFirst};
-ghost use Rattle.lt_program.specs.Effect.{view};
-ghost use Rattle.lt_program.specs.Run.{AreReplied, reads_rows};
-ghost use Rattle.lt_program.specs.Split.{cost_of_first_by, cost_on_by, statement_cost_by};
-ghost use Rattle.lt_program.specs.Tally.{HasIndexes, IsLaid, IsLaidOn, cost_of_first, ends_at, is_refused, next, state_before, with_print};
+ghost use Rattle.lt_base.specs.Tables.{Table, state_of, has_index};
+ghost use Rattle.lt_program.specs.Alone.{IsAccepted, IsUnderWay, and_then_if, is_refusing, kept_if, with_prints};
+ghost use Rattle.lt_program.specs.Kept.{IsOrdered, refused_by as refuses, written_by as writes};
+ghost use Rattle.lt_program.specs.Run.{AreReplied};
+ghost use Rattle.lt_program.specs.Split.{cost_of_first_by, cost_on_by};
+ghost use Rattle.lt_program.specs.Tally.{HasIndexes, cost_of_first, ends_at, is_refused};
+ghost use Rattle.lt_program.specs.Undo.{IsBack};
 
-use crate::alone::effect_alone;
-use crate::course::{Laid, all_laid, followed_by, print};
-use crate::effect::Effect;
+use crate::alone::outcome_alone;
+use crate::course::print;
+use crate::evaluation::planned;
 use crate::joining::{Joiner, Whole};
-use crate::reading::reads_some;
+use crate::kept::{into_first, refused_by, written_by};
+use crate::part::Found;
+use crate::reading::may_refuse;
 use crate::tally::is_refusal;
+use crate::writing::{take_back, write};
 use lt_base::Database;
 use lt_delta::Marks;
 use lt_face::items::Items;
 use lt_face::memory::NoMemory;
 use lt_face::moves::Moves;
+use lt_model::kind::KindList;
+use lt_model::mark::Mark;
 use lt_model::normal::Stmt;
 use lt_model::reply::{Printed, Reply};
-use lt_query::{Planned, Route};
+use lt_query::{Planned, Route, body_of};
 use std::alloc::Global;
-use std::mem;
-use std::sync::Arc;
 
 /// What a program answered and wrote.
 #[derive(Drop)]
@@ -41,13 +42,12 @@ pub struct Ran {
     pub marks: Marks,
 }
 
-/// The reply and the marks of the statements so far. Marks are laid on the database at the first statement that reads rows after
-/// them, and not before.
+/// The reply of the statements so far, their marks, where they are kept, and what takes the database back.
 #[derive(Drop)]
 pub(crate) struct Going {
-    pub laid: Option<Laid>,
     pub reply: Reply,
     pub marks: Marks,
+    pub undo: Vec<Mark>,
 }
 
 /// Whether the run of so many statements is over, of which so many were evaluated.
@@ -57,166 +57,122 @@ fn is_over(going: &Going, evaluated: usize, count: usize) -> bool
     is_refusal(&going.reply) || evaluated == count
 }
 
+/// How many statements there are up to the last one that may refuse the program.
+fn last_refusing(stmts: &[Stmt]) -> usize
+    ensures { (j : ℕ) (stmt : StmtType) → slice_get stmts.now j ≡ Some stmt → is_refusing stmt ≡ true → j < result }
+{
+    let mut count = stmts.len();
+    'last: while count > 0 {
+        let stmt = &stmts[count - 1];
+        if may_refuse(stmt) {
+            return count;
+        }
+        count -= 1;
+    }
+    0
+}
+
 impl Going {
     /// No statement yet.
     fn new(alloc: Global) -> Result<Going, NoMemory>
-        ensures laid { IfOk result (λ going. going.laid ≡ None) }
         ensures reply { IfOk result (λ going. going.reply ≡ Reply.Done []) }
         ensures marks { IfOk result (λ going. going.marks ≡ []) }
+        ensures undo { IfOk result (λ going. going.undo.items ≡ []) }
     {
         Ok(Going {
-            laid: None,
             reply: Reply::Done(Items::new(alloc)),
             marks: Marks::empty(alloc)?,
+            undo: Vec::new(alloc),
         })
     }
 
-    /// Takes the database on which the marks are laid.
-    fn take_laid(&mut self, base: &Database) -> Result<Database, NoMemory>
-        requires laid { IsLaid base.now self.old.marks self.old.laid }
-        requires fits { FitMarks (state_of base.now) self.old.marks }
-        ensures laid { IfOk result (IsLaidOn base.now self.old.marks) }
-        ensures ascending { AreMarks self.old.marks }
-        ensures rest { self.new ≡ record self.old { laid = None } }
+    /// The program is refused, and what it wrote is taken back.
+    fn refuse(&mut self, alloc: Global, db: &mut Database, number: u32) -> Result<(), NoMemory>
+        requires back { (base : State) × IsBack base (state_of db.old) self.old.undo.items }
+        ensures reply { OnOk result (self.new.reply ≡ Reply.Refused number) }
+        ensures marks { OnOk result (self.new.marks ≡ []) }
+        ensures state { OnOk result ((base : State) → IsBack base (state_of db.old) self.old.undo.items → state_of db.new ≡ base) }
+        ensures indexes { OnOk result ((relation : ℕ) (columns : List ℕ) → has_index db.new relation columns ≡ has_index db.old relation columns) }
     {
-        let laid = mem::replace(&mut self.laid, None);
-        let tables = all_laid(laid, base, &self.marks)?;
-        Ok(tables)
-    }
-
-    /// These marks come after the others.
-    fn write(&mut self, marks: &Marks) -> Result<(), NoMemory>
-        ensures ok { OnOk result (self.new ≡ record self.old { laid = self.new.laid; marks = and_then self.old.marks marks.now }) }
-        ensures laid { OnOk result ((base : List Table) → IsLaid base self.old.marks self.old.laid → IsLaid base self.new.marks self.new.laid) }
-    {
-        self.marks.add(marks)?;
-        let laid = mem::replace(&mut self.laid, None);
-        self.laid = followed_by(laid, marks);
-        Ok(())
-    }
-
-    /// The program is refused.
-    fn refuse(&mut self, alloc: Global, number: u32) -> Result<(), NoMemory>
-        ensures { OnOk result (self.new ≡ record { laid = None; reply = Reply.Refused number; marks = [] }) }
-    {
+        take_back(db, self.undo.as_slice())?;
         self.marks = Marks::empty(alloc)?;
-        self.laid = None;
         self.reply = Reply::Refused(number);
         Ok(())
     }
 
-    /// One more printed list.
-    fn print(&mut self, printed: Printed) -> Result<(), NoMemory>
-        ensures { OnOk result (self.new ≡ record self.old { reply = with_print self.old.reply printed }) }
+    /// Keeps the marks that the statement writes, where they are asked for.
+    fn keep(
+        &mut self,
+        alloc: Global,
+        stmt: &Stmt,
+        outcome: &Found,
+        keeps: bool,
+    ) -> Result<(), NoMemory>
+        requires { IsOrdered outcome.now }
+        ensures { OnOk result (self.new ≡ record self.old { marks = and_then_if keeps self.old.marks (writes stmt.now outcome.now) }) }
     {
-        print(&mut self.reply, printed)?;
+        if !keeps {
+            return Ok(());
+        }
+        let marks = written_by(alloc, stmt, outcome)?;
+        self.marks.add(&marks)?;
         Ok(())
     }
 
-    /// One more effect.
-    fn accept(&mut self, alloc: Global, number: u32, effect: Effect) -> Result<(), NoMemory>
-        requires { is_refused self.old.reply ≡ false }
-        ensures reply { OnOk result (self.new.reply ≡ (next number (view effect) (self.old.reply, self.old.marks)).0) }
-        ensures marks { OnOk result (self.new.marks ≡ (next number (view effect) (self.old.reply, self.old.marks)).1) }
-        ensures laid { OnOk result ((base : List Table) → IsLaid base self.old.marks self.old.laid → IsLaid base self.new.marks self.new.laid) }
+    /// Keeps what the statement prints.
+    fn print(
+        &mut self,
+        alloc: Global,
+        number: u32,
+        stmt: &Stmt,
+        outcome: Found,
+    ) -> Result<(), NoMemory>
+        ensures { OnOk result (self.new ≡ record self.old { reply = with_prints number stmt.now outcome self.old.reply }) }
     {
-        match effect {
-            Effect::Writes(marks) => self.write(&marks),
-            Effect::Requires(true) => Ok(()),
-            Effect::Requires(false) => self.refuse(alloc, number),
-            Effect::Clashes => self.refuse(alloc, number),
-            Effect::Prints(kinds, rows) => self.print(Printed {
-                statement: number,
-                kinds,
-                rows,
-            }),
+        match stmt {
+            Stmt::Print { kinds, .. } => {
+                let rows = into_first(alloc, outcome);
+                let kinds = KindList::from_kinds(alloc, kinds.as_slice());
+                print(
+                    &mut self.reply,
+                    Printed {
+                        statement: number,
+                        kinds,
+                        rows,
+                    },
+                )
+            }
+            Stmt::Insert { .. } => Ok(()),
+            Stmt::Delete { .. } => Ok(()),
+            Stmt::Replace { .. } => Ok(()),
+            Stmt::Require { .. } => Ok(()),
         }
     }
 
-    /// One more statement, which reads no relation.
-    fn evaluate_bare<L>(
+    /// What comes of a statement with this outcome. What it writes is logged where a later one may refuse the program.
+    fn accept(
         &mut self,
         alloc: Global,
-        base: &Database,
+        db: &mut Database,
         number: u32,
         stmt: &Stmt,
-        route: &Route,
-        moves: &mut Moves<L>,
+        outcome: Found,
+        keeps: bool,
+        logs: bool,
     ) -> Result<(), NoMemory>
-        requires route { route.now ≡ route_of (body_in stmt.now) }
-        requires going { is_refused self.old.reply ≡ false }
-        requires reads { reads_rows stmt.now ≡ false }
-        requires can_evaluate { CanEvaluate base.now stmt.now }
-        requires laid { IsLaid base.now self.old.marks self.old.laid }
-        ensures ok { OnOk result (GoesOn number stmt.now (state_of base.now) self.old self.new) }
-        ensures cost { moves.new ≤ moves.old }
-        ensures moves { moves.old ≤ moves.new }
-        ensures laid { OnOk result (IsLaid base.now self.new.marks self.new.laid) }
+        requires state { IsState (state_of db.old) }
+        requires ordered { IsOrdered outcome }
+        requires fits { refuses stmt.now outcome ≡ false → FitMarks (state_of db.old) (writes stmt.now outcome) }
+        requires back { refuses stmt.now outcome ≡ true → (base : State) × IsBack base (state_of db.old) self.old.undo.items }
+        ensures { OnOk result (IsAccepted number stmt.now outcome keeps logs self.old db.old self.new db.new) }
     {
-        let effect = effect_alone(&Whole, alloc, base, stmt, route, moves)?;
-        self.accept(alloc, number, effect)?;
-        Ok(())
-    }
-
-    /// One more statement, on the database with the marks so far laid on it.
-    fn evaluate_laid<J: Joiner<L>, L>(
-        &mut self,
-        by: &J,
-        alloc: Global,
-        base: &Database,
-        number: u32,
-        stmt: &Stmt,
-        route: &Route,
-        moves: &mut Moves<L>,
-    ) -> Result<(), NoMemory>
-        requires ready { J.is_ready by.now }
-        requires route { route.now ≡ route_of (body_in stmt.now) }
-        requires going { is_refused self.old.reply ≡ false }
-        requires can_evaluate { CanEvaluate base.now stmt.now }
-        requires marks { FitMarks (state_of base.now) self.old.marks }
-        requires laid { IsLaid base.now self.old.marks self.old.laid }
-        ensures ok { OnOk result (GoesOn number stmt.now (state_of base.now) self.old self.new) }
-        ensures cost { moves.new ≤ moves.old + statement_cost_by (J.most by.now) stmt.now (laid (state_of base.now) self.old.marks) }
-        ensures moves { moves.old ≤ moves.new }
-        ensures laid { OnOk result (IsLaid base.now self.new.marks self.new.laid) }
-    {
-        let tables = self.take_laid(base)?;
-        let effect = effect_alone(by, alloc, &tables, stmt, route, moves)?;
-        self.laid = Some(Laid {
-            tables,
-            later: None,
-        });
-        self.accept(alloc, number, effect)?;
-        Ok(())
-    }
-
-    /// One more statement.
-    fn evaluate<J: Joiner<L>, L>(
-        &mut self,
-        by: &J,
-        alloc: Global,
-        base: &Database,
-        number: u32,
-        stmt: &Stmt,
-        route: &Route,
-        moves: &mut Moves<L>,
-    ) -> Result<(), NoMemory>
-        requires ready { J.is_ready by.now }
-        requires route { route.now ≡ route_of (body_in stmt.now) }
-        requires going { is_refused self.old.reply ≡ false }
-        requires can_evaluate { CanEvaluate base.now stmt.now }
-        requires marks { FitMarks (state_of base.now) self.old.marks }
-        requires laid { IsLaid base.now self.old.marks self.old.laid }
-        ensures ok { OnOk result (GoesOn number stmt.now (state_of base.now) self.old self.new) }
-        ensures cost { moves.new ≤ moves.old + statement_cost_by (J.most by.now) stmt.now (laid (state_of base.now) self.old.marks) }
-        ensures moves { moves.old ≤ moves.new }
-        ensures laid { OnOk result (IsLaid base.now self.new.marks self.new.laid) }
-    {
-        if reads_some(stmt) {
-            self.evaluate_laid(by, alloc, base, number, stmt, route, moves)?;
-        } else {
-            self.evaluate_bare(alloc, base, number, stmt, route, moves)?;
+        if refused_by(stmt, &outcome) {
+            self.refuse(alloc, db, number)?;
+            return Ok(());
         }
+        write(db, stmt, &outcome, &mut self.undo, logs)?;
+        self.keep(alloc, stmt, &outcome, keeps)?;
+        self.print(alloc, number, stmt, outcome)?;
         Ok(())
     }
 
@@ -224,80 +180,130 @@ impl Going {
     fn go_on<J: Joiner<L>, L>(
         &mut self,
         by: &J,
-        prog: &Arc<Planned>,
-        base: &Database,
+        prog: &Planned,
+        db: &mut Database,
         number: usize,
+        keeps: bool,
+        logs: bool,
         moves: &mut Moves<L>,
     ) -> Result<(), NoMemory>
         requires ready { J.is_ready by.now }
-        requires first { IsFirst (arc_value prog.now) base.now number self.old }
-        requires more { number < length (arc_value prog.now) }
+        requires more { number < length prog.now }
         requires going { is_refused self.old.reply ≡ false }
-        requires fits { Fits (state_of base.now) (arc_value prog.now) }
-        requires indexes { HasIndexes base.now (arc_value prog.now) }
-        requires state { IsState (state_of base.now) }
-        requires wide { AreWide (state_of base.now) }
-        ensures first { OnOk result (IsFirst (arc_value prog.now) base.now (number + 1) self.new) }
-        ensures cost { moves.new ≤ moves.old + cost_on_by (J.most by.now) (slice_get (arc_value prog.now) number) (state_before number (arc_value prog.now) (state_of base.now)) }
-        ensures moves { moves.old ≤ moves.new }
+        requires under_way { (base : List Table) × (refusing : ℕ) × IsUnderWay prog.now base keeps refusing number self.old db.old }
+        ensures under_way { OnOk result ((base : List Table) (refusing : ℕ) → logs ≡ nat_lt (number + 1) refusing
+            → IsUnderWay prog.now base keeps refusing number self.old db.old → IsUnderWay prog.now base keeps refusing (number + 1) self.new db.new) }
+        ensures cost { moves.new ≤ moves.old + cost_on_by (J.most by.now) (slice_get prog.now number) (state_of db.old) }
+        ensures rises { moves.old ≤ moves.new }
     {
         let stmt: &Stmt = &prog.statements()[number];
         let route: &Route = &prog.routes()[number];
         let alloc = prog.allocator();
-        self.evaluate(by, alloc, base, number as u32 + 1, stmt, route, moves)?;
+        let plan = planned(route, body_of(stmt))?;
+        let outcome = outcome_alone(by, alloc, db, stmt, &plan, moves)?;
+        let place = number as u32 + 1;
+        self.accept(alloc, db, place, stmt, outcome, keeps, logs)?;
         Ok(())
     }
 }
 
-/// Runs a program that fits the database, which has the indexes that the program needs, and keeps its reply and its marks alone.
-/// `moves` rises by at most what the joins of the statements up to the program's end may take, also where memory is refused, and
-/// never falls.
-pub fn run_alone<L>(
-    prog: &Arc<Planned>,
-    base: &Database,
-    moves: &mut Moves<L>,
-) -> Result<Ran, NoMemory>
-    requires fits { Fits (state_of base.now) (arc_value prog.now) }
-    requires indexes { HasIndexes base.now (arc_value prog.now) }
-    ensures reply { IfOk result (λ ran. ran.reply ≡ (run_of (arc_value prog.now) (state_of base.now)).0) }
-    ensures marks { IfOk result (λ ran. ran.marks ≡ (run_of (arc_value prog.now) (state_of base.now)).1) }
-    ensures fits { IfOk result (λ ran. FitMarks (state_of base.now) ran.marks) }
-    ensures printed { IfOk result (λ ran. AreReplied ran.reply) }
-    ensures moves { moves.new ≤ moves.old + cost_of_first (ends_at (arc_value prog.now) (state_of base.now)) (arc_value prog.now) (state_of base.now) }
-    ensures rises { moves.old ≤ moves.new }
-{
-    run_by(&Whole, prog, base, moves)
-}
-
-/// As `run_alone`, with its joins done in this way.
+/// As `run_in_place`, with its joins done in this way.
 pub(crate) fn run_by<J: Joiner<L>, L>(
     by: &J,
-    prog: &Arc<Planned>,
+    prog: &Planned,
+    db: &mut Database,
+    keeps: bool,
+    moves: &mut Moves<L>,
+) -> Result<Ran, NoMemory>
+    requires ready { J.is_ready by.now }
+    requires fits { Fits (state_of db.old) prog.now }
+    requires indexes { HasIndexes db.old prog.now }
+    ensures reply { IfOk result (λ ran. ran.reply ≡ (run_of prog.now (state_of db.old)).0) }
+    ensures marks { IfOk result (λ ran. ran.marks ≡ kept_if keeps (run_of prog.now (state_of db.old)).1) }
+    ensures state { OnOk result (state_of db.new ≡ laid (state_of db.old) (run_of prog.now (state_of db.old)).1) }
+    ensures indexes { OnOk result ((relation : ℕ) (columns : List ℕ) → has_index db.new relation columns ≡ has_index db.old relation columns) }
+    ensures fits { OnOk result (FitMarks (state_of db.old) (run_of prog.now (state_of db.old)).1) }
+    ensures printed { IfOk result (λ ran. AreReplied ran.reply) }
+    ensures moves { moves.new ≤ moves.old + cost_of_first_by (J.most by.now) (ends_at prog.now (state_of db.old)) prog.now (state_of db.old) }
+    ensures rises { moves.old ≤ moves.new }
+{
+    db.look_over();
+    let stmts = prog.statements();
+    let count = stmts.len();
+    let refusing = last_refusing(stmts);
+    let mut going = Going::new(prog.allocator())?;
+    let mut number = 0;
+    'steps: while !is_over(&going, number, count) {
+        going.go_on(by, prog, db, number, keeps, number + 1 < refusing, moves)?;
+        number += 1;
+    }
+    let Going {
+        reply,
+        marks,
+        undo: _,
+    } = going;
+    Ok(Ran { reply, marks })
+}
+
+/// As `run_by`, on a share of the database.
+pub(crate) fn run_on_share<J: Joiner<L>, L>(
+    by: &J,
+    prog: &Planned,
     base: &Database,
     moves: &mut Moves<L>,
 ) -> Result<Ran, NoMemory>
     requires ready { J.is_ready by.now }
-    requires fits { Fits (state_of base.now) (arc_value prog.now) }
-    requires indexes { HasIndexes base.now (arc_value prog.now) }
-    ensures reply { IfOk result (λ ran. ran.reply ≡ (run_of (arc_value prog.now) (state_of base.now)).0) }
-    ensures marks { IfOk result (λ ran. ran.marks ≡ (run_of (arc_value prog.now) (state_of base.now)).1) }
+    requires fits { Fits (state_of base.now) prog.now }
+    requires indexes { HasIndexes base.now prog.now }
+    ensures reply { IfOk result (λ ran. ran.reply ≡ (run_of prog.now (state_of base.now)).0) }
+    ensures marks { IfOk result (λ ran. ran.marks ≡ (run_of prog.now (state_of base.now)).1) }
     ensures fits { IfOk result (λ ran. FitMarks (state_of base.now) ran.marks) }
     ensures printed { IfOk result (λ ran. AreReplied ran.reply) }
-    ensures moves { moves.new ≤ moves.old + cost_of_first_by (J.most by.now) (ends_at (arc_value prog.now) (state_of base.now)) (arc_value prog.now) (state_of base.now) }
+    ensures moves { moves.new ≤ moves.old + cost_of_first_by (J.most by.now) (ends_at prog.now (state_of base.now)) prog.now (state_of base.now) }
     ensures rises { moves.old ≤ moves.new }
 {
-    base.look_over();
-    let count = prog.statements().len();
-    let mut going = Going::new(prog.allocator())?;
-    let mut number = 0;
-    'steps: while !is_over(&going, number, count) {
-        going.go_on(by, prog, base, number, moves)?;
-        number += 1;
-    }
-    let Going {
-        laid: _,
-        reply,
-        marks,
-    } = going;
-    Ok(Ran { reply, marks })
+    let mut own = base.share()?;
+    let ran = run_by(by, prog, &mut own, true, moves)?;
+    Ok(ran)
+}
+
+/// Runs a program that fits the database, which has the indexes that the program needs and takes its marks as they come. They are given,
+/// too, where that is asked for. After want of memory the database is no more than let go. `moves` rises by at most what the joins of the
+/// statements up to the program's end may take, also where memory is refused, and never falls.
+pub fn run_in_place<L>(
+    prog: &Planned,
+    db: &mut Database,
+    keeps: bool,
+    moves: &mut Moves<L>,
+) -> Result<Ran, NoMemory>
+    requires fits { Fits (state_of db.old) prog.now }
+    requires indexes { HasIndexes db.old prog.now }
+    ensures reply { IfOk result (λ ran. ran.reply ≡ (run_of prog.now (state_of db.old)).0) }
+    ensures marks { IfOk result (λ ran. ran.marks ≡ kept_if keeps (run_of prog.now (state_of db.old)).1) }
+    ensures state { OnOk result (state_of db.new ≡ laid (state_of db.old) (run_of prog.now (state_of db.old)).1) }
+    ensures indexes { OnOk result ((relation : ℕ) (columns : List ℕ) → has_index db.new relation columns ≡ has_index db.old relation columns) }
+    ensures fits { OnOk result (FitMarks (state_of db.old) (run_of prog.now (state_of db.old)).1) }
+    ensures printed { IfOk result (λ ran. AreReplied ran.reply) }
+    ensures moves { moves.new ≤ moves.old + cost_of_first (ends_at prog.now (state_of db.old)) prog.now (state_of db.old) }
+    ensures rises { moves.old ≤ moves.new }
+{
+    let ran = run_by(&Whole, prog, db, keeps, moves)?;
+    Ok(ran)
+}
+
+/// The reply and the marks of a program that fits the database, which has the indexes that the program needs.
+/// `moves` rises by at most what the joins of the statements up to the program's end may take, also where memory is refused, and
+/// never falls.
+pub fn run_alone<L>(prog: &Planned, base: &Database, moves: &mut Moves<L>) -> Result<Ran, NoMemory>
+    requires fits { Fits (state_of base.now) prog.now }
+    requires indexes { HasIndexes base.now prog.now }
+    ensures reply { IfOk result (λ ran. ran.reply ≡ (run_of prog.now (state_of base.now)).0) }
+    ensures marks { IfOk result (λ ran. ran.marks ≡ (run_of prog.now (state_of base.now)).1) }
+    ensures fits { IfOk result (λ ran. FitMarks (state_of base.now) ran.marks) }
+    ensures printed { IfOk result (λ ran. AreReplied ran.reply) }
+    ensures moves { moves.new ≤ moves.old + cost_of_first (ends_at prog.now (state_of base.now)) prog.now (state_of base.now) }
+    ensures rises { moves.old ≤ moves.new }
+{
+    let ran = run_on_share(&Whole, prog, base, moves)?;
+    Ok(ran)
 }

@@ -1,5 +1,7 @@
 //! The indexes that a program needs.
-ghost use Rattle.std.specs.Prelude.{◌≡◌, ◌⊎◌, ℕ, List, true, IfOk};
+ghost use Rattle.std.specs.Prelude.{◌≡◌, ◌⊎◌, ℕ, List, true, IfOk, IsTrue};
+ghost use Rattle.std.specs.List.{AllByRecursion};
+ghost use Rattle.lt_query.specs.declared.plans.Guide.{Guide as GuideType};
 ghost use Rattle.lt_model.specs.Fits.{Fits};
 ghost use Rattle.lt_base.specs.Tables.{state_of, has_index};
 ghost use Rattle.lt_query.specs.Needs.{IsNeeded};
@@ -7,8 +9,35 @@ ghost use Rattle.lt_program.specs.Tally.{HasIndexes};
 
 use lt_base::Database;
 use lt_face::memory::NoMemory;
-use lt_query::Planned;
+use lt_query::{Guide, Planned, Route};
 use std::thread::Threads;
+
+/// Whether the database has the indexes of these guides, and each was needed of late.
+fn are_in_use(base: &Database, guides: &[Guide]) -> bool
+    ensures { IsTrue result → AllByRecursion (λ (guide : GuideType). has_index base.now guide.relation guide.columns ≡ true) guides.now }
+{
+    for guide in guides {
+        if !base.is_in_use(guide.relation, &guide.columns) {
+            return false;
+        }
+    }
+    true
+}
+
+/// Whether the database has the indexes that the program needs, and each was needed of late.
+pub fn has_indexes(base: &Database, prog: &Planned) -> bool
+    requires { Fits (state_of base.now) prog.now }
+    ensures { IsTrue result → HasIndexes base.now prog.now }
+{
+    base.look_over();
+    for route in prog.routes() {
+        let route: &Route = route;
+        if !are_in_use(base, route.guides.as_slice()) {
+            return false;
+        }
+    }
+    true
+}
 
 /// The same database, with the indexes that the program needs beside those that it has.
 pub fn indexed<R: Threads + Sync>(

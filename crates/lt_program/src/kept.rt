@@ -3,7 +3,8 @@ ghost use Rattle.std.specs.Prelude.{◌≡◌, false, true, IfOk};
 ghost use Rattle.lt_face.specs.Rows.{IsAscending};
 ghost use Rattle.lt_program.specs.Displacing.{HaveOneWidth};
 ghost use Rattle.lt_program.specs.Effect.{view};
-ghost use Rattle.lt_model.specs.Effect.{displacing, marks_on as marks_on_rows};
+ghost use Rattle.lt_model.specs.Effect.{displacing, marks_on};
+ghost use Rattle.lt_model.specs.Marks.{and_then};
 ghost use Rattle.lt_program.specs.Kept.{IsOrdered, first_rows, second_rows, displaced_rows, truth_in, is_keyed as is_keyed_in, clashes_in, inserted_by, replaced_by, coming_by, written_by as writes, refused_by as refuses, marks_past as marks_after, effect_by as does};
 
 use crate::copying::copied;
@@ -13,92 +14,56 @@ use crate::part::Found;
 use lt_delta::Marks;
 use lt_face::items::{Items, RowList};
 use lt_face::memory::NoMemory;
+use lt_face::row::Row;
 use lt_model::kind::KindList;
 use lt_model::normal::Stmt;
 use std::alloc::Global;
 
-/// A mark for each answer of the one head, or of the one whose rows go.
-fn marked_first(
-    alloc: Global,
-    relation: u32,
-    plus: bool,
-    outcome: &Found,
-) -> Result<Marks, NoMemory>
-    requires { IsAscending (first_rows outcome.now) }
-    ensures { IfOk result (λ marks. marks ≡ marks_on_rows relation plus (first_rows outcome.now)) }
+/// The answers of the one head, or of the one whose rows go.
+pub(crate) fn first_of(outcome: &Found) -> &[Row]
+    ensures { result.now ≡ first_rows outcome.now }
 {
     match outcome {
-        Found::Rows(rows) => {
-            let marks = marked(alloc, relation, plus, rows)?;
-            Ok(marks)
-        }
-        Found::Both(gone, _) => {
-            let marks = marked(alloc, relation, plus, gone)?;
-            Ok(marks)
-        }
-        Found::Keyed(gone, _, _) => {
-            let marks = marked(alloc, relation, plus, gone)?;
-            Ok(marks)
-        }
-        Found::Truth(_) => {
-            let none = Marks::empty(alloc)?;
-            Ok(none)
-        }
+        Found::Rows(rows) => rows.as_slice(),
+        Found::Both(gone, _) => gone.as_slice(),
+        Found::Keyed(gone, _, _) => gone.as_slice(),
+        Found::Truth(_) => &[],
     }
 }
 
-/// A mark for each answer of the head whose rows come.
-fn marked_second(
-    alloc: Global,
-    relation: u32,
-    plus: bool,
-    outcome: &Found,
-) -> Result<Marks, NoMemory>
-    requires { IsAscending (second_rows outcome.now) }
-    ensures { IfOk result (λ marks. marks ≡ marks_on_rows relation plus (second_rows outcome.now)) }
+/// The answers of the one head, or of the one whose rows go; the rest is given up.
+pub(crate) fn into_first(alloc: Global, outcome: Found) -> RowList
+    ensures { result ≡ first_rows outcome }
 {
     match outcome {
-        Found::Rows(_) => {
-            let none = Marks::empty(alloc)?;
-            Ok(none)
-        }
-        Found::Both(_, come) => {
-            let marks = marked(alloc, relation, plus, come)?;
-            Ok(marks)
-        }
-        Found::Keyed(_, come, _) => {
-            let marks = marked(alloc, relation, plus, come)?;
-            Ok(marks)
-        }
-        Found::Truth(_) => {
-            let none = Marks::empty(alloc)?;
-            Ok(none)
-        }
+        Found::Rows(rows) => rows,
+        Found::Both(gone, _) => gone,
+        Found::Keyed(gone, _, _) => gone,
+        Found::Truth(_) => Items::new(alloc),
     }
 }
 
-/// A mark for each displaced row.
-fn marked_displaced(alloc: Global, relation: u32, outcome: &Found) -> Result<Marks, NoMemory>
-    requires { IsAscending (displaced_rows outcome.now) }
-    ensures { IfOk result (λ marks. marks ≡ marks_on_rows relation false (displaced_rows outcome.now)) }
+/// The answers of the head whose rows come.
+pub(crate) fn second_of(outcome: &Found) -> &[Row]
+    ensures { result.now ≡ second_rows outcome.now }
 {
     match outcome {
-        Found::Rows(_) => {
-            let none = Marks::empty(alloc)?;
-            Ok(none)
-        }
-        Found::Both(_, _) => {
-            let none = Marks::empty(alloc)?;
-            Ok(none)
-        }
-        Found::Keyed(_, _, displaced) => {
-            let marks = marked(alloc, relation, false, displaced)?;
-            Ok(marks)
-        }
-        Found::Truth(_) => {
-            let none = Marks::empty(alloc)?;
-            Ok(none)
-        }
+        Found::Rows(_) => &[],
+        Found::Both(_, come) => come.as_slice(),
+        Found::Keyed(_, come, _) => come.as_slice(),
+        Found::Truth(_) => &[],
+    }
+}
+
+/// The rows that these displace.
+pub(crate) fn displaced_of(outcome: &Found) -> &[Row]
+    ensures { result.now ≡ displaced_rows outcome.now }
+{
+    match outcome {
+        Found::Rows(_) => &[],
+        Found::Both(_, _) => &[],
+        Found::Keyed(_, _, displaced) => displaced.as_slice(),
+        Found::Truth(_) => &[],
     }
 }
 
@@ -108,14 +73,14 @@ fn marked_coming(alloc: Global, relation: u32, outcome: &Found) -> Result<Marks,
     requires displaced { IsAscending (displaced_rows outcome.now) }
     ensures { IfOk result (λ marks. marks ≡ displacing relation (displaced_rows outcome.now) (second_rows outcome.now)) }
 {
-    let gone = marked_displaced(alloc, relation, outcome)?;
-    let come = marked_second(alloc, relation, true, outcome)?;
+    let gone = marked(alloc, relation, false, displaced_of(outcome))?;
+    let come = marked(alloc, relation, true, second_of(outcome))?;
     let marks = Marks::and_then(&gone, &come)?;
     Ok(marks)
 }
 
 /// Whether rows came into a relation with value columns.
-fn is_keyed(outcome: &Found) -> bool
+pub(crate) fn is_keyed(outcome: &Found) -> bool
     ensures { result ≡ is_keyed_in outcome.now }
 {
     match outcome {
@@ -140,27 +105,6 @@ fn clashes(keys: u32, outcome: &Found) -> bool
     }
 }
 
-/// The answers of a `print`.
-fn shown(alloc: Global, outcome: &Found) -> Result<RowList, NoMemory>
-    ensures { IfOk result (λ rows. rows ≡ first_rows outcome.now) }
-{
-    match outcome {
-        Found::Rows(rows) => {
-            let rows = copied(alloc, rows.as_slice())?;
-            Ok(rows)
-        }
-        Found::Both(gone, _) => {
-            let rows = copied(alloc, gone.as_slice())?;
-            Ok(rows)
-        }
-        Found::Keyed(gone, _, _) => {
-            let rows = copied(alloc, gone.as_slice())?;
-            Ok(rows)
-        }
-        Found::Truth(_) => Ok(Items::new(alloc)),
-    }
-}
-
 /// Whether the conditions of a `require` can be met.
 fn is_met(outcome: &Found) -> bool
     ensures { result ≡ truth_in outcome.now }
@@ -182,7 +126,7 @@ fn inserted(alloc: Global, relation: u32, outcome: &Found) -> Result<Marks, NoMe
         let marks = marked_coming(alloc, relation, outcome)?;
         return Ok(marks);
     }
-    let marks = marked_first(alloc, relation, true, outcome)?;
+    let marks = marked(alloc, relation, true, first_of(outcome))?;
     Ok(marks)
 }
 
@@ -195,12 +139,24 @@ fn replaced(alloc: Global, relation: u32, outcome: &Found) -> Result<Marks, NoMe
         let marks = marked_coming(alloc, relation, outcome)?;
         return Ok(marks);
     }
-    let marks = marked_second(alloc, relation, true, outcome)?;
+    let marks = marked(alloc, relation, true, second_of(outcome))?;
+    Ok(marks)
+}
+
+/// The marks of a `replace`: rows go from one relation, and then rows come into another.
+fn exchanged(alloc: Global, left: u32, entered: u32, outcome: &Found) -> Result<Marks, NoMemory>
+    requires { IsOrdered outcome.now }
+    ensures { IfOk result (λ marks. marks ≡ and_then (marks_on left false (first_rows outcome.now)) (replaced_by entered outcome.now)) }
+{
+    let rows = first_of(outcome);
+    let gone = marked(alloc, left, false, rows)?;
+    let come = replaced(alloc, entered, outcome)?;
+    let marks = Marks::and_then(&gone, &come)?;
     Ok(marks)
 }
 
 /// The marks that the statement writes.
-fn written_by(alloc: Global, stmt: &Stmt, outcome: &Found) -> Result<Marks, NoMemory>
+pub(crate) fn written_by(alloc: Global, stmt: &Stmt, outcome: &Found) -> Result<Marks, NoMemory>
     requires { IsOrdered outcome.now }
     ensures { IfOk result (λ marks. marks ≡ writes stmt.now outcome.now) }
 {
@@ -214,7 +170,7 @@ fn written_by(alloc: Global, stmt: &Stmt, outcome: &Found) -> Result<Marks, NoMe
             Ok(marks)
         }
         Stmt::Delete { head, body: _ } => {
-            let marks = marked_first(alloc, head.relation, false, outcome)?;
+            let marks = marked(alloc, head.relation, false, first_of(outcome))?;
             Ok(marks)
         }
         Stmt::Replace {
@@ -223,9 +179,7 @@ fn written_by(alloc: Global, stmt: &Stmt, outcome: &Found) -> Result<Marks, NoMe
             keys: _,
             body: _,
         } => {
-            let gone = marked_first(alloc, gone.relation, false, outcome)?;
-            let come = replaced(alloc, come.relation, outcome)?;
-            let marks = Marks::and_then(&gone, &come)?;
+            let marks = exchanged(alloc, gone.relation, come.relation, outcome)?;
             Ok(marks)
         }
         Stmt::Require { some: _, body: _ } => {
@@ -244,7 +198,7 @@ fn written_by(alloc: Global, stmt: &Stmt, outcome: &Found) -> Result<Marks, NoMe
 }
 
 /// Whether the statement is a requirement that isn't met, or two of its rows have one key.
-fn refused_by(stmt: &Stmt, outcome: &Found) -> bool
+pub(crate) fn refused_by(stmt: &Stmt, outcome: &Found) -> bool
     requires { IsOrdered outcome.now }
     ensures { result ≡ refuses stmt.now outcome.now }
 {
@@ -340,7 +294,7 @@ pub(crate) fn effect_by(alloc: Global, stmt: &Stmt, outcome: &Found) -> Result<E
             kinds,
             body: _,
         } => {
-            let rows = shown(alloc, outcome)?;
+            let rows = copied(alloc, first_of(outcome))?;
             Ok(Effect::Prints(KindList::from_kinds(alloc, kinds.as_slice()), rows))
         }
     }

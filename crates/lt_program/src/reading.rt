@@ -6,6 +6,7 @@ ghost use Rattle.lt_face.specs.State.{State};
 ghost use Rattle.lt_model.specs.Effect.{is_plain as is_plain_in};
 ghost use Rattle.lt_model.specs.Marks.{laid};
 ghost use Rattle.lt_model.specs.Run.{run};
+ghost use Rattle.lt_program.specs.Alone.{is_refusing};
 ghost use Rattle.lt_program.specs.Run.{reads_rows, displacing_heads, is_marked, are_marked as are_marked_in, reads_marked_in};
 
 use crate::slicing::is_plain;
@@ -40,6 +41,16 @@ fn displaces(stmt: &Stmt) -> bool
     ensures { result ≡ nat_lt 0 (length (displacing_heads stmt.now)) }
 {
     keyed_head(stmt).is_some()
+}
+
+/// Whether the statement may refuse its program: it is a requirement, or two of its rows may have one key.
+pub(crate) fn may_refuse(stmt: &Stmt) -> bool
+    ensures { result ≡ is_refusing stmt.now }
+{
+    match stmt {
+        Stmt::Require { .. } => true,
+        writing_or_printing => displaces(writing_or_printing),
+    }
 }
 
 /// Whether the statement reads a relation, looks a row up in one, or displaces rows of one.

@@ -1,15 +1,17 @@
 //! The run of a program whose long joins are worked on by parts, each in a thread of its own.
-ghost use Rattle.std.specs.Prelude.{◌≡◌, ◌≤◌, ◌+◌, IfOk};
+ghost use Rattle.std.specs.Prelude.{◌≡◌, ◌≤◌, ◌+◌, ℕ, List, IfOk, OnOk};
 ghost use Rattle.std.specs.Arc.{arc_value};
 ghost use Rattle.lt_face.specs.Limits.{most_workers};
 ghost use Rattle.lt_model.specs.Fits.{Fits, FitMarks};
 ghost use Rattle.lt_model.specs.Run.{run as run_of};
-ghost use Rattle.lt_base.specs.Tables.{state_of};
+ghost use Rattle.lt_model.specs.Marks.{laid};
+ghost use Rattle.lt_base.specs.Tables.{state_of, has_index};
+ghost use Rattle.lt_program.specs.Alone.{kept_if};
 ghost use Rattle.lt_program.specs.Run.{AreReplied};
 ghost use Rattle.lt_program.specs.Split.{cost_of_first_by, split_cost};
 ghost use Rattle.lt_program.specs.Tally.{HasIndexes, ends_at};
 
-use crate::going::{Ran, run_by};
+use crate::going::{Ran, run_by, run_on_share};
 use crate::joining::Joiner;
 use crate::worth::is_worth;
 use lt_base::Database;
@@ -29,7 +31,6 @@ use std::thread::Threads;
 #[derive(Drop)]
 pub(crate) struct ByParts<'a, R: Threads + Wait + Sync> {
     rt: &'a R,
-    base: &'a Database,
     parts: u32,
 }
 
@@ -51,7 +52,7 @@ impl<'a, R: Threads + Wait + Sync, L: Send> Joiner<L> for ByParts<'a, R> {
         terms: &TermList,
         moves: &mut Moves<L>,
     ) -> Result<RowList, NoMemory> {
-        if is_worth(self.base, body, plan.guides.as_slice()) {
+        if is_worth(tables, body, plan.guides.as_slice()) {
             let rows = answers_split_alone(
                 self.rt, alloc, body, plan, terms, tables, self.parts, &OpenGate, moves,
             )?;
@@ -81,6 +82,34 @@ pub fn run_split_alone<R: Threads + Wait + Sync, L: Send>(
     ensures moves { moves.new ≤ moves.old + cost_of_first_by (split_cost parts) (ends_at (arc_value prog.now) (state_of base.now)) (arc_value prog.now) (state_of base.now) }
     ensures rises { moves.old ≤ moves.new }
 {
-    let by = ByParts { rt, base, parts };
-    run_by(&by, prog, base, moves)
+    let by = ByParts { rt, parts };
+    let ran = run_on_share(&by, prog, base, moves)?;
+    Ok(ran)
+}
+
+/// As `run_in_place`, with each long join worked on by so many parts, each in a thread of its own. `moves` rises by at most so many
+/// times what the joins of the statements up to the program's end may take.
+pub fn run_split_in_place<R: Threads + Wait + Sync, L: Send>(
+    rt: &R,
+    prog: &Planned,
+    db: &mut Database,
+    keeps: bool,
+    parts: u32,
+    moves: &mut Moves<L>,
+) -> Result<Ran, NoMemory>
+    requires fits { Fits (state_of db.old) prog.now }
+    requires indexes { HasIndexes db.old prog.now }
+    requires parts { (1 ≤ parts) × (parts ≤ most_workers) }
+    ensures reply { IfOk result (λ ran. ran.reply ≡ (run_of prog.now (state_of db.old)).0) }
+    ensures marks { IfOk result (λ ran. ran.marks ≡ kept_if keeps (run_of prog.now (state_of db.old)).1) }
+    ensures state { OnOk result (state_of db.new ≡ laid (state_of db.old) (run_of prog.now (state_of db.old)).1) }
+    ensures indexes { OnOk result ((relation : ℕ) (columns : List ℕ) → has_index db.new relation columns ≡ has_index db.old relation columns) }
+    ensures fits { OnOk result (FitMarks (state_of db.old) (run_of prog.now (state_of db.old)).1) }
+    ensures printed { IfOk result (λ ran. AreReplied ran.reply) }
+    ensures moves { moves.new ≤ moves.old + cost_of_first_by (split_cost parts) (ends_at prog.now (state_of db.old)) prog.now (state_of db.old) }
+    ensures rises { moves.old ≤ moves.new }
+{
+    let by = ByParts { rt, parts };
+    let ran = run_by(&by, prog, db, keeps, moves)?;
+    Ok(ran)
 }

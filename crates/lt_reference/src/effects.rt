@@ -45,7 +45,7 @@ fn marks_on(alloc: Global, relation: u32, plus: bool, rows: &RowList) -> Result<
     ensures marks { IfOk result (λ marks. marks ≡ marked_on relation plus rows.now) }
     ensures cells { IfOk result HaveCells }
 {
-    let marks = marked(alloc, relation, plus, rows)?;
+    let marks = marked(alloc, relation, plus, rows.as_slice())?;
     Ok(marks)
 }
 

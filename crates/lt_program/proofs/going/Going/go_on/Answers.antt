@@ -1,37 +1,70 @@
-use Rattle.std.proofs.Common.{◌≡◌, List, map, get_or, ap, ◌∙◌, arith}
+use Rattle.std.proofs.Common.{◌≡◌, List, get_or, sym, ap, ◌∙◌, subst, arith}
 use Rattle.std.specs.Arc.{arc_value}
+use Rattle.lt_base.specs.Tables.{state_of}
+use Rattle.lt_model.specs.declared.normal.Body.{Body}
 use Rattle.lt_model.specs.declared.normal.Stmt.{Stmt}
-use Rattle.lt_query.specs.Planned.{routes_of}
+use Rattle.lt_model.specs.Fits.{IsBodyOf}
+use Rattle.lt_query.specs.Planned.{route_of}
 use Rattle.lt_query.proofs.ByShape.{route_there, as_many}
-use Rattle.lt_program.proofs.Firsts.{first_marks_fit, first_grown, first_cost, first_there}
-use Rattle.lt_program.proofs.Sounds.{statement_evaluates}
+use Rattle.lt_program.specs.Planned.{IsPlanned}
+use Rattle.lt_program.proofs.Firsts.{first_there, can_evaluate, cost_here, is_state_now, fits_here, back_here, one_more}
+use Rattle.lt_program.proofs.IndexesMade.{body_fits}
+use Rattle.lt_program.proofs.Recalls.{outcome_ordered}
 use Rattle.lt_program.proofs.going.Going.go_on.Goals as goal
 
-pub evaluate-requires-clause-route : goal.evaluate-requires-clause-route
-evaluate-requires-clause-route g c =
-    let is : map arc_value c.routes.result.now ≡ routes_of (arc_value c.args.prog.now) = c.routes.ensures ∙ ap routes_of c.deref-2.ensures in
-    let at : c.index-statements-number.result ≡ get_or (arc_value c.args.prog.now) c.args.number c.index-statements-number.result = c.index-statements-number.is ∙ ap (λ (xs : List Stmt). get_or xs c.args.number c.index-statements-number.result) (c.statements.ensures ∙ c.deref.ensures) in
-    c.deref-route.ensures ∙ route_there arc_value (arc_value c.args.prog.now) c.routes.result.now c.args.number c.index-statements-number.result c.index-routes-number.result is c.requires.more (omega (arith, c.requires.more, as_many arc_value (arc_value c.args.prog.now) c.routes.result.now is)) at c.index-routes-number.is
+pub planned-requires-clause-fits : goal.planned-requires-clause-fits
+planned-requires-clause-fits g c =
+    let there = first_there c.args.prog.now c.statements.result.now c.args.number c.index-statements-number.result c.statements.ensures c.requires.more c.index-statements-number.is in
+    let can = can_evaluate c.args.prog.now c.requires.under_way.0 c.args.keeps c.requires.under_way.1 c.args.number c.args.self.now c.args.db.now c.requires.under_way.2 c.index-statements-number.result there in
+    (state_of c.args.db.now, can.wide, subst (IsBodyOf (state_of c.args.db.now)) (sym c.body_of.ensures) (body_fits (state_of c.args.db.now) c.index-statements-number.result can.fits))
 
-pub evaluate-requires-clause-can_evaluate : goal.evaluate-requires-clause-can_evaluate
-evaluate-requires-clause-can_evaluate g c =
-    let there = first_there (arc_value c.args.prog.now) c.statements.result.now c.args.number c.index-statements-number.result (c.statements.ensures ∙ c.deref.ensures) c.requires.more c.index-statements-number.is in
-    statement_evaluates c.args.base.now (arc_value c.args.prog.now) c.args.number c.index-statements-number.result there c.requires.wide c.requires.fits c.requires.indexes
+pub planned-requires-clause-route : goal.planned-requires-clause-route
+planned-requires-clause-route g c =
+    let at : c.index-statements-number.result ≡ get_or c.args.prog.now c.args.number c.index-statements-number.result = c.index-statements-number.is ∙ ap (λ (xs : List Stmt). get_or xs c.args.number c.index-statements-number.result) c.statements.ensures in
+    c.deref-route.ensures
+    ∙ route_there arc_value c.args.prog.now c.routes.result.now c.args.number c.index-statements-number.result c.index-routes-number.result c.routes.ensures c.requires.more (omega (arith, c.requires.more, as_many arc_value c.args.prog.now c.routes.result.now c.routes.ensures)) at c.index-routes-number.is
+    ∙ ap route_of (sym c.body_of.ensures)
 
-pub evaluate-requires-clause-marks : goal.evaluate-requires-clause-marks
-evaluate-requires-clause-marks g c = first_marks_fit (arc_value c.args.prog.now) c.args.base.now c.args.number c.args.self.now c.requires.first c.requires.state c.requires.fits
+pub outcome_alone-requires-clause-plan : goal.outcome_alone-requires-clause-plan
+outcome_alone-requires-clause-plan g c = subst (λ (b : Body). IsPlanned b c.in_ok-plan.plan) c.body_of.ensures c.in_ok-plan.ensures
 
-pub returns-clause-first : goal.returns-clause-first
-returns-clause-first g c =
-    let there = first_there (arc_value c.args.prog.now) c.statements.result.now c.args.number c.index-statements-number.result (c.statements.ensures ∙ c.deref.ensures) c.requires.more c.index-statements-number.is in
-    first_grown (arc_value c.args.prog.now) c.args.base.now c.args.number c.args.self.now c.requires.first c.index-statements-number.result c.evaluate.new.self c.requires.going there c.in_ok-evaluate.ensures.ok c.in_ok-evaluate.ensures.laid
+pub outcome_alone-requires-clause-can_evaluate : goal.outcome_alone-requires-clause-can_evaluate
+outcome_alone-requires-clause-can_evaluate g c =
+    let there = first_there c.args.prog.now c.statements.result.now c.args.number c.index-statements-number.result c.statements.ensures c.requires.more c.index-statements-number.is in
+    can_evaluate c.args.prog.now c.requires.under_way.0 c.args.keeps c.requires.under_way.1 c.args.number c.args.self.now c.args.db.now c.requires.under_way.2 c.index-statements-number.result there
+
+pub accept-requires-clause-state : goal.accept-requires-clause-state
+accept-requires-clause-state g c = is_state_now c.args.prog.now c.requires.under_way.0 c.args.keeps c.requires.under_way.1 c.args.number c.args.self.now c.args.db.now c.requires.under_way.2
+
+pub accept-requires-clause-ordered : goal.accept-requires-clause-ordered
+accept-requires-clause-ordered g c = outcome_ordered c.index-statements-number.result (state_of c.args.db.now) c.in_ok-outcome.outcome c.in_ok-outcome.ensures.outcome
+
+pub accept-requires-clause-fits : goal.accept-requires-clause-fits
+accept-requires-clause-fits g c =
+    let there = first_there c.args.prog.now c.statements.result.now c.args.number c.index-statements-number.result c.statements.ensures c.requires.more c.index-statements-number.is in
+    fits_here c.args.prog.now c.requires.under_way.0 c.args.keeps c.requires.under_way.1 c.args.number c.args.self.now c.args.db.now c.requires.under_way.2 c.index-statements-number.result there c.in_ok-outcome.outcome c.in_ok-outcome.ensures.outcome
+
+pub accept-requires-clause-back : goal.accept-requires-clause-back
+accept-requires-clause-back g c = λ refused.
+    let there = first_there c.args.prog.now c.statements.result.now c.args.number c.index-statements-number.result c.statements.ensures c.requires.more c.index-statements-number.is in
+    (state_of c.requires.under_way.0, back_here c.args.prog.now c.requires.under_way.0 c.args.keeps c.requires.under_way.1 c.args.number c.args.self.now c.args.db.now c.requires.under_way.2 c.index-statements-number.result there c.in_ok-outcome.outcome c.in_ok-outcome.ensures.outcome c.requires.going refused)
+
+pub returns-clause-under_way : goal.returns-clause-under_way
+returns-clause-under_way g c = λ base refusing logged way.
+    let there = first_there c.args.prog.now c.statements.result.now c.args.number c.index-statements-number.result c.statements.ensures c.requires.more c.index-statements-number.is in
+    one_more c.args.prog.now base c.args.keeps refusing c.args.number c.args.self.now c.args.db.now way c.index-statements-number.result there c.in_ok-outcome.outcome c.in_ok-outcome.ensures.outcome c.args.logs c.accept.new.self c.accept.new.db c.requires.going logged c.in_ok-accept.ensures
 
 pub returns-clause-cost : goal.returns-clause-cost
 returns-clause-cost g c =
-    let there = first_there (arc_value c.args.prog.now) c.statements.result.now c.args.number c.index-statements-number.result (c.statements.ensures ∙ c.deref.ensures) c.requires.more c.index-statements-number.is in
-    first_cost (arc_value c.args.prog.now) c.args.base.now c.args.number c.args.self.now c.requires.first (g.J.Joiner.most c.args.by.now) c.index-statements-number.result c.args.moves.now c.evaluate.new.moves there c.evaluate.ensures.cost
+    let there = first_there c.args.prog.now c.statements.result.now c.args.number c.index-statements-number.result c.statements.ensures c.requires.more c.index-statements-number.is in
+    cost_here c.args.prog.now c.requires.under_way.0 c.args.keeps c.requires.under_way.1 c.args.number c.args.self.now c.args.db.now c.requires.under_way.2 c.index-statements-number.result there (g.J.Joiner.most c.args.by.now) c.args.moves.now c.outcome_alone.new.moves c.outcome_alone.ensures.cost
 
-pub returns-in_err-evaluate-clause-cost : goal.returns-in_err-evaluate-clause-cost
-returns-in_err-evaluate-clause-cost g c =
-    let there = first_there (arc_value c.args.prog.now) c.statements.result.now c.args.number c.index-statements-number.result (c.statements.ensures ∙ c.deref.ensures) c.requires.more c.index-statements-number.is in
-    first_cost (arc_value c.args.prog.now) c.args.base.now c.args.number c.args.self.now c.requires.first (g.J.Joiner.most c.args.by.now) c.index-statements-number.result c.args.moves.now c.evaluate.new.moves there c.evaluate.ensures.cost
+pub returns-in_err-outcome-clause-cost : goal.returns-in_err-outcome-clause-cost
+returns-in_err-outcome-clause-cost g c =
+    let there = first_there c.args.prog.now c.statements.result.now c.args.number c.index-statements-number.result c.statements.ensures c.requires.more c.index-statements-number.is in
+    cost_here c.args.prog.now c.requires.under_way.0 c.args.keeps c.requires.under_way.1 c.args.number c.args.self.now c.args.db.now c.requires.under_way.2 c.index-statements-number.result there (g.J.Joiner.most c.args.by.now) c.args.moves.now c.outcome_alone.new.moves c.outcome_alone.ensures.cost
+
+pub returns-in_err-accept-clause-cost : goal.returns-in_err-accept-clause-cost
+returns-in_err-accept-clause-cost g c =
+    let there = first_there c.args.prog.now c.statements.result.now c.args.number c.index-statements-number.result c.statements.ensures c.requires.more c.index-statements-number.is in
+    cost_here c.args.prog.now c.requires.under_way.0 c.args.keeps c.requires.under_way.1 c.args.number c.args.self.now c.args.db.now c.requires.under_way.2 c.index-statements-number.result there (g.J.Joiner.most c.args.by.now) c.args.moves.now c.outcome_alone.new.moves c.outcome_alone.ensures.cost
