@@ -10,10 +10,7 @@ use Rattle.lt_query.specs.Lists.{below}
 use Rattle.lt_query.specs.Needs.{body_of}
 use Rattle.lt_query.specs.Stated.{stated_plan}
 use Rattle.lt_program.specs.Tally.{HasIndexes, HasIndexesOf}
-
--- each index of the one is one of the other
-abbrev pub HasAll : List Table → List Table → Type 0
-HasAll old new = (relation : ℕ) (columns : List ℕ) → has_index old relation columns ≡ true → has_index new relation columns ≡ true
+use Rattle.lt_batch.specs.Folding.{HasAll}
 
 -- a fact of each element, at one of them
 pub each_item : {X Y : Type 0} (P : Y → Type 0) (f : X → Y) (xs : List X) (i : ℕ) (x : X) → i < length xs → x ≡ get_or xs i x → AllByRecursion P (map f xs) → P (f x)

@@ -11,6 +11,8 @@ pub mod Indexed
 pub mod Leaves
 pub mod Runs
 pub mod EarlyRuns
+pub mod Gone
+pub mod AheadRuns
 mod JobsInside
 mod InHand
 mod Following

@@ -22,6 +22,7 @@ use Rattle.lt_batch.specs.Line.{batch_at, line_does, line_effects, line_marks, l
 use Rattle.lt_batch.specs.LineWork.{AreLineRunnable}
 use Rattle.lt_batch.specs.Work.{IsSnapshot, AreRunnable}
 use Rattle.lt_batch.proofs.FittingRuns.{rises, run_fits_snapshot}
+use Rattle.lt_batch.proofs.Gone.{effects_long}
 use Rattle.lt_batch.proofs.InOrder.{each_leaf, leaves_from, ran_all, ran_leaves, then_all_ascends, RanFirst}
 use Rattle.lt_batch.proofs.Leaves.{fits_laid}
 use Rattle.lt_batch.proofs.LineLists.{does_in, each_batch, effects_at, marks_at, marks_long, state_more, then_all_same}
@@ -56,10 +57,6 @@ effect_at : (programs : List (List Stmt)) (s : State) (i : ℕ) → i < length p
 effect_at [] s i below = absurd (omega arith)
 effect_at (program ∷ programs) s zero below = refl
 effect_at (program ∷ programs) s (suc i) below = effect_at programs (laid s (run program s).1) i (omega arith)
-
-effects_long : (programs : List (List Stmt)) (s : State) → length (serial_effects programs s) ≡ length programs
-effects_long [] s = refl
-effects_long (program ∷ programs) s = ap suc (effects_long programs (laid s (run program s).1))
 
 pub whole_leads : (programs : List (List Stmt)) (s : State) → AreRunnable s programs
     → (serial_state programs s ≡ laid s (whole_effect (serial_effects programs s))) × FitMarks s (whole_effect (serial_effects programs s))

@@ -25,7 +25,7 @@ use Rattle.lt_batch.specs.Batch.{program_at}
 use Rattle.lt_batch.specs.Early.{AreEarly, IsSomeRun, early_at}
 use Rattle.lt_batch.specs.LeafRun.{IsTallyOn, IsRunOn, IsBareOn, StandsFor}
 use Rattle.lt_batch.specs.Priors.{IsPriorOf, IsRestated, IsRestatedFrom, kept_in, run_bound, leaf_bound}
-use Rattle.lt_batch.specs.Work.{BatchView, FitsBatch, marks_for, base_on, batch_does}
+use Rattle.lt_batch.specs.Work.{BatchView, FitsBatch, marks_for, base_on}
 
 -- a row that neither list marks is said the same of by both, and so the states agree on it
 pub marked_or_agree : (a b : Marks) (s t : State) → ((relation : ℕ) (row : Row) → mark_on a relation row ≡ mark_on b relation row → AgreeOn s t relation row) → (relation : ℕ) (row : Row) → AgreeOn s t relation row ⊎ ((is_named a relation row ≡ true) ⊎ (is_named b relation row ≡ true))
@@ -124,10 +124,10 @@ stands_is work i program snapshot laid_on on tally is snapshot_is on_is runs h =
     (let all = subst (λ (p : List Stmt). Stands p (state_of work.snapshot)) (sym is) (subst (Stands program) (sym snapshot_is) here) in record { ran = all.0; reply = all.1; marks = all.2 })
   where
     Stands : List Stmt → State → Type 0
-    Stands p s = IsRunOn p s (marks_for p on) tally × (tally.run.reply ≡ (run p (laid s on)).0) × (tally.effect ≡ (run p (laid s on)).1)
+    Stands p s = IsRunOn p s (marks_for p on) tally × (tally.run.reply ≡ (run p (laid s on)).0) × (tally.run.marks ≡ (run p (laid s on)).1)
 
     here : Stands program snapshot
-    here = (subst (λ (c : Marks). IsRunOn program snapshot c tally) on_is h, h.run.reply ∙ ap (λ (out : Reply × Marks). out.0) runs, h.effect ∙ (h.run.marks ∙ ap (λ (out : Reply × Marks). out.1) runs))
+    here = (subst (λ (c : Marks). IsRunOn program snapshot c tally) on_is h, h.run.reply ∙ ap (λ (out : Reply × Marks). out.0) runs, h.run.marks ∙ ap (λ (out : Reply × Marks). out.1) runs)
 
 -- so does what is kept without the run
 pub stands_bare : (work : BatchView) (i : ℕ) (program : List Stmt) (snapshot : State) (laid_on on : Marks) (tally : BareTally) → program_at work.programs i ≡ program → state_of work.snapshot ≡ snapshot → laid_on ≡ marks_for program on
@@ -136,10 +136,10 @@ stands_bare work i program snapshot laid_on on tally is snapshot_is on_is runs h
     (let all = subst (λ (p : List Stmt). Stands p (state_of work.snapshot)) (sym is) (subst (Stands program) (sym snapshot_is) here) in record { ran = all.0; reply = all.1; marks = all.2 })
   where
     Stands : List Stmt → State → Type 0
-    Stands p s = IsBareOn p s (marks_for p on) tally × (tally.reply ≡ (run p (laid s on)).0) × (tally.effect ≡ (run p (laid s on)).1)
+    Stands p s = IsBareOn p s (marks_for p on) tally × (tally.reply ≡ (run p (laid s on)).0) × (tally.marks ≡ (run p (laid s on)).1)
 
     here : Stands program snapshot
-    here = (subst (λ (c : Marks). IsBareOn program snapshot c tally) on_is h, h.reply ∙ ap (λ (out : Reply × Marks). out.0) runs, h.effect ∙ ap (λ (out : Reply × Marks). out.1) runs)
+    here = (subst (λ (c : Marks). IsBareOn program snapshot c tally) on_is h, h.reply ∙ ap (λ (out : Reply × Marks). out.0) runs, h.marks ∙ ap (λ (out : Reply × Marks). out.1) runs)
 
 -- what a prior tally stands for is a run of the program
 pub some_run_for : (o : Option (Bor LeafTally)) (work : BatchView) (i : ℕ) (program : List Stmt) (snapshot : State) → program_at work.programs i ≡ program → state_of work.snapshot ≡ snapshot
@@ -195,22 +195,3 @@ tally_is program snapshot on base t state_is p b ended ran reply marks = record 
   reply = reply ∙ ap (λ (s : State). (run program s).0) state_is;
   marks = marks ∙ ap (λ (s : State). (run program s).1) state_is;
 }
-
--- the old run, where its marks and the new ones are none
-pub same_run : (program : List Stmt) (snapshot : State) (on : Marks) (old : KeptTally) → IsPriorOf program snapshot old → old.on ≡ [] → on ≡ [] → IsRunOn program snapshot on old
-same_run program snapshot on old prior none empty = subst (λ (c : Marks). IsRunOn program snapshot c old) (sym prior.2.same_on ∙ none ∙ sym empty) prior.2
-
-pub kept_is : (program : List Stmt) (snapshot : State) (on : Marks) (t : TallyView) (tally : KeptTally) → IsTallyOn program snapshot on t → tally.run ≡ t → tally.on ≡ on → tally.effect ≡ t.marks → IsRunOn program snapshot on tally
-kept_is program snapshot on t tally is ran same_on effect = record {
-  run = subst (IsTallyOn program snapshot on) (sym ran) is;
-  same_on = same_on;
-  effect = effect ∙ ap (λ (x : TallyView). x.marks) (sym ran);
-}
-
--- what the program writes there fits the snapshot, where what it does on the corrected one does
-pub written_fits : (work : BatchView) (i : ℕ) (program : List Stmt) (snapshot : State) (laid_on on : Marks) → program_at work.programs i ≡ program → state_of work.snapshot ≡ snapshot
-    → run program (laid snapshot laid_on) ≡ run program (laid snapshot on) → FitMarks (state_of work.snapshot) (batch_does work i on) → FitMarks snapshot (run program (laid snapshot laid_on)).1
-written_fits work i program snapshot laid_on on is snapshot_is runs fit =
-    subst (λ (out : Reply × Marks). FitMarks snapshot out.1) (sym runs)
-    (subst (λ (s : State). FitMarks s (run program (laid s on)).1) snapshot_is
-    (subst (λ (p : List Stmt). FitMarks (state_of work.snapshot) (run p (laid (state_of work.snapshot) on)).1) is fit))

@@ -23,17 +23,16 @@ pub record IsTallyOn (prog : List Stmt) (snapshot : State) (on : Marks) (run : T
   pub reply : run.reply ≡ (run_of prog (laid snapshot on)).0
   pub marks : run.marks ≡ (run_of prog (laid snapshot on)).1
 
--- such a run, kept with the marks that were laid and with those that it writes
+-- such a run, kept with the marks that were laid
 pub record IsRunOn (prog : List Stmt) (snapshot : State) (on : Marks) (tally : KeptTally) : Type 0 where
   pub run : IsTallyOn prog snapshot on tally.run
   pub same_on : tally.on ≡ on
-  pub effect : tally.effect ≡ tally.run.marks
 
 -- what the program answers and writes there, where no more of its run is kept, and the marks that were laid
 pub record IsBareOn (prog : List Stmt) (snapshot : State) (on : Marks) (tally : BareTally) : Type 0 where
   pub same_on : tally.on ≡ on
   pub reply : tally.reply ≡ (run_of prog (laid snapshot on)).0
-  pub effect : tally.effect ≡ (run_of prog (laid snapshot on)).1
+  pub marks : tally.marks ≡ (run_of prog (laid snapshot on)).1
 
 -- what the program answered
 abbrev pub reply_of : LeafTally → Reply
@@ -42,8 +41,8 @@ reply_of (Bare bare) = bare.reply
 
 -- what it wrote
 abbrev pub effect_of : LeafTally → Marks
-effect_of (Kept kept) = kept.effect
-effect_of (Bare bare) = bare.effect
+effect_of (Kept kept) = kept.run.marks
+effect_of (Bare bare) = bare.marks
 
 -- the tally is of the program's run there
 abbrev pub IsOfRun : List Stmt → State → Marks → LeafTally → Type 0

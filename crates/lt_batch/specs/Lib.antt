@@ -9,3 +9,4 @@ pub mod LineRun
 pub mod Priors
 pub mod Replaying
 pub mod Held
+pub mod Folding

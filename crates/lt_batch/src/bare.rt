@@ -19,8 +19,8 @@ pub(crate) fn copied_bare(alloc: Global, old: &BareTally) -> Result<BareTally, N
 {
     let reply = copied_reply(alloc, &old.reply)?;
     let on = old.on.share()?;
-    let effect = old.effect.share()?;
-    Ok(BareTally { reply, on, effect })
+    let marks = old.marks.share()?;
+    Ok(BareTally { reply, on, marks })
 }
 
 /// A tally of the program's run on the snapshot itself: the prior one, where it is such, or the early one. Where a prior run is kept

@@ -13,7 +13,6 @@ ghost use Rattle.lt_batch.specs.Work.{AreRunnable};
 
 use crate::leaf::BareTally;
 use crate::ties::Ties;
-use crate::work::effect_of;
 use lt_base::Database;
 use lt_delta::Marks;
 use lt_face::memory::NoMemory;
@@ -30,7 +29,6 @@ fn early_run<R: Threads + Wait + Sync>(
     prog: &Arc<Planned>,
     snapshot: &Database,
     parts: u32,
-    is_reading: bool,
     is_free: bool,
 ) -> Result<Option<BareTally>, NoMemory>
     requires fits { Fits (state_of snapshot.now) (arc_value prog.now) }
@@ -43,10 +41,9 @@ fn early_run<R: Threads + Wait + Sync>(
     }
     let mut moves: Moves<()> = Moves::new();
     let ran = run_split_alone(rt, prog, snapshot, parts, &mut moves)?;
-    let effect = effect_of(snapshot, &ran.marks, is_reading)?;
     let on = Marks::empty(prog.allocator())?;
-    let Ran { reply, marks: _ } = ran;
-    Ok(Some(BareTally { reply, on, effect }))
+    let Ran { reply, marks } = ran;
+    Ok(Some(BareTally { reply, on, marks }))
 }
 
 /// Whether no program before the one at the place has a bearing on it. No clause speaks of it.
@@ -63,7 +60,6 @@ pub(crate) fn all_early<R: Threads + Wait + Sync>(
     progs: &[Arc<Planned>],
     ties: &[Ties],
     workers: u32,
-    is_reading: bool,
 ) -> Result<Vec<Option<BareTally>>, NoMemory>
     requires runnable { AreRunnable (state_of snapshot.now) (map arc_value progs.now) }
     requires indexed { AllByRecursion (HasIndexes snapshot.now) (map arc_value progs.now) }
@@ -76,7 +72,7 @@ pub(crate) fn all_early<R: Threads + Wait + Sync>(
     }
     for prog in progs {
         let is_free = is_free_at(ties, all.len());
-        let tally = early_run(rt, prog, snapshot, workers, is_reading, is_free)?;
+        let tally = early_run(rt, prog, snapshot, workers, is_free)?;
         all.push(tally)?;
     }
     Ok(all)

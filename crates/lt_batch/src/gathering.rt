@@ -55,7 +55,7 @@ pub(crate) fn left(snapshot: &Database, circuit: &Circuit<BatchWork>) -> Result<
     requires fits { FitMarks (state_of snapshot.now) (then_all (leaf_value circuit.now.board.leaves (state circuit.now)) [] circuit.now.board.leaves) }
     ensures { IfOk result (λ db. state_of db ≡ laid (state_of snapshot.now) (then_all (leaf_value circuit.now.board.leaves (state circuit.now)) [] circuit.now.board.leaves)) }
 {
-    let db = snapshot.laid(circuit.root_effect())?;
-    let db = db.folded()?;
+    let mut db = snapshot.share()?;
+    db.lay(circuit.root_effect())?;
     Ok(db)
 }

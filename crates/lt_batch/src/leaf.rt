@@ -6,13 +6,11 @@ use lt_delta::Marks;
 use lt_model::reply::Reply;
 use lt_program::Tally;
 
-/// The run of a program, what of its correction was laid on the snapshot before it, and what it writes: the marks of the run,
-/// with what they do to each index of the snapshot.
+/// The run of a program, and what of its correction was laid on the snapshot before it.
 #[derive(Drop)]
 pub struct KeptTally {
     pub run: Tally,
     pub on: Marks,
-    pub effect: Marks,
 }
 
 /// The reply of a run of which no more is kept, what of its correction was laid on the snapshot before it, and what it writes.
@@ -20,7 +18,7 @@ pub struct KeptTally {
 pub struct BareTally {
     pub reply: Reply,
     pub on: Marks,
-    pub effect: Marks,
+    pub marks: Marks,
 }
 
 /// What is kept of a program's run: all, so that it can be restated, or what it answered and wrote.
@@ -46,8 +44,8 @@ impl LeafTally {
         ensures { result.now ≡ effect_of self.now }
     {
         match self {
-            LeafTally::Kept(kept) => &kept.effect,
-            LeafTally::Bare(bare) => &bare.effect,
+            LeafTally::Kept(kept) => kept.run.marks(),
+            LeafTally::Bare(bare) => &bare.marks,
         }
     }
 }

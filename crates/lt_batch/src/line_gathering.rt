@@ -78,8 +78,7 @@ pub(crate) fn left_by_line(
 {
     let mut db = snapshot.share()?;
     for s in 0..segments {
-        db = db.lay(line.root_effect(s))?;
+        db.lay(line.root_effect(s))?;
     }
-    let db = db.folded()?;
     Ok(db)
 }

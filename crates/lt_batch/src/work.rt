@@ -28,7 +28,7 @@ use lt_delta::Marks;
 use lt_face::memory::NoMemory;
 use lt_face::moves::Moves;
 use lt_model::normal::Prog;
-use lt_program::{Ran, Tally, reads, reads_marked, run, run_alone};
+use lt_program::{Ran, Tally, reads_marked, run, run_alone};
 use lt_query::laws::plans_of_bodies;
 use lt_query::{Planned, plan_all};
 use lt_restate::restate_marks;
@@ -42,7 +42,6 @@ use std::thread::Threads;
 pub struct BatchWork {
     snapshot: Database,
     programs: Vec<Arc<Planned>>,
-    is_reading: bool,
     /// The runs of programs on the snapshot that are there from the start, by their places. Past the end there are none.
     early: Vec<Option<BareTally>>,
     /// Of each program, which of those before it have a bearing on it. No clause speaks of it.
@@ -62,36 +61,8 @@ impl Model for BatchWork {
     ghost invariant = { λ w. IsBegun w.snapshot (map arc_value w.programs.items) w.early.items };
 }
 
-/// Whether one of the programs reads a relation.
-fn reads_any(progs: &[Arc<Prog>]) -> bool {
-    for prog in progs {
-        if reads(prog.as_slice()) {
-            return true;
-        }
-    }
-    false
-}
-
-/// The marks as an effect: with what they do to the snapshot's indexes, where a program may run on them.
-pub(crate) fn effect_of(
-    snapshot: &Database,
-    marks: &Marks,
-    is_reading: bool,
-) -> Result<Marks, NoMemory>
-    requires { FitMarks (state_of snapshot.now) marks.now }
-    ensures { IfOk result (λ effect. effect ≡ marks.now) }
-{
-    if is_reading {
-        let effect = snapshot.prepared(marks)?;
-        Ok(effect)
-    } else {
-        let effect = marks.share()?;
-        Ok(effect)
-    }
-}
-
 /// The programs can run on the database: its relations are sets of rows. Each of their atoms has 1 to 8 terms.
-fn look_over(db: &Database, progs: &[Arc<Prog>])
+pub(crate) fn look_over(db: &Database, progs: &[Arc<Prog>])
     requires { AllByRecursion (Fits (state_of db.now)) (map arc_value progs.now) }
     ensures runnable { AreRunnable (state_of db.now) (map arc_value progs.now) }
     ensures widths { AllByRecursion HaveWidths (map arc_value progs.now) }
@@ -171,25 +142,13 @@ fn restated<L>(
     Ok(tally)
 }
 
-/// The tally of a run on the snapshot with the marks laid on it.
-fn kept(snapshot: &Database, run: Tally, on: Marks, is_reading: bool) -> Result<KeptTally, NoMemory>
-    requires { FitMarks (state_of snapshot.now) run.marks }
-    ensures run { IfOk result (λ tally. tally.run ≡ run) }
-    ensures on { IfOk result (λ tally. tally.on ≡ on) }
-    ensures effect { IfOk result (λ tally. tally.effect ≡ run.marks) }
-{
-    let effect = effect_of(snapshot, run.marks(), is_reading)?;
-    Ok(KeptTally { run, on, effect })
-}
-
 /// A second owner of the tally.
 fn shared(old: &KeptTally) -> Result<KeptTally, NoMemory>
     ensures { IfOk result (λ same. same ≡ old.now) }
 {
     let run = old.run.share()?;
     let on = old.on.share()?;
-    let effect = old.effect.share()?;
-    Ok(KeptTally { run, on, effect })
+    Ok(KeptTally { run, on })
 }
 
 /// Whether neither of both lists has a mark.
@@ -207,13 +166,11 @@ fn tally_on<L>(
     snapshot: &Database,
     prior: Option<&KeptTally>,
     on: Marks,
-    is_reading: bool,
     moves: &mut Moves<L>,
 ) -> Result<KeptTally, NoMemory>
     requires marks { FitMarks (state_of snapshot.now) on }
     requires fits { Fits (state_of snapshot.now) (arc_value prog.now) }
     requires indexes { HasIndexes snapshot.now (arc_value prog.now) }
-    requires written { FitMarks (state_of snapshot.now) (run_of (arc_value prog.now) (laid (state_of snapshot.now) on)).1 }
     requires prior { IfSome prior (λ old. IsPriorOf (arc_value prog.now) (state_of snapshot.now) old.now) }
     ensures run { IfOk result (IsRunOn (arc_value prog.now) (state_of snapshot.now) on) }
     ensures restated { IfOk result (λ tally. IfSome prior.entry (λ old. IsRestated old.now.run tally.run)) }
@@ -223,8 +180,7 @@ fn tally_on<L>(
     match prior {
         None => {
             let run = begun(prog, snapshot, &on, moves)?;
-            let tally = kept(snapshot, run, on, is_reading)?;
-            Ok(tally)
+            Ok(KeptTally { run, on })
         }
         Some(old) => {
             if are_empty(&old.on, &on) {
@@ -232,8 +188,7 @@ fn tally_on<L>(
                 return Ok(tally);
             }
             let run = restated(prog, snapshot, old, &on, moves)?;
-            let tally = kept(snapshot, run, on, is_reading)?;
-            Ok(tally)
+            Ok(KeptTally { run, on })
         }
     }
 }
@@ -256,22 +211,19 @@ fn bare_on<L>(
     prog: &Arc<Planned>,
     snapshot: &Database,
     on: Marks,
-    is_reading: bool,
     moves: &mut Moves<L>,
 ) -> Result<BareTally, NoMemory>
     requires marks { FitMarks (state_of snapshot.now) on }
     requires fits { Fits (state_of snapshot.now) (arc_value prog.now) }
     requires indexes { HasIndexes snapshot.now (arc_value prog.now) }
-    requires written { FitMarks (state_of snapshot.now) (run_of (arc_value prog.now) (laid (state_of snapshot.now) on)).1 }
     ensures run { IfOk result (IsBareOn (arc_value prog.now) (state_of snapshot.now) on) }
     ensures moves { moves.new ≤ moves.old + run_bound None (arc_value prog.now) (laid (state_of snapshot.now) on) }
     ensures rises { moves.old ≤ moves.new }
 {
     let base = corrected(snapshot, prog, &on)?;
     let ran = run_alone(prog, &base, moves)?;
-    let effect = effect_of(snapshot, &ran.marks, is_reading)?;
-    let Ran { reply, marks: _ } = ran;
-    Ok(BareTally { reply, on, effect })
+    let Ran { reply, marks } = ran;
+    Ok(BareTally { reply, on, marks })
 }
 
 impl BatchWork {
@@ -291,12 +243,10 @@ impl BatchWork {
         look_over(db, progs);
         let programs = plan_all(alloc, progs)?;
         let snapshot = all_indexed(rt, db, programs.as_slice())?;
-        let is_reading = reads_any(progs);
         let ties = ties_of(alloc, progs)?;
         Ok(BatchWork {
             snapshot,
             programs,
-            is_reading,
             early: Vec::new(alloc),
             ties,
         })
@@ -315,7 +265,6 @@ impl BatchWork {
         let BatchWork {
             snapshot,
             programs,
-            is_reading,
             early: _,
             ties,
         } = self;
@@ -326,12 +275,10 @@ impl BatchWork {
             programs.as_slice(),
             ties.as_slice(),
             workers,
-            is_reading,
         )?;
         Ok(BatchWork {
             snapshot,
             programs,
-            is_reading,
             early,
             ties,
         })
@@ -398,7 +345,7 @@ impl LeafWork for BatchWork {
             return Ok(LeafTally::Bare(same));
         }
         let kept = kept_of(prior);
-        let tally = tally_on(prog, &self.snapshot, kept, on, self.is_reading, moves)?;
+        let tally = tally_on(prog, &self.snapshot, kept, on, moves)?;
         Ok(LeafTally::Kept(tally))
     }
 
@@ -421,7 +368,7 @@ impl LeafWork for BatchWork {
             let same = copied_bare(prog.allocator(), bare)?;
             return Ok(LeafTally::Bare(same));
         }
-        let tally = bare_on(prog, &self.snapshot, on, self.is_reading, moves)?;
+        let tally = bare_on(prog, &self.snapshot, on, moves)?;
         Ok(LeafTally::Bare(tally))
     }
 

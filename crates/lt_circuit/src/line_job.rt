@@ -267,7 +267,7 @@ fn pass_on<T>(segment: u32, correction: Marks, effect: Marks) -> Result<LineDone
     ensures ok { IfOk result (λ did. did ≡ PassDone segment correction effect (and_then correction effect)) }
     ensures err { IfErr result (λ task. task ≡ PassTask segment correction effect) }
 {
-    match Marks::stacked(&correction, &effect) {
+    match Marks::and_then(&correction, &effect) {
         Ok(next) => Ok(LineDone::Pass {
             segment,
             correction,

@@ -147,7 +147,7 @@ fn correct<T>(node: u32, correction: Marks, left: Marks) -> Result<Done<T>, Task
     ensures ok { IfOk result (λ did. did ≡ CorrectDone node correction left (and_then correction left)) }
     ensures err { IfErr result (λ task. task ≡ CorrectTask node correction left) }
 {
-    match Marks::stacked(&correction, &left) {
+    match Marks::and_then(&correction, &left) {
         Ok(to_right) => Ok(Done::Correct {
             node,
             correction,

@@ -1,9 +1,8 @@
-use Rattle.std.proofs.Common.{◌∙◌}
 use Rattle.lt_batch.proofs.early.early_run.Goals as goal
 
 pub returns : goal.returns
 returns g c = record {
   same_on = c.in_ok-on.ensures;
   reply = c.in_ok-ran.ensures.reply;
-  effect = c.in_ok-effect.ensures ∙ c.in_ok-ran.ensures.marks;
+  marks = c.in_ok-ran.ensures.marks;
 }

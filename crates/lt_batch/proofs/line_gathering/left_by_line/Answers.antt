@@ -21,10 +21,10 @@ lay-requires c =
 pub loop-s-preserved : goal.loop-s-preserved
 loop-s-preserved c =
     rw add-one
-    (c.in_ok-db-2.ensures.state ∙ ap (λ (s : State). laid s c.root_effect.result.now) c.loop-s.invariant
+    (c.in_ok-lay.ensures.state ∙ ap (λ (s : State). laid s c.root_effect.result.now) c.loop-s.invariant
     ∙ leads_on c.args.line.now _ c.requires.line c.loop-s.s c.root_effect.result.now (omega arith) (c.root_effect.ensures.serial (past_at c.args.line.now _ c.requires.line c.loop-s.s (omega arith))))
 
 pub returns : goal.returns
 returns c =
     let long : c.loop-s.s ≡ _ = omega arith in
-    ap state_of c.in_ok-db-3.ensures ∙ c.loop-s.invariant ∙ ap (state_before c.args.line.now.work.batches (state_of c.args.line.now.work.snapshot)) long
+    c.loop-s.invariant ∙ ap (state_before c.args.line.now.work.batches (state_of c.args.line.now.work.snapshot)) long

@@ -11,7 +11,7 @@ use Rattle.lt_batch.specs.Batch.{program_at}
 use Rattle.lt_batch.specs.Work.{BatchView, marks_for}
 use Rattle.lt_batch.specs.declared.leaf.BareTally.{BareTally}
 use Rattle.lt_batch.specs.LeafRun.{IsBareOn}
-use Rattle.lt_batch.proofs.Runs.{item_at, early_run_for, stands_bare, bound_kept, written_fits}
+use Rattle.lt_batch.proofs.Runs.{item_at, early_run_for, stands_bare, bound_kept}
 use Rattle.lt_program.specs.Tally.{HasIndexes}
 use Rattle.lt_batch.proofs.Indexed.{each_item}
 use Rattle.lt_batch.proofs.work.BatchWorkLeafWork.work_last.Goals as goal
@@ -31,17 +31,6 @@ bare_on-requires-clause-indexes g c =
     let below = rw (← c.self.view_is) at c.requires.leaf.below in
     let here : c.args.leaf < length c.self.inside.programs.items = omega (arith, below, length-map c.self.inside.programs.items arc_value) in
     each_item (HasIndexes c.self.inside.snapshot) arc_value c.self.inside.programs.items c.args.leaf c.index-prog.result.now here c.index-prog.ensures c.self.invariant.batch.indexed
-
-pub bare_on-requires-clause-written : goal.bare_on-requires-clause-written
-bare_on-requires-clause-written g c =
-    let below = rw (← c.self.view_is) at c.requires.leaf.below in
-    let here : c.args.leaf < length c.self.inside.programs.items = omega (arith, below, length-map c.self.inside.programs.items arc_value) in
-    let prog_is : program_at c.args.self.now.programs c.args.leaf ≡ arc_value c.index-prog.result.now =
-    ap (λ (w : BatchView). program_at w.programs c.args.leaf) (sym c.self.view_is) ∙ item_at arc_value c.self.inside.programs.items c.args.leaf c.index-prog.result.now here c.index-prog.ensures in
-    let snapshot_is : state_of c.args.self.now.snapshot ≡ state_of c.self.inside.snapshot = ap (λ (w : BatchView). state_of w.snapshot) (sym c.self.view_is) in
-    let runs : run (arc_value c.index-prog.result.now) (laid (state_of c.self.inside.snapshot) c.in_ok-on.on) ≡ run (arc_value c.index-prog.result.now) (laid (state_of c.self.inside.snapshot) c.args.correction.now) =
-    subst (λ (p : List Stmt). run p (laid (state_of c.self.inside.snapshot) c.in_ok-on.on) ≡ run p (laid (state_of c.self.inside.snapshot) c.args.correction.now)) c.deref.ensures (c.in_ok-on.ensures.run (state_of c.self.inside.snapshot)) in
-    written_fits c.args.self.now c.args.leaf (arc_value c.index-prog.result.now) (state_of c.self.inside.snapshot) c.in_ok-on.on c.args.correction.now prog_is snapshot_is runs (c.requires.leaf.fit c.args.correction.now c.requires.correction).0
 
 pub returns-clause-stands : goal.returns-clause-stands
 returns-clause-stands g c =

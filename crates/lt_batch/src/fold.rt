@@ -1,0 +1,442 @@
+//! The run of a batch in order: each program on the database that those before it left, which takes its marks as they come. Where the
+//! programs show to be dear and other workers are there, the next ones are run ahead by all of them.
+ghost use Rattle.std.specs.Prelude.{◌≡◌, ◌<◌, ◌≤◌, ◌++◌, ◌∷◌, [], ℕ, true, map, take, length, IfOk, IfSome, OnOk};
+ghost use Rattle.std.specs.Arc.{arc_value};
+ghost use Rattle.std.specs.List.{AllByRecursion};
+ghost use Rattle.lt_face.specs.Limits.{most_programs, most_workers};
+ghost use Rattle.lt_model.specs.Fits.{IsWide, Fits, FitMarks};
+ghost use Rattle.lt_base.specs.Tables.{state_of};
+ghost use Rattle.lt_program.specs.Alone.{kept_if};
+ghost use Rattle.lt_program.specs.Run.{AreReplied};
+ghost use Rattle.lt_program.specs.Tally.{HasIndexes};
+ghost use Rattle.lt_query.specs.Planned.{HaveWidths};
+ghost use Rattle.lt_batch.specs.Batch.{serial_replies, serial_effects, serial_state};
+ghost use Rattle.lt_batch.specs.Folding.{AreAhead, HasGone, HasRun, IsAlike, IsRanOn};
+
+use crate::ahead::{Ahead, let_go, run_ahead};
+use crate::batch::run_batch;
+use crate::outcome::{Effects, Outcome, Replies};
+use crate::ties::ties_of;
+use crate::weight::Weight;
+use crate::work::look_over;
+use lt_base::Database;
+use lt_delta::Marks;
+use lt_edges::Gate;
+use lt_face::items::Items;
+use lt_face::memory::NoMemory;
+use lt_face::moves::Moves;
+use lt_model::normal::Prog;
+use lt_program::{Ran, has_indexes, has_long_join, indexed, run_in_place, run_split_in_place};
+use lt_query::{Planned, Shapes};
+use std::alloc::Global;
+use std::sync::{Arc, Wait};
+use std::thread::Threads;
+
+/// What a batch answered and wrote, and the database that it left.
+#[derive(Drop)]
+pub struct Folded {
+    pub replies: Replies,
+    pub effects: Effects,
+    pub db: Database,
+}
+
+/// A batch so far.
+#[derive(Drop)]
+struct Fold {
+    replies: Replies,
+    effects: Effects,
+    db: Database,
+    keeps: bool,
+    weight: Weight,
+}
+
+impl Fold {
+    /// No program yet.
+    fn new(alloc: Global, db: &Database, count: usize, keeps: bool) -> Result<Fold, NoMemory>
+        ensures replies { IfOk result (λ fold. fold.replies ≡ []) }
+        ensures effects { IfOk result (λ fold. fold.effects ≡ []) }
+        ensures db { IfOk result (λ fold. fold.db ≡ db.now) }
+        ensures keeps { IfOk result (λ fold. fold.keeps ≡ keeps) }
+    {
+        let replies = Vec::with_capacity(alloc, count)?;
+        let effects = Vec::with_capacity(alloc, count)?;
+        let db = db.share()?;
+        Ok(Fold {
+            replies: Items::from_vec(replies),
+            effects: Items::from_vec(effects),
+            db,
+            keeps,
+            weight: Weight::none(),
+        })
+    }
+
+    /// The program with its plans. The indexes that it needs are made where they lack.
+    fn planned<R: Threads + Sync>(
+        &mut self,
+        rt: &R,
+        alloc: Global,
+        prog: &Arc<Prog>,
+        shapes: &mut Shapes,
+    ) -> Result<Arc<Planned>, NoMemory>
+        requires fit { Fits (state_of self.old.db) (arc_value prog.now) }
+        requires widths { HaveWidths (arc_value prog.now) }
+        ensures program { IfOk result (λ planned. arc_value planned ≡ arc_value prog.now) }
+        ensures indexes { OnOk result (HasIndexes self.new.db (arc_value prog.now)) }
+        ensures alike { OnOk result (IsAlike self.old self.new) }
+    {
+        let planned = shapes.plan(alloc, prog)?;
+        if has_indexes(&self.db, &planned) {
+            return Ok(planned);
+        }
+        let db = indexed(rt, &self.db, &planned)?;
+        self.db = db;
+        Ok(planned)
+    }
+
+    /// The next programs with their plans.
+    fn all_planned<R: Threads + Sync>(
+        &mut self,
+        rt: &R,
+        alloc: Global,
+        progs: &[Arc<Prog>],
+        shapes: &mut Shapes,
+    ) -> Result<Vec<Arc<Planned>>, NoMemory>
+        requires fit { AllByRecursion (Fits (state_of self.old.db)) (map arc_value progs.now) }
+        requires widths { AllByRecursion HaveWidths (map arc_value progs.now) }
+        ensures programs { IfOk result (λ round. map arc_value round.items ≡ map arc_value progs.now) }
+        ensures indexes { OnOk result (AllByRecursion (HasIndexes self.new.db) (map arc_value progs.now)) }
+        ensures alike { OnOk result (IsAlike self.old self.new) }
+    {
+        let mut round = Vec::with_capacity(alloc, progs.len())?;
+        for prog in progs {
+            let planned = self.planned(rt, alloc, prog, shapes)?;
+            round.push(planned)?;
+        }
+        Ok(round)
+    }
+
+    /// Puts down what the next program did. Of its marks nothing is kept where they aren't asked for.
+    fn push(&mut self, alloc: Global, ran: Ran) -> Result<(), NoMemory>
+        ensures replies { OnOk result (self.new.replies ≡ self.old.replies ++ ran.reply ∷ []) }
+        ensures effects { OnOk result (self.new.effects ≡ self.old.effects ++ kept_if self.old.keeps ran.marks ∷ []) }
+        ensures db { self.new.db ≡ self.old.db }
+        ensures keeps { self.new.keeps ≡ self.old.keeps }
+    {
+        let Ran { reply, marks } = ran;
+        let marks = asked_for(alloc, self.keeps, marks)?;
+        self.replies.push(reply)?;
+        self.effects.push(marks)?;
+        Ok(())
+    }
+
+    /// Runs the next program.
+    fn go_on(&mut self, prog: &Planned, keeps: bool) -> Result<Ran, NoMemory>
+        requires fit { Fits (state_of self.old.db) prog.now }
+        requires indexes { HasIndexes self.old.db prog.now }
+        ensures { IfOk result (HasRun prog.now keeps self.old self.new) }
+    {
+        let mut moves: Moves<()> = Moves::new();
+        let ran = run_in_place(prog, &mut self.db, keeps, &mut moves)?;
+        self.weight.count(moves.ticks(), ran.marks.len());
+        Ok(ran)
+    }
+
+    /// Runs the next program, its long joins by all workers together.
+    fn go_on_by_parts<R: Threads + Wait + Sync>(
+        &mut self,
+        rt: &R,
+        prog: &Planned,
+        workers: u32,
+    ) -> Result<Ran, NoMemory>
+        requires fit { Fits (state_of self.old.db) prog.now }
+        requires indexes { HasIndexes self.old.db prog.now }
+        requires workers { (1 ≤ workers) × (workers ≤ most_workers) }
+        ensures { IfOk result (HasRun prog.now self.old.keeps self.old self.new) }
+    {
+        let mut moves: Moves<()> = Moves::new();
+        let keeps = self.keeps;
+        let ran = run_split_in_place(rt, prog, &mut self.db, keeps, workers, &mut moves)?;
+        Ok(ran)
+    }
+
+    /// Takes the run of the next program that was run ahead.
+    fn take(&mut self, _prog: &Planned, ahead: Ahead) -> Result<Ran, NoMemory>
+        requires { IsRanOn _prog.now (state_of self.old.db) ahead.ran }
+        ensures { IfOk result (HasRun _prog.now true self.old self.new) }
+    {
+        let Ahead {
+            place: _,
+            ran,
+            moves,
+        } = ahead;
+        self.weight.count(moves, ran.marks.len());
+        self.db.lay(&ran.marks)?;
+        Ok(ran)
+    }
+
+    /// Runs the next program, or takes its run, if it was run ahead.
+    fn take_or_go_on(&mut self, prog: &Planned, ahead: Option<Ahead>) -> Result<Ran, NoMemory>
+        requires fit { Fits (state_of self.old.db) prog.now }
+        requires indexes { HasIndexes self.old.db prog.now }
+        requires ahead { IfSome ahead (λ one. IsRanOn prog.now (state_of self.old.db) one.ran) }
+        ensures { IfOk result (HasRun prog.now true self.old self.new) }
+    {
+        match ahead {
+            Some(one) => self.take(prog, one),
+            None => self.go_on(prog, true),
+        }
+    }
+
+    /// The next programs. Some were run ahead on the database so far.
+    fn go_round(
+        &mut self,
+        alloc: Global,
+        round: &[Arc<Planned>],
+        ahead: &mut Vec<Option<Ahead>>,
+    ) -> Result<(), NoMemory>
+        requires fit { AllByRecursion (Fits (state_of self.old.db)) (map arc_value round.now) }
+        requires indexes { AllByRecursion (HasIndexes self.old.db) (map arc_value round.now) }
+        requires long { length ahead.old.items ≡ length round.now }
+        requires ahead { AreAhead (map arc_value round.now) (state_of self.old.db) 0 ahead.old.items }
+        ensures { OnOk result (HasGone (map arc_value round.now) self.old self.new) }
+    {
+        for i in 0..round.len() {
+            let prog = &round[i];
+            let one = ahead[i].take();
+            let ran = self.take_or_go_on(prog, one)?;
+            let_go(ahead, round, i + 1, &ran.marks);
+            self.push(alloc, ran)?;
+        }
+        Ok(())
+    }
+
+    /// The runs of the free ones among the next programs on the database so far.
+    fn ran_ahead<R: Threads + Wait + Sync>(
+        &self,
+        rt: &R,
+        alloc: Global,
+        progs: &[Arc<Prog>],
+        round: &[Arc<Planned>],
+        workers: u32,
+    ) -> Result<Vec<Option<Ahead>>, NoMemory>
+        requires fit { AllByRecursion (Fits (state_of self.now.db)) (map arc_value round.now) }
+        requires indexes { AllByRecursion (HasIndexes self.now.db) (map arc_value round.now) }
+        ensures long { IfOk result (λ all. length all.items ≡ length round.now) }
+        ensures ahead { IfOk result (λ all. AreAhead (map arc_value round.now) (state_of self.now.db) 0 all.items) }
+    {
+        let mut places = free_places(alloc, progs)?;
+        if !self.weight.is_worth(places.len()) {
+            places.clear();
+        }
+        let all = run_ahead(rt, alloc, round, places.as_slice(), &self.db, workers)?;
+        Ok(all)
+    }
+
+    /// The next programs: those that none before them has a bearing on are run ahead by all workers.
+    fn go_on_together<R: Threads + Wait + Sync>(
+        &mut self,
+        rt: &R,
+        alloc: Global,
+        progs: &[Arc<Prog>],
+        shapes: &mut Shapes,
+        workers: u32,
+    ) -> Result<(), NoMemory>
+        requires fit { AllByRecursion (Fits (state_of self.old.db)) (map arc_value progs.now) }
+        requires widths { AllByRecursion HaveWidths (map arc_value progs.now) }
+        ensures { OnOk result (HasGone (map arc_value progs.now) self.old self.new) }
+    {
+        let planned = self.all_planned(rt, alloc, progs, shapes)?;
+        let round = planned.as_slice();
+        let mut ahead = self.ran_ahead(rt, alloc, progs, round, workers)?;
+        self.go_round(alloc, round, &mut ahead)?;
+        Ok(())
+    }
+
+    /// The next program.
+    fn go_on_alone<R: Threads + Wait + Sync>(
+        &mut self,
+        rt: &R,
+        alloc: Global,
+        prog: &Arc<Prog>,
+        shapes: &mut Shapes,
+        parts: u32,
+    ) -> Result<(), NoMemory>
+        requires fit { Fits (state_of self.old.db) (arc_value prog.now) }
+        requires widths { HaveWidths (arc_value prog.now) }
+        requires parts { (1 ≤ parts) × (parts ≤ most_workers) }
+        ensures { OnOk result (HasGone (arc_value prog.now ∷ []) self.old self.new) }
+    {
+        let planned = self.planned(rt, alloc, prog, shapes)?;
+        let ran = self.ran_alone(rt, &planned, parts)?;
+        self.push(alloc, ran)?;
+        Ok(())
+    }
+
+    /// Runs the next program, its long joins by so many parts.
+    fn ran_alone<R: Threads + Wait + Sync>(
+        &mut self,
+        rt: &R,
+        prog: &Planned,
+        parts: u32,
+    ) -> Result<Ran, NoMemory>
+        requires fit { Fits (state_of self.old.db) prog.now }
+        requires indexes { HasIndexes self.old.db prog.now }
+        requires parts { (1 ≤ parts) × (parts ≤ most_workers) }
+        ensures { IfOk result (HasRun prog.now self.old.keeps self.old self.new) }
+    {
+        if parts > 1 && has_long_join(prog, &self.db) {
+            return self.go_on_by_parts(rt, prog, parts);
+        }
+        let keeps = self.keeps;
+        self.go_on(prog, keeps)
+    }
+
+    /// Some of the next programs: several together, where that is worth it, and else one. Answers how many.
+    fn go_some<R: Threads + Wait + Sync>(
+        &mut self,
+        rt: &R,
+        alloc: Global,
+        progs: &[Arc<Prog>],
+        shapes: &mut Shapes,
+        workers: u32,
+        parts: u32,
+    ) -> Result<usize, NoMemory>
+        requires some { 0 < length progs.now }
+        requires fit { AllByRecursion (Fits (state_of self.old.db)) (map arc_value progs.now) }
+        requires widths { AllByRecursion HaveWidths (map arc_value progs.now) }
+        requires parts { (1 ≤ parts) × (parts ≤ most_workers) }
+        ensures some { IfOk result (λ count. (1 ≤ count) × (count ≤ length progs.now)) }
+        ensures gone { IfOk result (λ count. HasGone (map arc_value (take count progs.now)) self.old self.new) }
+    {
+        let together = workers > 1 && self.weight.is_worth(progs.len());
+        if together {
+            let count = progs.len().min(self.weight.next_round(workers));
+            let (round, _) = progs.split_at(count);
+            self.go_on_together(rt, alloc, round, shapes, workers)?;
+            return Ok(count);
+        }
+        let prog = &progs[0];
+        self.go_on_alone(rt, alloc, prog, shapes, parts)?;
+        Ok(1)
+    }
+
+    /// All programs of a batch.
+    fn go_all<R: Threads + Wait + Sync>(
+        &mut self,
+        rt: &R,
+        alloc: Global,
+        progs: &[Arc<Prog>],
+        shapes: &mut Shapes,
+        workers: u32,
+    ) -> Result<(), NoMemory>
+        requires fit { AllByRecursion (Fits (state_of self.old.db)) (map arc_value progs.now) }
+        requires widths { AllByRecursion HaveWidths (map arc_value progs.now) }
+        requires workers { (1 ≤ workers) × (workers ≤ most_workers) }
+        ensures { OnOk result (HasGone (map arc_value progs.now) self.old self.new) }
+    {
+        let parts = parts_for(progs.len(), workers);
+        let mut next = 0;
+        'steps: while next < progs.len() {
+            let (_, left) = progs.split_at(next);
+            let count = self.go_some(rt, alloc, left, shapes, workers, parts)?;
+            next += count;
+        }
+        Ok(())
+    }
+}
+
+/// The marks, where they are asked for.
+fn asked_for(alloc: Global, keeps: bool, marks: Marks) -> Result<Marks, NoMemory>
+    ensures { IfOk result (λ some. some ≡ kept_if keeps marks) }
+{
+    if keeps {
+        return Ok(marks);
+    }
+    if marks.len() == 0 {
+        return Ok(marks);
+    }
+    let none = Marks::empty(alloc)?;
+    Ok(none)
+}
+
+/// By how many parts long joins are worked on: by as many as workers, where there are fewer programs.
+fn parts_for(programs: usize, workers: u32) -> u32
+    requires { (1 ≤ workers) × (workers ≤ most_workers) }
+    ensures { (1 ≤ result) × (result ≤ most_workers) }
+{
+    if programs < workers as usize {
+        return workers;
+    }
+    1
+}
+
+/// The places of the programs that none before them has a bearing on.
+fn free_places(alloc: Global, progs: &[Arc<Prog>]) -> Result<Vec<usize>, NoMemory> {
+    let ties = ties_of(alloc, progs)?;
+    let mut places = Vec::with_capacity(alloc, progs.len())?;
+    for place in 0..ties.len() {
+        if ties[place].is_free() {
+            places.push(place)?;
+        }
+    }
+    Ok(places)
+}
+
+/// Runs the programs of a batch, one after another. The replies and the database left are those of the programs one after another, and
+/// so are the effects, where they are asked for. Which shapes of bodies are known decides what is planned anew, and nothing else.
+///
+/// Where there are several workers and the programs show to be dear, the next ones are run ahead by all of them. At a gate that may hold
+/// a worker until another comes they are run by a circuit.
+pub fn fold_batch<R: Threads + Wait + Sync, G: Gate>(
+    rt: &R,
+    alloc: Global,
+    db: &Database,
+    progs: &[Arc<Prog>],
+    shapes: &mut Shapes,
+    keeps: bool,
+    workers: u32,
+    gate: &G,
+) -> Result<Folded, NoMemory>
+    requires few { length progs.now ≤ most_programs }
+    requires workers { (1 ≤ workers) × (workers ≤ most_workers) }
+    requires fit { AllByRecursion (Fits (state_of db.now)) (map arc_value progs.now) }
+    ensures replies { IfOk result (λ out. out.replies ≡ serial_replies (map arc_value progs.now) (state_of db.now)) }
+    ensures effects { keeps ≡ true → IfOk result (λ out. out.effects ≡ serial_effects (map arc_value progs.now) (state_of db.now)) }
+    ensures each { IfOk result (λ out. length out.effects ≡ length progs.now) }
+    ensures state { IfOk result (λ out. state_of out.db ≡ serial_state (map arc_value progs.now) (state_of db.now)) }
+    ensures fit { IfOk result (λ out. AllByRecursion (FitMarks (state_of db.now)) out.effects) }
+    ensures widths { IfOk result (λ out. (relation width : ℕ) → IsWide (state_of db.now) relation width → IsWide (state_of out.db) relation width) }
+    ensures printed { IfOk result (λ out. AllByRecursion AreReplied out.replies) }
+{
+    if gate.waits() {
+        let outcome = run_batch(rt, alloc, db, progs, workers, gate)?;
+        let Outcome {
+            replies,
+            effects,
+            db,
+            circuit: _,
+        } = outcome;
+        return Ok(Folded {
+            replies,
+            effects,
+            db,
+        });
+    }
+    look_over(db, progs);
+    let mut fold = Fold::new(alloc, db, progs.len(), keeps)?;
+    fold.go_all(rt, alloc, progs, shapes, workers)?;
+    let Fold {
+        replies,
+        effects,
+        db,
+        keeps: _,
+        weight: _,
+    } = fold;
+    let mut db = db;
+    db.age();
+    Ok(Folded {
+        replies,
+        effects,
+        db,
+    })
+}
