@@ -1,5 +1,5 @@
 -- A batch by the report's definition: its programs checked, run as the serial definition says, and told.
-use Rattle.std.proofs.Common.{◌≡◌, ℕ, Bool, zero, suc, ◌+◌, ◌≤◌, ◌<◌, List, [], ◌∷◌, ◌++◌, length, map, refl, sym, ap, subst, ◌∙◌, arith}
+use Rattle.std.proofs.Common.{◌≡◌, ℕ, Bool, true, false, zero, suc, ◌+◌, ◌≤◌, ◌<◌, List, [], ◌∷◌, ◌++◌, length, map, refl, sym, ap, subst, ◌∙◌, arith}
 use Rattle.std.specs.Prelude.{filter_map}
 use Rattle.std.proofs.lemmas.List.{length-map, map-append}
 use Rattle.std.specs.List.{AllByRecursion}
@@ -79,6 +79,28 @@ pub serial-length : (programs : List (List Stmt)) (state : State) → length (se
 serial-length [] state = refl
 serial-length (program ∷ programs) state = ap suc (serial-length programs (laid state (run program state).1))
 
+pub effects-length : (programs : List (List Stmt)) (state : State) → length (serial_effects programs state) ≡ length programs
+effects-length programs state = length-map (serial programs state).0 (λ (done : Reply × Marks). done.1) ∙ serial-length programs state
+
+-- ---- marks that aren't told
+
+bare_told : (schema : Schema) (programs : List Program) (cs : List Checked) (replies : List Reply) (es fs : List Marks) → length (filter_map good_of cs) ≤ length es → length (filter_map good_of cs) ≤ length fs
+    → told false schema programs cs replies es ≡ told false schema programs cs replies fs
+bare_told schema [] cs replies es fs some all = refl
+bare_told schema (p ∷ programs) [] replies es fs some all = refl
+bare_told schema (p ∷ programs) (Bad code j ∷ cs) replies es fs some all = ap (λ (t : Text). bad_program_text p.name code j ++ t) (bare_told schema programs cs replies es fs some all)
+bare_told schema (p ∷ programs) (Good prog ∷ cs) [] es fs some all = refl
+bare_told schema (p ∷ programs) (Good prog ∷ cs) (r ∷ replies) [] fs some all = absurd (omega (arith, some))
+bare_told schema (p ∷ programs) (Good prog ∷ cs) (r ∷ replies) (e ∷ es) [] some all = absurd (omega (arith, all))
+bare_told schema (p ∷ programs) (Good prog ∷ cs) (r ∷ replies) (e ∷ es) (f ∷ fs) some all =
+    ap (λ (t : Text). done_text false schema p.name (r, e) ++ t) (bare_told schema programs cs replies es fs (omega (arith, some)) (omega (arith, all)))
+
+-- the lines of a batch tell what was written only where the marks are asked for
+pub same_told : (marks : Bool) (schema : Schema) (programs : List Program) (cs : List Checked) (replies : List Reply) (es fs : List Marks) → (marks ≡ true → es ≡ fs)
+    → length (filter_map good_of cs) ≤ length es → length (filter_map good_of cs) ≤ length fs → told marks schema programs cs replies es ≡ told marks schema programs cs replies fs
+same_told true schema programs cs replies es fs same some all = ap (λ (xs : List Marks). told true schema programs cs replies xs) (same refl)
+same_told false schema programs cs replies es fs same some all = bare_told schema programs cs replies es fs some all
+
 -- ---- a batch
 
 module _ (w : World) (m : model.World) (programs : List Program) (cs : List Checked) (s : Shows w m) (judged : cs ≡ map (λ (p : Program). checked p w.schema) programs) where
@@ -112,17 +134,20 @@ module _ (w : World) (m : model.World) (programs : List Program) (cs : List Chec
 
   -- what the fold writes of the batch
   pub batch_said : (marks : Bool) (replies : List Reply) (effects : List Marks) (number : ℕ) → number ≡ length w.versions
-      → replies ≡ serial_replies (filter_map good_of cs) (state_of w.database) → effects ≡ serial_effects (filter_map good_of cs) (state_of w.database)
+      → replies ≡ serial_replies (filter_map good_of cs) (state_of w.database) → (marks ≡ true → effects ≡ serial_effects (filter_map good_of cs) (state_of w.database))
+      → length (filter_map good_of cs) ≤ length effects
       → said marks m (Batch programs) ≡ batch_text number ++ told marks w.schema programs cs replies effects ++ version_text number
-  batch_said marks replies effects number counted replied wrote =
+  batch_said marks replies effects number counted replied wrote some =
       let done : List (Reply × Marks) × State = serial (filter_map (λ (check : Text × Checked). good_of check.1) (named m.schema programs)) m.state in
       let numbered : length m.versions + 1 ≡ number = sym (count m w.versions s.versions) ∙ sym counted in
+      let all : length (filter_map good_of cs) ≤ length (serial_effects (filter_map good_of cs) (state_of w.database)) =
+      omega (arith, effects-length (filter_map good_of cs) (state_of w.database)) in
       let middle : programs_text (done_text marks m.schema) (named m.schema programs) done.0 ≡ told marks w.schema programs cs replies effects =
       all_told marks m.schema programs done.0
       ∙ ap (λ (c : List Checked). told marks m.schema programs c (replies_of done.0) (effects_of done.0)) same_checks
       ∙ ap (λ (d : List (Reply × Marks) × State). told marks m.schema programs cs (replies_of d.0) (effects_of d.0)) same_runs
       ∙ sym (ap (λ (rs : List Reply). told marks m.schema programs cs rs (serial_effects (filter_map good_of cs) (state_of w.database))) replied)
-      ∙ sym (ap (λ (es : List Marks). told marks m.schema programs cs replies es) wrote)
+      ∙ sym (same_told marks m.schema programs cs replies effects (serial_effects (filter_map good_of cs) (state_of w.database)) wrote some all)
       ∙ ap (λ (h : Schema). told marks h programs cs replies effects) s.schema in
       ap (λ n. batch_text n ++ programs_text (done_text marks m.schema) (named m.schema programs) done.0 ++ version_text n) numbered
       ∙ ap (λ (t : Text). batch_text number ++ t ++ version_text number) middle
@@ -197,34 +222,36 @@ answers_are schema snapshot widths programs judgements state judged can_reply fi
       headed = all_headed schema snapshot (serial_effects (good_ones judgements) state) widths fit;
     }
 
-pub run_is : (w : World) (m : model.World) → Shows w m → (programs : List Program) (ran : Ran) (progs : List (List Stmt)) (replies : List Reply) (effects : List Marks)
-    → ran.number ≡ length w.versions → map checked_of ran.judgements.items ≡ map (λ (p : Program). checked p w.schema) programs → progs ≡ good_ones ran.judgements.items
-    → ran.replies ≡ replies → ran.effects ≡ effects → replies ≡ serial_replies progs (state_of w.database) → effects ≡ serial_effects progs (state_of w.database)
-    → AllByRecursion AreReplied replies → AllByRecursion (FitMarks (state_of w.database)) effects → IsRun w programs ran
-run_is w m s programs ran progs replies effects numbered judged good rs es replied wrote can_reply fit =
-    let same_replies : ran.replies ≡ serial_replies (good_ones ran.judgements.items) (state_of w.database) = rs ∙ replied ∙ ap (λ (ps : List (List Stmt)). serial_replies ps (state_of w.database)) good in
-    let same_effects : ran.effects ≡ serial_effects (good_ones ran.judgements.items) (state_of w.database) = es ∙ wrote ∙ ap (λ (ps : List (List Stmt)). serial_effects ps (state_of w.database)) good in
+pub run_is : (w : World) (m : model.World) → Shows w m → (programs : List Program) (marks : Bool) (ran : Ran) (progs : List (List Stmt)) → ran.number ≡ length w.versions
+    → map checked_of ran.judgements.items ≡ map (λ (p : Program). checked p w.schema) programs → progs ≡ good_ones ran.judgements.items
+    → ran.replies ≡ serial_replies progs (state_of w.database) → (marks ≡ true → ran.effects ≡ serial_effects progs (state_of w.database)) → length ran.effects ≡ length progs
+    → AllByRecursion AreReplied ran.replies → AllByRecursion (FitMarks (state_of w.database)) ran.effects → IsRun w programs marks ran
+run_is w m s programs marks ran progs numbered judged good replied wrote each can_reply fit =
+    let same_replies : ran.replies ≡ serial_replies (good_ones ran.judgements.items) (state_of w.database) = replied ∙ ap (λ (ps : List (List Stmt)). serial_replies ps (state_of w.database)) good in
     let dones : length (serial (good_ones ran.judgements.items) (state_of w.database)).0 ≡ length (good_ones ran.judgements.items) = serial-length (good_ones ran.judgements.items) (state_of w.database) in
     let replies_count : length ran.replies ≡ length (serial (good_ones ran.judgements.items) (state_of w.database)).0 =
     ap (λ (xs : List Reply). length xs) same_replies ∙ length-map (serial (good_ones ran.judgements.items) (state_of w.database)).0 (λ (done : Reply × Marks). done.0) in
-    let effects_count : length ran.effects ≡ length (serial (good_ones ran.judgements.items) (state_of w.database)).0 =
-    ap (λ (xs : List Marks). length xs) same_effects ∙ length-map (serial (good_ones ran.judgements.items) (state_of w.database)).0 (λ (done : Reply × Marks). done.1) in
+    let effects_count : length ran.effects ≡ length (good_ones ran.judgements.items) = each ∙ ap (λ (ps : List (List Stmt)). length ps) good in
     record {
       number_is = numbered;
       checks = judged;
       replies_are = same_replies;
-      effects_are = same_effects;
+      effects_are = λ asked. wrote asked ∙ ap (λ (ps : List (List Stmt)). serial_effects ps (state_of w.database)) good;
       answers = record {
         checks = sym (length-map ran.judgements.items checked_of) ∙ ap (λ (cs : List Checked). length cs) judged ∙ length-map programs (λ (p : Program). checked p w.schema);
         some_replies = omega (arith, dones, replies_count);
-        some_effects = omega (arith, dones, effects_count);
-        replied = subst (AllByRecursion AreReplied) (sym rs) can_reply;
-        headed = subst (λ (xs : List Marks). AllByRecursion (λ (effect : Marks). AllByRecursion (IsHeaded w.schema) effect) xs) (sym es) (all_headed w.schema (state_of w.database) effects (widths_of w m s) fit);
+        some_effects = omega (arith, effects_count);
+        replied = can_reply;
+        headed = all_headed w.schema (state_of w.database) ran.effects (widths_of w m s) fit;
       };
     }
 
+-- of a batch of which all marks are known
+pub run_by : (marks : Bool) (w : World) (programs : List Program) (ran : Ran) → IsRun w programs true ran → IsRun w programs marks ran
+run_by marks w programs ran r = record { number_is = r.number_is; checks = r.checks; replies_are = r.replies_are; effects_are = λ asked. r.effects_are refl; answers = r.answers }
+
 -- what the fold writes of a batch that ran
-pub run_said : (marks : Bool) (w : World) (m : model.World) (s : Shows w m) (programs : List Program) (ran : Ran) → IsRun w programs ran
+pub run_said : (marks : Bool) (w : World) (m : model.World) (s : Shows w m) (programs : List Program) (ran : Ran) → IsRun w programs marks ran
     → said marks m (Batch programs) ≡ batch_text ran.number ++ told marks w.schema programs (map checked_of ran.judgements.items) ran.replies ran.effects ++ version_text ran.number
 run_said marks w m s programs ran r =
-    batch_said w m programs (map checked_of ran.judgements.items) s r.checks marks ran.replies ran.effects ran.number r.number_is r.replies_are r.effects_are
+    batch_said w m programs (map checked_of ran.judgements.items) s r.checks marks ran.replies ran.effects ran.number r.number_is r.replies_are r.effects_are r.answers.some_effects

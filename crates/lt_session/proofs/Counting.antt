@@ -1,5 +1,5 @@
 -- What the programs of a batch answered, counted one after another.
-use Rattle.std.proofs.Common.{◌≡◌, ℕ, ◌+◌, ◌≤◌, ◌<◌, List, [], ◌∷◌, ◌++◌, length, map, drop, get_or, refl, sym, ap, subst, ◌∙◌, append_assoc, append-nil, arith}
+use Rattle.std.proofs.Common.{◌≡◌, ℕ, Bool, ◌+◌, ◌≤◌, ◌<◌, List, [], ◌∷◌, ◌++◌, length, map, drop, get_or, refl, sym, ap, subst, ◌∙◌, append_assoc, append-nil, arith}
 use Rattle.std.specs.Prelude.{filter_map}
 use Rattle.std.specs.List.{AllByRecursion}
 use Rattle.std.proofs.lemmas.List.{drop_all, length-append}
@@ -45,9 +45,9 @@ all_answered schema (p ∷ programs) dones =
     one_answered p (checked p schema) (map (λ (p : Program). (p.name, checked p schema)) programs) programs (map (λ (p : Program). checked p schema) programs) dones (all_answered schema programs)
 
 -- of a batch that ran
-pub run_answers : (w : World) (m : model.World) (s : Shows w m) (programs : List Program) (ran : Ran) → IsRun w programs ran
+pub run_answers : (w : World) (m : model.World) (s : Shows w m) (programs : List Program) (marks : Bool) (ran : Ran) → IsRun w programs marks ran
     → answers_to m (Batch programs) ≡ answered_by programs (map checked_of ran.judgements.items) ran.replies
-run_answers w m s programs ran r =
+run_answers w m s programs marks ran r =
     let cs : List Checked = map checked_of ran.judgements.items in
     let gs : List (List Stmt) = filter_map (λ (check : Text × Checked). good_of check.1) (map (λ (p : Program). (p.name, checked p m.schema)) programs) in
     all_answered m.schema programs (serial gs m.state).0
@@ -56,8 +56,8 @@ run_answers w m s programs ran r =
     ∙ sym (ap (λ (rs : List Reply). answered_by programs cs rs) r.replies_are)
 
 -- each of its replies has few prints
-pub run_few : (w : World) (programs : List Program) (ran : Ran) → IsRun w programs ran → AllByRecursion IsProgramWithin programs → AllByRecursion HasFewPrints ran.replies
-run_few w programs ran r within =
+pub run_few : (w : World) (programs : List Program) (marks : Bool) (ran : Ran) → IsRun w programs marks ran → AllByRecursion IsProgramWithin programs → AllByRecursion HasFewPrints ran.replies
+run_few w programs marks ran r within =
     subst (AllByRecursion HasFewPrints) (sym (r.replies_are ∙ ap (λ (cs : List Checked). serial_replies (filter_map good_of cs) (state_of w.database)) r.checks))
     (batch_few w.schema programs (state_of w.database) within)
 

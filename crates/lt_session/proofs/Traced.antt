@@ -52,24 +52,24 @@ settles programs snapshot circuit h =
       settled = h.settled;
     }
 
-goods_same : (w : World) (m : model.World) → Shows w m → (programs : List Program) (ran : Ran) → IsRun w programs ran → good_ones ran.judgements.items ≡ good_programs m.schema programs
-goods_same w m s programs ran r = ap (λ (cs : List Checked). filter_map good_of cs) r.checks ∙ ap (λ (h : Schema). good_programs h programs) (sym s.schema)
+goods_same : (w : World) (m : model.World) → Shows w m → (programs : List Program) (marks : Bool) (ran : Ran) → IsRun w programs marks ran → good_ones ran.judgements.items ≡ good_programs m.schema programs
+goods_same w m s programs marks ran r = ap (λ (cs : List Checked). filter_map good_of cs) r.checks ∙ ap (λ (h : Schema). good_programs h programs) (sym s.schema)
 
-pub replied : (w : World) (programs : List Program) (ran : Ran) → IsRun w programs ran → length ran.replies ≡ length (good_ones ran.judgements.items)
-replied w programs ran r =
+pub replied : (w : World) (programs : List Program) (marks : Bool) (ran : Ran) → IsRun w programs marks ran → length ran.replies ≡ length (good_ones ran.judgements.items)
+replied w programs marks ran r =
     ap (λ (xs : List Reply). length xs) r.replies_are
     ∙ length-map (serial (good_ones ran.judgements.items) (state_of w.database)).0 (λ (done : Reply × Marks). done.0)
     ∙ serial-length (good_ones ran.judgements.items) (state_of w.database)
 
 -- what was kept of a batch is its block
-pub block_is : {W T : Type 0} (w : World) (m : model.World) → Shows w m → (programs : List Program) (ran : Ran) (circuit : CircuitView W T) → IsRun w programs ran
+pub block_is : {W T : Type 0} (w : World) (m : model.World) → Shows w m → (programs : List Program) (ran : Ran) (circuit : CircuitView W T) → IsRun w programs true ran
     → HasSettled (good_ones ran.judgements.items) (state_of w.database) circuit
     → IsBlockOf (record { number = length m.versions + 1; programs = good_programs m.schema programs; snapshot = m.state }) (record { number = ran.number; programs = length ran.replies; entries = map written_of circuit.journal })
 block_is w m s programs ran circuit r h =
-    let same = goods_same w m s programs ran r in
+    let same = goods_same w m s programs true ran r in
     record {
       number_is = r.number_is ∙ count m w.versions s.versions;
-      programs_are = replied w programs ran r ∙ ap (λ (ps : List (List Stmt)). length ps) same;
+      programs_are = replied w programs true ran r ∙ ap (λ (ps : List (List Stmt)). length ps) same;
       settles = subst (λ (st : State). Settles (good_programs m.schema programs) st (map written_of circuit.journal)) (sym s.state)
           (subst (λ (ps : List (List Stmt)). Settles ps (state_of w.database) (map written_of circuit.journal)) same (settles (good_ones ran.judgements.items) (state_of w.database) circuit h));
     }

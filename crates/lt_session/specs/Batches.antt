@@ -1,5 +1,5 @@
 -- The programs of a batch, checked and answered.
-use Rattle.std.specs.Prelude.{◌≡◌, ◌≤◌, Bool, List, [], ◌∷◌, ◌++◌, length, map, filter_map, ⊤}
+use Rattle.std.specs.Prelude.{◌≡◌, ◌≤◌, Bool, true, List, [], ◌∷◌, ◌++◌, length, map, filter_map, ⊤}
 use Rattle.std.specs.Arc.{arc_value}
 use Rattle.std.specs.List.{AllByRecursion}
 use Rattle.lt_face.specs.State.{State}
@@ -53,10 +53,10 @@ pub record HasAnswers (schema : Schema) (programs : List Program) (judgements : 
   pub replied : AllByRecursion AreReplied replies
   pub headed : AllByRecursion (λ (effect : Marks). AllByRecursion (IsHeaded schema) effect) effects
 
--- the programs were checked, and those without a code run one after another
-pub record IsRun (w : World) (programs : List Program) (ran : Ran) : Type 0 where
+-- the programs were checked, and those without a code run one after another; what they wrote was kept, where the marks were asked for
+pub record IsRun (w : World) (programs : List Program) (marks : Bool) (ran : Ran) : Type 0 where
   pub number_is : ran.number ≡ length w.versions
   pub checks : map checked_of ran.judgements.items ≡ map (λ (p : Program). checked p w.schema) programs
   pub replies_are : ran.replies ≡ serial_replies (good_ones ran.judgements.items) (state_of w.database)
-  pub effects_are : ran.effects ≡ serial_effects (good_ones ran.judgements.items) (state_of w.database)
+  pub effects_are : marks ≡ true → ran.effects ≡ serial_effects (good_ones ran.judgements.items) (state_of w.database)
   pub answers : HasAnswers w.schema programs ran.judgements.items ran.replies ran.effects

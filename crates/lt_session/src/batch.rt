@@ -35,7 +35,8 @@ pub enum Judgement {
     Bad { code: u32, statement: u32 },
 }
 
-/// What a batch did: its number, what the check of each program gave, and of those without a code the replies and marks.
+/// What a batch did: its number, what the check of each program gave, and of those without a code the replies, and the marks, where
+/// these were asked for.
 #[derive(Drop)]
 pub struct Ran {
     pub number: u64,

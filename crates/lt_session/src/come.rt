@@ -74,7 +74,7 @@ pub fn count_batch<R: Threads + Wait + Sync, G: Gate>(
     ensures counts { OnOk result ((m : ModelWorld) (answers : List Answer) → Shows world.old m → Counts summary.old answers → Counts summary.new (answers ++ answers_to m (items.Batch programs.now))) }
     ensures programs { OnOk result (summary.new.programs ≡ summary.old.programs) }
 {
-    let ran = world.run(rt, alloc, programs, workers, gate)?;
+    let ran = world.run(rt, alloc, programs, false, workers, gate)?;
     let replies = ran.replies.as_slice();
     count_programs(summary, programs, &ran.judgements, replies);
     Ok(())

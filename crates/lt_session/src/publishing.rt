@@ -88,8 +88,8 @@ impl<B: Start> OnFinal for Publisher<B> {
         effect: &Marks,
     ) -> Result<(), NoMemory> {
         let marks = effect.share()?;
-        let laid = self.database.laid(effect)?;
-        let database = laid.folded()?;
+        let mut database = self.database.share()?;
+        database.lay(effect)?;
         let version = database.share()?;
         self.given.push(marks)?;
         match self.versions.publish(version) {

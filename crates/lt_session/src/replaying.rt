@@ -1,5 +1,5 @@
 //! A script that is run by journals that were written down.
-ghost use Rattle.std.specs.Prelude.{◌≡◌, ◌⊎◌, ◌≤◌, ◌<◌, ◌↔◌, ℕ, List, length, slice_get, IsTrue, IfSome, IfNone, IfOk, IfErr, OnOk, OnErr};
+ghost use Rattle.std.specs.Prelude.{◌≡◌, ◌⊎◌, ◌≤◌, ◌<◌, ◌↔◌, ℕ, List, length, true, slice_get, IsTrue, IfSome, IfNone, IfOk, IfErr, OnOk, OnErr};
 ghost use Rattle.std.specs.List.{AllByRecursion};
 ghost use Rattle.std.specs.Io.KnownBytes.{Keeps};
 ghost use Rattle.lt_face.specs.Limits.{most_programs};
@@ -102,7 +102,7 @@ impl World {
         requires world { IsWorld self.old }
         requires within { AllByRecursion IsProgramWithin programs.now }
         requires few { length programs.now ≤ most_programs }
-        ensures ran { IfOk result (λ ran. IsRun self.old programs.now ran) }
+        ensures ran { IfOk result (λ ran. IsRun self.old programs.now true ran) }
         ensures right { IfOk result (λ _. (m : ModelWorld) → Shows self.old m → IsRightAt (begun_at m programs.now) (slice_get blocks.now (length m.versions))) }
         ensures world { OnOk result (Takes self.old (items.Batch programs.now) self.new) }
         ensures schema { OnOk result (self.new.schema ≡ self.old.schema) }

@@ -52,7 +52,7 @@ impl World {
     ) -> Result<Whole, NoMemory>
         requires world { IsWorld self.old }
         requires outcome { IsOutcome (goods_of judgements.items) (state_of self.old.database) outcome }
-        ensures ran { IfOk result (λ whole. (programs : List ProgramType) → map checked_of judgements.items ≡ map (λ (p : ProgramType). checked p self.old.schema) programs → IsRun self.old programs whole.ran) }
+        ensures ran { IfOk result (λ whole. (programs : List ProgramType) → map checked_of judgements.items ≡ map (λ (p : ProgramType). checked p self.old.schema) programs → IsRun self.old programs true whole.ran) }
         ensures circuit { IfOk result (λ whole. HasSettled (goods_of whole.ran.judgements.items) (state_of self.old.database) whole.circuit) }
         ensures world { OnOk result ((programs : List ProgramType) → map checked_of judgements.items ≡ map (λ (p : ProgramType). checked p self.old.schema) programs → Takes self.old (items.Batch programs) self.new) }
         ensures schema { OnOk result (self.new.schema ≡ self.old.schema) }
@@ -90,7 +90,7 @@ impl World {
         requires world { IsWorld self.old }
         requires within { AllByRecursion IsProgramWithin programs.now }
         requires few { length programs.now ≤ most_programs }
-        ensures ran { IfOk result (λ whole. IsRun self.old programs.now whole.ran) }
+        ensures ran { IfOk result (λ whole. IsRun self.old programs.now true whole.ran) }
         ensures circuit { IfOk result (λ whole. HasSettled (goods_of whole.ran.judgements.items) (state_of self.old.database) whole.circuit) }
         ensures world { OnOk result (Takes self.old (items.Batch programs.now) self.new) }
         ensures schema { OnOk result (self.new.schema ≡ self.old.schema) }

@@ -10,16 +10,18 @@ ghost use Rattle.lt_report.specs.Puts.{Puts};
 ghost use Rattle.lt_session.specs.Versions.{database_of};
 ghost use Rattle.lt_session.specs.Writing.{Writes};
 
-use crate::batch::{Ran, put_ran};
+use crate::batch::{Ran, all_judged, good_ones, put_ran};
 use crate::halt::Halt;
 use crate::options::Options;
 use lt_base::Database;
+use lt_batch::{Folded, fold_batch};
 use lt_check::schema::{DeclareFault, Schema};
 use lt_edges::{Failed, Gate, Sink};
 use lt_face::NoMemory;
 use lt_model::kind::KindList;
 use lt_model::name::Name;
 use lt_model::syntax::{Item, Program};
+use lt_query::Shapes;
 use lt_report::{put_bad_item, put_rows};
 use lt_versions::Versions;
 use std::alloc::Global;
@@ -32,6 +34,8 @@ pub struct World {
     pub schema: Schema,
     pub database: Database,
     pub versions: Versions,
+    /// Shapes of bodies that were planned. No clause speaks of them.
+    pub shapes: Shapes,
 }
 
 // The database of now, or of a version that is there.
@@ -62,6 +66,7 @@ impl World {
             schema: Schema::new(alloc),
             database: Database::empty(alloc),
             versions,
+            shapes: Shapes::none(alloc),
         })
     }
 
@@ -162,13 +167,14 @@ impl World {
         Ok(())
     }
 
-    /// Runs a batch by so many workers and makes its version. The programs without a code are the leaves of a repair circuit.
-    /// After want of memory the database and the versions are as before.
+    /// Runs a batch by so many workers and makes its version. What its programs wrote is kept, where the marks are asked for. After
+    /// want of memory the database and the versions are as before.
     pub fn run<R: Threads + Wait + Sync, G: Gate>(
         &mut self,
         rt: &R,
         alloc: Global,
         programs: &[Program],
+        marks: bool,
         workers: u32,
         gate: &G,
     ) -> Result<Ran, NoMemory>
@@ -176,14 +182,37 @@ impl World {
         requires world { IsWorld self.old }
         requires within { AllByRecursion IsProgramWithin programs.now }
         requires few { length programs.now ≤ most_programs }
-        ensures ran { IfOk result (λ ran. IsRun self.old programs.now ran) }
+        ensures ran { IfOk result (λ ran. IsRun self.old programs.now marks ran) }
         ensures world { OnOk result (Takes self.old (items.Batch programs.now) self.new) }
         ensures schema { OnOk result (self.new.schema ≡ self.old.schema) }
         ensures kept_database { OnErr result (self.new.database ≡ self.old.database) }
         ensures kept_versions { OnErr result (self.new.versions ≡ self.old.versions) }
     {
-        let whole = self.run_whole(rt, alloc, programs, workers, gate)?;
-        Ok(whole.ran)
+        let judgements = all_judged(alloc, programs, &self.schema)?;
+        let good = good_ones(alloc, &judgements)?;
+        let folded = fold_batch(
+            rt,
+            alloc,
+            &self.database,
+            &good,
+            &mut self.shapes,
+            marks,
+            workers,
+            gate,
+        )?;
+        let Folded {
+            replies,
+            effects,
+            db,
+        } = folded;
+        let number = self.next_number();
+        self.keep(db)?;
+        Ok(Ran {
+            number,
+            judgements,
+            replies,
+            effects,
+        })
     }
 
     /// Runs a batch and writes its lines.
@@ -203,7 +232,7 @@ impl World {
         ensures world { OnOk result (Takes self.old (items.Batch programs.now) self.new) }
         ensures text { (m : model.World) → Shows self.old m → Writes result (K.holds sink.old) (K.holds sink.new) (K.faults sink.old) (K.faults sink.new) (said options.marks m (items.Batch programs.now)) }
     {
-        let ran = self.run(rt, alloc, programs, options.workers, gate)?;
+        let ran = self.run(rt, alloc, programs, options.marks, options.workers, gate)?;
         put_ran(sink, programs, &ran, self.schema.headings(), options.marks)?;
         Ok(())
     }

@@ -8,7 +8,7 @@ use Rattle.lt_blocks.specs.declared.block.Block.{Block}
 use Rattle.lt_session.specs.Batches.{checked_of, told}
 use Rattle.lt_session.specs.Replays.{begun_at, IsRightAt, IsWrongAt}
 use Rattle.lt_session.specs.World.{said}
-use Rattle.lt_session.proofs.Batches.{run_said}
+use Rattle.lt_session.proofs.Batches.{run_by, run_said}
 use Rattle.lt_session.proofs.Replayed.{all_replayed, no_write, none_replayed, on_err, passed_on, replay_failed}
 use Rattle.lt_session.proofs.replaying.Replayed.batch.Goals as goal
 
@@ -54,7 +54,7 @@ returns-in_err-put_ran-clause-text g c = λ m s.
     let p = err_from_is_err_and r.result r.ensures.1 in
     let ran = c.in_ok-ran.ran in
     let same : said c.args.marks m (Batch c.args.programs.now) ≡ batch_text ran.number ++ told c.args.marks c.headings.result.now c.args.programs.now (map checked_of ran.judgements.items) ran.replies ran.effects ++ version_text ran.number =
-    run_said c.args.marks c.args.self.now.world m s c.args.programs.now ran c.in_ok-ran.ensures.ran
+    run_said c.args.marks c.args.self.now.world m s c.args.programs.now ran (run_by c.args.marks c.args.self.now.world c.args.programs.now ran c.in_ok-ran.ensures.ran)
     ∙ ap (λ (h : Schema). batch_text ran.number ++ told c.args.marks h c.args.programs.now (map checked_of ran.judgements.items) ran.replies ran.effects ++ version_text ran.number) (sym (c.headings.ensures.headings ∙ c.in_ok-ran.ensures.schema)) in
     replay_failed r.result p.0 _ _ _ _ _ _ _ p.1 p.2 c.in_err-put_ran.ensures same
 
@@ -66,6 +66,6 @@ pub returns-clause-text : goal.returns-clause-text
 returns-clause-text g c = λ m s.
     let ran = c.in_ok-ran.ran in
     let same : said c.args.marks m (Batch c.args.programs.now) ≡ batch_text ran.number ++ told c.args.marks c.headings.result.now c.args.programs.now (map checked_of ran.judgements.items) ran.replies ran.effects ++ version_text ran.number =
-    run_said c.args.marks c.args.self.now.world m s c.args.programs.now ran c.in_ok-ran.ensures.ran
+    run_said c.args.marks c.args.self.now.world m s c.args.programs.now ran (run_by c.args.marks c.args.self.now.world c.args.programs.now ran c.in_ok-ran.ensures.ran)
     ∙ ap (λ (h : Schema). batch_text ran.number ++ told c.args.marks h c.args.programs.now (map checked_of ran.judgements.items) ran.replies ran.effects ++ version_text ran.number) (sym (c.headings.ensures.headings ∙ c.in_ok-ran.ensures.schema)) in
     all_replayed _ _ _ _ _ _ _ _ c.in_ok-put_ran.ensures same
