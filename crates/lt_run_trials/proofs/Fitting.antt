@@ -1,5 +1,5 @@
 -- The programs of the tests fit the two relations, also after each other.
-use Rattle.std.proofs.Common.{◌≡◌, ◌≤◌, List, [], ◌∷◌, length, refl, sym, ap, ◌∙◌, arith}
+use Rattle.std.proofs.Common.{◌≡◌, ◌≤◌, List, [], ◌∷◌, length, refl, sym, ap, subst, ◌∙◌, arith}
 use Rattle.std.specs.List.{AllByRecursion}
 use Rattle.lt_face.specs.State.{Row, State}
 use Rattle.lt_face.proofs.RowLemmas.{each_weaker}
@@ -25,6 +25,9 @@ all_batches_fit s batches both fit = each_weaker (AllByRecursion FitsBoth) (AllB
 -- marks leave both there
 pub both_laid : (state : State) (marks : Marks) → AreBoth state → AreBoth (laid state marks)
 both_laid state marks both = same_widths state marks ∙ both
+
+pub both_marked : (base old new : State) (marks : Marks) → old ≡ base → new ≡ laid old marks → AreBoth base → AreBoth new
+both_marked base old new marks same is both = subst AreBoth (sym is) (both_laid old marks (subst AreBoth (sym same) both))
 
 -- marks that fit a state fit another whose relations are as wide
 pub marks_fit_too : (old new : State) (marks : Marks) → KeepsWidths old new → FitMarks old marks → FitMarks new marks

@@ -49,11 +49,11 @@ pub(crate) const MIXED: [&str; 12] = [
 ];
 
 /// All pairs of twelve.
-const PAIRS: &str =
+pub(crate) const PAIRS: &str =
     "insert r(1); insert r(2); insert r(3); insert r(4); insert r(5); insert r(6); insert r(7); insert r(8); insert r(9); insert r(10); insert r(11); insert r(12); insert e(x, y) where r(x), r(y);";
 
 /// Dear programs over these. The first ones read nothing that those before them write, of the others some do.
-const DEAR: [&str; 8] = [
+pub(crate) const DEAR: [&str; 8] = [
     "print (x) where e(x, y), e(y, x);",
     "print (y) where e(x, y), e(y, x), x < y;",
     "insert r(20); print (x) where e(x, y), e(y, x);",

@@ -24,9 +24,11 @@ mod finals;
 #[cfg(test)]
 mod floor;
 #[cfg(test)]
+mod in_order;
+#[cfg(test)]
 mod joins;
 #[cfg(test)]
-mod layers;
+mod laying;
 #[cfg(test)]
 mod lines;
 #[cfg(test)]

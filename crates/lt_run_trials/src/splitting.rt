@@ -22,12 +22,11 @@ use std::thread::Threads;
 const LONG: &str =
     "insert r(0); insert r(m) where r(n), m = n + 1; insert r(m) where r(n), m = n + 2; insert r(m) where r(n), m = n + 4; insert r(m) where r(n), m = n + 8; insert r(m) where r(n), m = n + 16; insert r(m) where r(n), m = n + 32; insert r(m) where r(n), m = n + 64; insert r(m) where r(n), m = n + 128; insert r(m) where r(n), m = n + 256; insert r(m) where r(n), m = n + 512; insert r(m) where r(n), m = n + 1024; insert r(m) where r(n), m = n + 2048; insert e(n, m) where r(n), m = n + 1;";
 
-/// The long relations, with nothing laid over them.
+/// The long relations.
 pub(crate) fn long<R: Threads + Sync>(rt: &R, alloc: Global) -> Result<Database, NoMemory>
     ensures { IfOk result (λ db. AreBoth (state_of db)) }
 {
     let db = stocked(rt, alloc, LONG)?;
-    let db = db.folded()?;
     Ok(db)
 }
 

@@ -228,7 +228,8 @@ fn marked(base: &Database, marks: &Marks) -> Result<Database, NoMemory>
     requires fits { FitMarks (state_of base.now) marks.now }
     ensures { IfOk result (λ db. AreBoth (state_of db)) }
 {
-    let db = base.laid(marks)?;
+    let mut db = base.share()?;
+    db.lay(marks)?;
     Ok(db)
 }
 

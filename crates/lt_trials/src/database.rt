@@ -142,13 +142,15 @@ fn rows_take_the_marks(rt: HostRuntime) -> Result<(), NoMemory> {
     Ok(())
 }
 
-/// Whether the row that a database takes in place is there, also in its index.
+/// Whether the row that a database takes in place is there, also in its index, and not in one that shares its relations.
 fn takes_marks_in_place<R: Threads + Sync>(rt: &R, alloc: Global) -> Result<bool, NoMemory> {
     let perm = swapped(alloc)?;
     let before = indexed(rt, alloc, &perm)?;
+    let mut after = before.share()?;
     let marks = mark_on(alloc, 3, 7)?;
-    let after = before.lay(&marks)?;
-    Ok(has_the_row(alloc, &after, &perm))
+    after.lay(&marks)?;
+    let was_there = has(alloc, &before, 0, 3, 7);
+    Ok(!was_there && has_the_row(alloc, &after, &perm))
 }
 
 #[test]

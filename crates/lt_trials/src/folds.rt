@@ -1,10 +1,10 @@
-//! Rows of a database's relation, edited and folded batch by batch, beside a sorted vector.
+//! Rows of a database's relation, edited in place batch by batch, beside a sorted vector. Versions that are kept stay as they were.
 
 use crate::agree::{holds, same};
-use crate::flat::{Edit, made, row};
+use crate::flat::{Edit, Pair, made, row};
 use crate::pages::{copies, is_found, next, pairs_below};
 use lt_base::Rows;
-use lt_face::{Key, NoMemory, Row, RowReads, RowSet, RowWalk};
+use lt_face::{CELL_LIMIT, Key, NoMemory, RowReads, RowSet, RowWalk};
 use lt_flat::FlatRows;
 use std::alloc::Global;
 use std::process::Abort;
@@ -25,6 +25,13 @@ fn filled(rt: &impl Abort, alloc: Global, end: Key) -> Result<Both, NoMemory> {
     Ok(Both { flat, rows })
 }
 
+/// Second owners of both.
+fn shared(both: &Both) -> Result<Both, NoMemory> {
+    let flat = both.flat.share()?;
+    let rows = both.rows.share()?;
+    Ok(Both { flat, rows })
+}
+
 /// Ends the test unless both have the same rows.
 fn agree(rt: &impl Abort, alloc: Global, both: &Both) {
     same(rt, both.rows.len(), both.flat.len());
@@ -35,24 +42,29 @@ fn agree(rt: &impl Abort, alloc: Global, both: &Both) {
     }
 }
 
-/// An edit of a row that there may be, or of one beside it.
-fn edit_of(seed: u64) -> Edit {
-    edit_below(20000, seed)
+/// A row that there may be, or one beside it, and whether it is put in.
+fn edit_of(seed: u64) -> (Pair, bool) {
+    let key = Key::from((seed >> 33) % 5000) + 1;
+    let value = Key::from((seed >> 20) % 2) + 7;
+    ((key, value), (seed >> 21) % 2 == 0)
 }
 
-/// An edit of a row with one of so many first cells.
-fn edit_below(cells: u64, seed: u64) -> Edit {
-    let key = Key::from((seed >> 33) % cells.max(1)) + 1;
-    match (seed >> 20) % 4 {
-        0 => Edit::Remove((key, 7)),
-        1 => Edit::Remove((key, 8)),
-        2 => Edit::Insert((key, 7)),
-        _ => Edit::Insert((key, 8)),
-    }
+/// Puts the row in, or takes it out, in place.
+fn edited(
+    rt: &impl Abort,
+    alloc: Global,
+    rows: &mut Rows,
+    pair: Pair,
+    plus: bool,
+) -> Result<bool, NoMemory> {
+    let (a, b) = pair;
+    holds(rt, 1 <= a && a < CELL_LIMIT && 1 <= b && b < CELL_LIMIT);
+    holds(rt, rows.width() == 2);
+    rows.edit(&row(alloc, pair), plus)
 }
 
 /// Makes so many edits on both, and answers the seed for more.
-fn edit_all(
+fn edit_both(
     rt: &impl Abort,
     alloc: Global,
     both: &mut Both,
@@ -62,93 +74,50 @@ fn edit_all(
     let mut seed = first;
     for _ in 0..edits {
         seed = next(seed);
-        let a = made(rt, alloc, &mut both.flat, edit_of(seed))?;
-        let b = made(rt, alloc, &mut both.rows, edit_of(seed))?;
+        let (pair, plus) = edit_of(seed);
+        let edit = if plus {
+            Edit::Insert(pair)
+        } else {
+            Edit::Remove(pair)
+        };
+        let a = made(rt, alloc, &mut both.flat, edit)?;
+        let b = edited(rt, alloc, &mut both.rows, pair, plus)?;
         same(rt, a, b);
     }
     Ok(seed)
 }
 
-/// Runs batches of edits: after each the rows are folded, and the version before it is kept a while.
-fn run_batches(
+/// Runs batches of one edit or of forty, each on rows that the version before shares, and keeps each tenth version.
+fn keep_versions(
     rt: &impl Abort,
     alloc: Global,
     both: &mut Both,
     batches: u64,
-) -> Result<(), NoMemory> {
+) -> Result<Vec<Both>, NoMemory> {
+    let mut versions = Vec::new(alloc);
     let mut seed = 1;
     let mut before = both.rows.share()?;
     for batch in 0..batches {
-        seed = edit_all(rt, alloc, both, 32, seed)?;
-        let folded = both.rows.folded(alloc)?;
+        let edits = if batch % 4 == 0 { 40 } else { 1 };
+        seed = edit_both(rt, alloc, both, edits, seed)?;
         before = both.rows.share()?;
-        both.rows = folded;
-        if batch % 50 == 49 {
-            agree(rt, alloc, both);
+        if batch % 10 == 9 {
+            versions.push(shared(both)?)?;
         }
     }
     same(rt, before.len(), both.flat.len());
-    Ok(())
-}
-
-#[test]
-fn folded_rows_are_the_rows(rt: HostRuntime) -> Result<(), NoMemory> {
-    let alloc = rt.alloc();
-    let mut both = filled(&rt, alloc, 20001)?;
-    run_batches(&rt, alloc, &mut both, 200)?;
-    holds(&rt, !both.rows.is_edited());
-    holds(&rt, !both.rows.has(&row(alloc, (30000, 7))));
-    agree(&rt, alloc, &both);
-    Ok(())
-}
-
-/// Runs batches of one edit each, and keeps each tenth version.
-fn keep_versions(
-    rt: &impl Abort,
-    alloc: Global,
-    first: Rows,
-    batches: u64,
-) -> Result<Vec<Rows>, NoMemory> {
-    let mut rows = first;
-    let mut versions = Vec::new(alloc);
-    let mut seed = 1;
-    for batch in 0..batches {
-        seed = next(seed);
-        let _new = made(rt, alloc, &mut rows, edit_below(5000, seed))?;
-        rows = rows.folded(alloc)?;
-        if batch % 10 == 9 {
-            versions.push(rows.share()?)?;
-        }
-    }
     Ok(versions)
-}
-
-/// Ends the test unless each version kept has the rows that the same edits leave in a sorted vector.
-fn agree_with_all(
-    rt: &impl Abort,
-    alloc: Global,
-    first: FlatRows,
-    versions: Vec<Rows>,
-) -> Result<(), NoMemory> {
-    let mut flat = first;
-    let mut seed = 1;
-    for rows in versions {
-        for _ in 0..10 {
-            seed = next(seed);
-            let _new = made(rt, alloc, &mut flat, edit_below(5000, seed))?;
-        }
-        let both = Both { flat, rows };
-        agree(rt, alloc, &both);
-        flat = both.flat;
-    }
-    Ok(())
 }
 
 #[test]
 fn versions_stay_as_they_were(rt: HostRuntime) -> Result<(), NoMemory> {
     let alloc = rt.alloc();
-    let both = filled(&rt, alloc, 5001)?;
-    let versions = keep_versions(&rt, alloc, both.rows, 20000)?;
-    same(&rt, versions.len(), 2000);
-    agree_with_all(&rt, alloc, both.flat, versions)
+    let mut both = filled(&rt, alloc, 5001)?;
+    let versions = keep_versions(&rt, alloc, &mut both, 2000)?;
+    same(&rt, versions.len(), 200);
+    for version in &versions {
+        agree(&rt, alloc, version);
+    }
+    agree(&rt, alloc, &both);
+    Ok(())
 }

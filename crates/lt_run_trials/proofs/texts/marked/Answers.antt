@@ -1,6 +1,7 @@
-use Rattle.lt_base.specs.Tables.{state_of}
-use Rattle.lt_run_trials.proofs.Fitting.{both_laid}
+use Rattle.std.proofs.Common.{◌∙◌, ap}
+use Rattle.lt_base.specs.Tables.{Table, state_of}
+use Rattle.lt_run_trials.proofs.Fitting.{both_marked}
 use Rattle.lt_run_trials.proofs.texts.marked.Goals as goal
 
 pub returns : goal.returns
-returns c = rw c.in_ok-db.ensures.state (both_laid (state_of c.args.base.now) c.args.marks.now c.requires.both)
+returns c = both_marked (state_of c.args.base.now) (state_of c.in_ok-db.db) (state_of c.lay.new.self) c.args.marks.now (ap state_of c.in_ok-db.ensures) c.in_ok-lay.ensures.state c.requires.both

@@ -1,4 +1,4 @@
-//! Marks laid on a database list after list, and all of them laid at once.
+//! Marks that a database takes in place, list after list, and all of them laid over it at once.
 ghost use Rattle.std.specs.Prelude.{IfOk};
 ghost use Rattle.lt_model.specs.Fits.{FitMarks};
 ghost use Rattle.lt_base.specs.Tables.{state_of};
@@ -16,30 +16,22 @@ use lt_face::memory::NoMemory;
 use std::alloc::Global;
 use std::thread::Threads;
 
-/// A database on which marks were laid list after list, and what all of them come to.
+/// A database that took marks list after list, and what all of them come to.
 #[derive(Drop)]
-struct Layers {
+struct Marked {
     db: Database,
     marks: Marks,
 }
 
-/// The database with the marks laid on it, folded or not.
-fn with_layer(
-    _base: &Database,
-    db: &Database,
-    marks: &Marks,
-    folds: bool,
-) -> Result<Database, NoMemory>
+/// The database with these marks, too. The old one shares what no mark is on.
+fn with_marks(_base: &Database, db: &Database, marks: &Marks) -> Result<Database, NoMemory>
     requires widths { KeepsWidths (state_of _base.now) (state_of db.now) }
     requires marks { FitMarks (state_of _base.now) marks.now }
     ensures { IfOk result (λ new. KeepsWidths (state_of _base.now) (state_of new)) }
 {
-    let laid = db.laid(marks)?;
-    if folds {
-        let folded = laid.folded()?;
-        return Ok(folded);
-    }
-    Ok(laid)
+    let mut new = db.share()?;
+    new.lay(marks)?;
+    Ok(new)
 }
 
 /// What both lists of marks come to.
@@ -52,68 +44,67 @@ fn both(_base: &Database, first: &Marks, second: &Marks) -> Result<Marks, NoMemo
     Ok(marks)
 }
 
-/// The base with no layer yet.
-fn no_layers(alloc: Global, base: &Database) -> Result<Layers, NoMemory>
-    ensures widths { IfOk result (λ layers. KeepsWidths (state_of base.now) (state_of layers.db)) }
-    ensures marks { IfOk result (λ layers. FitMarks (state_of base.now) layers.marks) }
+/// The base without marks.
+fn unmarked(alloc: Global, base: &Database) -> Result<Marked, NoMemory>
+    ensures widths { IfOk result (λ marked. KeepsWidths (state_of base.now) (state_of marked.db)) }
+    ensures marks { IfOk result (λ marked. FitMarks (state_of base.now) marked.marks) }
 {
     let db = base.share()?;
     let marks = Marks::empty(alloc)?;
-    Ok(Layers { db, marks })
+    Ok(Marked { db, marks })
 }
 
-/// One more layer: the marks of a few statements at random.
+/// One more list: the marks of a few statements at random.
 fn one_more<R: Threads + Sync>(
     rt: &R,
     alloc: Global,
     base: &Database,
     random: &mut Random,
-    layers: &Layers,
-    folds: bool,
-) -> Result<Layers, NoMemory>
+    marked: &Marked,
+) -> Result<Marked, NoMemory>
     requires both { AreBoth (state_of base.now) }
-    requires widths { KeepsWidths (state_of base.now) (state_of layers.now.db) }
-    requires marks { FitMarks (state_of base.now) layers.now.marks }
+    requires widths { KeepsWidths (state_of base.now) (state_of marked.now.db) }
+    requires marks { FitMarks (state_of base.now) marked.now.marks }
     ensures widths { IfOk result (λ new. KeepsWidths (state_of base.now) (state_of new.db)) }
     ensures marks { IfOk result (λ new. FitMarks (state_of base.now) new.marks) }
 {
     let statements = spreading(alloc, random, 4)?;
-    let layer = marks_of(rt, alloc, base, &statements)?;
-    let db = with_layer(base, &layers.db, &layer, folds)?;
-    let marks = both(base, &layers.marks, &layer)?;
-    Ok(Layers { db, marks })
+    let more = marks_of(rt, alloc, base, &statements)?;
+    let db = with_marks(base, &marked.db, &more)?;
+    let marks = both(base, &marked.marks, &more)?;
+    Ok(Marked { db, marks })
 }
 
-/// So many layers, folded now and then.
-fn layered<R: Threads + Sync>(
+/// So many lists.
+fn marked_by<R: Threads + Sync>(
     rt: &R,
     alloc: Global,
     base: &Database,
     count: u32,
-) -> Result<Layers, NoMemory>
+) -> Result<Marked, NoMemory>
     requires { AreBoth (state_of base.now) }
-    ensures { IfOk result (λ layers. FitMarks (state_of base.now) layers.marks) }
+    ensures { IfOk result (λ marked. FitMarks (state_of base.now) marked.marks) }
 {
     let mut random = Random::new();
-    let mut layers = no_layers(alloc, base)?;
-    for i in 0..count {
-        layers = one_more(rt, alloc, base, &mut random, &layers, i % 8 == 7)?;
+    let mut marked = unmarked(alloc, base)?;
+    for _i in 0..count {
+        marked = one_more(rt, alloc, base, &mut random, &marked)?;
     }
-    Ok(layers)
+    Ok(marked)
 }
 
-/// Whether so many layers leave the rows that their marks leave at once.
+/// Whether so many lists leave the rows that all their marks leave at once.
 fn lays_alike<R: Threads + Sync>(rt: &R, alloc: Global, lists: u32) -> Result<bool, NoMemory> {
     let base = bare(alloc)?;
-    let layers = layered(rt, alloc, &base, lists)?;
-    let once = base.laid(&layers.marks)?;
-    let is_so = count(&layers.db, 1) > 256 && have_same_rows(alloc, &layers.db, &once, 1);
-    drop(layers);
+    let marked = marked_by(rt, alloc, &base, lists)?;
+    let once = base.laid(&marked.marks)?;
+    let is_so = count(&marked.db, 1) > 256 && have_same_rows(alloc, &marked.db, &once, 1);
+    drop(marked);
     Ok(is_so)
 }
 
 #[test]
-fn layers_leave_what_their_marks_leave_at_once(rt: HostRuntime) -> Result<(), NoMemory> {
+fn lists_of_marks_leave_what_all_leave_at_once(rt: HostRuntime) -> Result<(), NoMemory> {
     holds(&rt, lays_alike(&rt, rt.alloc(), 200)?);
     Ok(())
 }
