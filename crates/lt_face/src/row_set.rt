@@ -1,9 +1,9 @@
 //! Sets of rows, however they are kept.
-ghost use Rattle.std.specs.Prelude.{◌≡◌, ◌<◌, ◌≤◌, ◌-◌, ℕ, List, [], ◌∷◌, ◌++◌, true, length, IfOk, IfSome, OnOk, OnErr, not};
+ghost use Rattle.std.specs.Prelude.{◌≡◌, ◌<◌, ◌≤◌, ◌-◌, ℕ, List, [], ◌∷◌, ◌++◌, true, length, IfOk, IfSome, OnOk, OnErr, not, slice_get};
 ghost use Rattle.std.specs.List.{AllByRecursion};
 ghost use Rattle.std.specs.Option.{option_copied};
 ghost use Rattle.lt_face.specs.Limits.{most_columns};
-ghost use Rattle.lt_face.specs.Rows.{IsAscending, IsRow, IsRowSet, has_row, first_from, with_row, without_row};
+ghost use Rattle.lt_face.specs.Rows.{IsAscending, IsRow, IsRowSet, IsRun, has_row, first_from, with_row, without_row};
 
 use crate::cutting::push_above;
 use crate::fraction::Fraction;
@@ -42,9 +42,19 @@ pub trait RowReads: Sized {
 
     /// The least row that is at least the prefix and then the bound, or None where there is none. The search begins where
     /// `near` says, and tells it where it ends.
-    fn row_near(&self, near: &mut Near, prefix: &Row, bound: Key) -> Option<&Row>
+    fn row_near(&self, near: &mut Near, prefix: &[Key], bound: Key) -> Option<&Row>
         requires { length prefix.now < width_of self.now }
-        ensures { option_copied result ≡ first_from (rows self.now) (prefix.now ++ bound ∷ []) };
+        ensures { option_copied result ≡ first_from (rows self.now) (prefix.now ++ bound ∷ []) }
+    {
+        self.rows_near(near, prefix, bound).first()
+    }
+
+    /// Rows of the set that follow one another, of which the first is what `row_near` answers: no row where that is None. How
+    /// many follow it is free.
+    fn rows_near(&self, near: &mut Near, prefix: &[Key], bound: Key) -> &[Row]
+        requires { length prefix.now < width_of self.now }
+        ensures first { slice_get result.now 0 ≡ first_from (rows self.now) (prefix.now ++ bound ∷ []) }
+        ensures run { IsRun (rows self.now) result.now };
 
     /// A row about so far along the set, found without a walk over its rows. It is None where no row is near.
     fn row_about(&self, along: Fraction) -> Option<&Row>

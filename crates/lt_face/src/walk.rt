@@ -15,9 +15,9 @@ pub fn row_above<'a, R: RowReads>(rows: &'a R, near: &mut Near, row: &Row) -> Op
     ensures { option_copied result ≡ first_above (R.rows rows.now) row.now }
 {
     let _width = rows.width();
-    let mut prefix = row.copy_row();
-    match prefix.pop() {
-        Some(last) => rows.row_near(near, &prefix, last + 1),
+    let cells = row.cells();
+    match cells.split_last() {
+        Some((last, prefix)) => rows.row_near(near, prefix, *last + 1),
         None => None,
     }
 }

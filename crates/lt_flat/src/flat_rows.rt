@@ -111,14 +111,11 @@ impl RowReads for FlatRows {
         rows.get(place_from(rows, from))
     }
 
-    fn row_near(&self, near: &mut Near, prefix: &Row, bound: Key) -> Option<&Row> {
+    fn rows_near(&self, near: &mut Near, prefix: &[Key], bound: Key) -> &[Row] {
         let rows = self.rows.as_slice();
-        if rows.is_empty() {
-            return None;
-        }
-        let place = place_near(rows, near.at, prefix.cells(), bound);
+        let place = place_near(rows, near.at, prefix, bound);
         near.at = place;
-        rows.get(place)
+        &rows[place..]
     }
 
     fn row_about(&self, along: Fraction) -> Option<&Row> {

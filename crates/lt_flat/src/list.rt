@@ -62,7 +62,8 @@ fn place_between(rows: &[Row], mut low: usize, mut high: usize, prefix: &[Key], 
     requires within { high ≤ length rows.now }
     requires below { AreBelow rows.now (prefix.now ++ bound ∷ []) low }
     requires above { AreNotBelow rows.now (prefix.now ++ bound ∷ []) high }
-    ensures { first_from rows.now (prefix.now ++ bound ∷ []) ≡ slice_get rows.now result }
+    ensures found { first_from rows.now (prefix.now ++ bound ∷ []) ≡ slice_get rows.now result }
+    ensures bound { result ≤ length rows.now }
 {
     while low < high {
         let middle = low + (high - low) / 2;
@@ -81,7 +82,8 @@ fn place_before(rows: &[Row], high: usize, prefix: &[Key], bound: Key) -> usize
     requires wide { AllByRecursion (λ row. length prefix.now < length row) rows.now }
     requires within { high ≤ length rows.now }
     requires above { AreNotBelow rows.now (prefix.now ++ bound ∷ []) high }
-    ensures { first_from rows.now (prefix.now ++ bound ∷ []) ≡ slice_get rows.now result }
+    ensures found { first_from rows.now (prefix.now ++ bound ∷ []) ≡ slice_get rows.now result }
+    ensures bound { result ≤ length rows.now }
 {
     if high == 0 {
         return high;
@@ -97,7 +99,8 @@ fn place_before(rows: &[Row], high: usize, prefix: &[Key], bound: Key) -> usize
 pub fn place_near(rows: &[Row], near: usize, prefix: &[Key], bound: Key) -> usize
     requires rises { IsAscending rows.now }
     requires wide { AllByRecursion (λ row. length prefix.now < length row) rows.now }
-    ensures { first_from rows.now (prefix.now ++ bound ∷ []) ≡ slice_get rows.now result }
+    ensures found { first_from rows.now (prefix.now ++ bound ∷ []) ≡ slice_get rows.now result }
+    ensures bound { result ≤ length rows.now }
 {
     let at = near.min(rows.len());
     if at == rows.len() {

@@ -4,3 +4,4 @@ pub mod Firsts
 pub mod FoundRows
 pub mod OneByOne
 pub mod Overlays
+pub mod Runs

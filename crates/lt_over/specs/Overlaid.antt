@@ -1,5 +1,5 @@
 -- Rows with others laid over them: some are taken out, and then some put in.
-use Rattle.std.specs.Prelude.{Bool, false, ◌&&◌, not, List, fold, Option, Some, None, if◌then◌else◌}
+use Rattle.std.specs.Prelude.{◌≡◌, ◌++◌, Bool, false, ◌&&◌, not, List, fold, Option, Some, None, if◌then◌else◌}
 use Rattle.std.specs.Ordering.{is_lt}
 use Rattle.lt_face.specs.Rows.{row_cmp, has_row, with_row}
 use Rattle.lt_face.specs.State.{Row}
@@ -23,3 +23,8 @@ lesser (Some x) (Some y) = if is_lt (row_cmp y x) then Some y else Some x
 abbrev pub is_reached : Option Row → Row → Bool
 is_reached None row = false
 is_reached (Some put) row = not (is_lt (row_cmp row put))
+
+-- rows that others begin with
+pub record IsFront (rows front : List Row) : Type 0 where
+  pub rest : List Row
+  pub whole : rows ≡ front ++ rest

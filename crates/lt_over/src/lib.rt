@@ -7,6 +7,7 @@ mod edits;
 mod layer;
 mod many;
 mod over;
+mod run;
 mod search;
 mod shared_over;
 pub mod sharing;

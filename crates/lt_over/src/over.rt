@@ -10,6 +10,7 @@ use crate::counting::{count_lacked, count_staying};
 use crate::edits::{has_over, has_room, put_row};
 use crate::layer::Layer;
 use crate::many::{put_all, take_all};
+use crate::run::run_under;
 use crate::search::least_from;
 use lt_face::{Fraction, Key, Near, NoMemory, Row, RowList, RowReads, RowSet};
 use lt_shared::SharedRows;
@@ -173,20 +174,14 @@ impl<B: RowSet> RowReads for Over<B> {
     }
 
     #[inline(always)]
-    fn row_near(&self, near: &mut Near, prefix: &Row, bound: Key) -> Option<&Row> {
+    fn rows_near(&self, near: &mut Near, prefix: &[Key], bound: Key) -> &[Row] {
         let _width = self.base.width();
         let _width = self.layer.width();
-        let first = self.base.row_near(near, prefix, bound);
+        let run = self.base.rows_near(near, prefix, bound);
         if self.layer.is_bare() {
-            return first;
+            return run;
         }
-        let mut place = Near {
-            list: 0,
-            at: near.list,
-        };
-        let more = self.layer.come().row_near(&mut place, prefix, bound);
-        near.list = place.at;
-        least_from(&self.base, &self.layer, near, first, more)
+        run_under(&self.base, &self.layer, near, run, prefix, bound)
     }
 
     fn row_about(&self, along: Fraction) -> Option<&Row> {

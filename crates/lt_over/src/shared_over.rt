@@ -72,8 +72,8 @@ impl RowReads for SharedOver {
     }
 
     #[inline(always)]
-    fn row_near(&self, near: &mut Near, prefix: &Row, bound: Key) -> Option<&Row> {
-        self.set.row_near(near, prefix, bound)
+    fn rows_near(&self, near: &mut Near, prefix: &[Key], bound: Key) -> &[Row] {
+        self.set.rows_near(near, prefix, bound)
     }
 
     fn row_about(&self, along: Fraction) -> Option<&Row> {

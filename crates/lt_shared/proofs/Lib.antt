@@ -2,4 +2,4 @@ pub mod Joins
 pub mod Edits
 pub mod Counts
 pub mod Gathered
-pub mod Here
+pub mod Runs

@@ -33,10 +33,6 @@ AreAllBelow q rows = AllByRecursion (λ r. row_cmp r q ≡ Less) rows
 abbrev pub AreNoneBelow : List ℕ → List (List ℕ) → Type 0
 AreNoneBelow q rows = AllByRecursion (λ r. is_lt (row_cmp r q) ≡ false) rows
 
--- one of the rows is below q
-abbrev pub IsSomeBelow : List (List ℕ) → List ℕ → Type 0
-IsSomeBelow rows q = (r : List ℕ) × (has_row rows r ≡ true) × (row_cmp r q ≡ Less)
-
 -- what is at least q begins in the entry at this place, or behind it
 pub record IsNear {X : Type 0} (f : X → List (List ℕ)) (entries : List X) (q : List ℕ) (at : ℕ) : Type 0 where
   pub within : at < length entries

@@ -255,26 +255,28 @@ fn put_shared<T: Entry, L>(
     }
 }
 
-/// Puts a row into a list that is to have at most so many entries.
+/// Puts a row into a list that is to have at most so many entries, and at most `shared_limit` in a copy.
 pub fn put_among<T: Entry, L>(
     entries: &mut Arc<Vec<T>>,
     row: Row,
     limit: usize,
+    shared_limit: usize,
     made: &mut Moves<L>,
 ) -> Result<Put<Vec<T>>, NoMemory>
     requires rises { IsAscending (joined T.rows (arc_value entries.old).items) }
     requires some { 0 < length (arc_value entries.old).items }
+    requires order { shared_limit ≤ limit }
     ensures ok { IfOk result (λ put. IsPut (λ v. joined T.rows v.items) put (joined T.rows (arc_value entries.old).items) (joined T.rows (arc_value entries.new).items) row) }
     ensures err { OnErr result (joined T.rows (arc_value entries.new).items ≡ joined T.rows (arc_value entries.old).items) }
     ensures grows { Grows limit T.is_full (arc_value entries.old).items (arc_value entries.new).items }
-    ensures halves { IfOk result (λ put. IfHalves put (λ a b. AreSplit limit (length (arc_value entries.old).items) (length a.items) (length b.items))) }
+    ensures halves { IfOk result (λ put. IfHalves put (λ a b. AreSplit shared_limit (length (arc_value entries.old).items) (length a.items) (length b.items))) }
     ensures made { made.new ≤ made.old + T.most + length (arc_value entries.old).items + 2 }
     ensures made_full { limit ≤ length (arc_value entries.old).items → made.new ≤ made.old + T.most + length (arc_value entries.old).items + 1 }
 {
     let at = place(entries, &row);
     match Arc::get_mut(entries) {
         Some(alone) => put_alone(alone, at, row, limit, made),
-        None => put_shared(entries, at, row, limit, made),
+        None => put_shared(entries, at, row, shared_limit, made),
     }
 }
 

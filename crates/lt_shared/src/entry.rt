@@ -1,9 +1,9 @@
 //! `Entry`: what a list of entries asks of each, and a row as the least of them.
-ghost use Rattle.std.specs.Prelude.{◌≡◌, ◌<◌, ◌≤◌, ◌+◌, ℕ, Bool, true, List, [], ◌∷◌, ◌++◌, length, slice_get, Some, IfOk, IfSome, OnErr};
+ghost use Rattle.std.specs.Prelude.{◌≡◌, ◌<◌, ◌≤◌, ◌+◌, ℕ, Bool, true, nat_lt, List, [], ◌∷◌, ◌++◌, length, slice_get, IfOk, OnErr};
 ghost use Rattle.std.specs.List.{AllByRecursion};
 ghost use Rattle.std.specs.Option.{option_copied};
-ghost use Rattle.lt_face.specs.Rows.{IsAscending, has_row, first_from};
-ghost use Rattle.lt_shared.specs.Entries.{joined, IsFirst, IsSomeBelow, IsPut, IsTaken, IfHalves};
+ghost use Rattle.lt_face.specs.Rows.{IsAscending, IsRun, has_row, first_from};
+ghost use Rattle.lt_shared.specs.Entries.{joined, IsFirst, IsPut, IsTaken, IfHalves};
 
 use lt_face::{Fraction, Key, Moves, Near, NoMemory, Row};
 use lt_flat::place_near;
@@ -36,11 +36,19 @@ pub trait Entry: Sized + Drop {
     /// The rows.
     ghost rows: { Self → List (List ℕ) };
 
-    /// Whether no more entries fit into its list.
+    /// Whether it may be parted in two.
     ghost is_full: { Self → Bool };
+
+    /// Whether a list of so many such entries may be parted in two.
+    ghost is_many: { ℕ → Bool };
 
     /// The most entries that one edit of it puts into lists.
     ghost most: { ℕ };
+
+    /// A list of so many entries that other sets have, too, is parted in two at a put: only one half is then copied later.
+    fn shared_limit() -> usize
+        ensures bound { result ≤ 64 }
+        ensures many { (n : ℕ) → result ≤ n → n ≤ 64 → is_many n ≡ true };
 
     /// The first row.
     fn first(&self) -> &Row
@@ -56,28 +64,20 @@ pub trait Entry: Sized + Drop {
         requires { IsAscending (rows self.now) }
         ensures { option_copied result ≡ first_from (rows self.now) from.now };
 
-    /// The least row of a list of entries that is at least the prefix and then the bound. The search begins where `near` says.
-    fn row_near<'a>(
-        entries: &'a [Self],
-        near: &mut Near,
-        prefix: &[Key],
-        bound: Key,
-    ) -> Option<&'a Row>
-        requires rises { IsAscending (joined rows entries.now) }
-        requires wide { AllByRecursion (λ row. length prefix.now < length row) (joined rows entries.now) }
-        ensures { option_copied result ≡ first_from (joined rows entries.now) (prefix.now ++ bound ∷ []) };
+    /// Rows of the first page of a list of entries: from its first row on.
+    fn first_rows<'a>(entries: &'a [Self]) -> &'a [Row]
+        requires { 0 < length entries.now }
+        ensures some { 0 < length result.now }
+        ensures first { slice_get result.now 0 ≡ slice_get (joined rows entries.now) 0 }
+        ensures run { IsRun (joined rows entries.now) result.now };
 
-    /// The same, where it lies in the page that `near` says behind another row of it: one search of that page.
-    fn row_here<'a>(
-        entries: &'a [Self],
-        near: &mut Near,
-        prefix: &[Key],
-        bound: Key,
-    ) -> Option<&'a Row>
+    /// The least row of a list of entries that is at least the prefix and then the bound, and the rows behind it in its page. The
+    /// search begins where `near` says.
+    fn rows_near<'a>(entries: &'a [Self], near: &mut Near, prefix: &[Key], bound: Key) -> &'a [Row]
         requires rises { IsAscending (joined rows entries.now) }
         requires wide { AllByRecursion (λ row. length prefix.now < length row) (joined rows entries.now) }
-        ensures found { IfSome result (λ row. first_from (joined rows entries.now) (prefix.now ++ bound ∷ []) ≡ Some row.now) }
-        ensures below { IfSome result (λ row. IsSomeBelow (joined rows entries.now) (prefix.now ++ bound ∷ [])) };
+        ensures first { slice_get result.now 0 ≡ first_from (joined rows entries.now) (prefix.now ++ bound ∷ []) }
+        ensures run { IsRun (joined rows entries.now) result.now };
 
     /// A row about so far along the entry.
     fn row_about(&self, along: Fraction) -> &Row
@@ -103,19 +103,18 @@ pub trait Entry: Sized + Drop {
         ensures made { made.new ≤ made.old + most };
 }
 
-/// The row at a place, where there is one.
-fn row_at(rows: &[Row], at: usize) -> Option<&Row>
-    ensures { option_copied result ≡ slice_get rows.now at }
-{
-    rows.get(at)
-}
-
 impl Entry for Row {
     ghost rows = { λ r. r ∷ [] };
 
     ghost is_full = { λ r. true };
 
+    ghost is_many = { λ n. nat_lt 24 n };
+
     ghost most = { 0 };
+
+    fn shared_limit() -> usize {
+        25
+    }
 
     fn first(&self) -> &Row {
         self
@@ -133,34 +132,14 @@ impl Entry for Row {
         }
     }
 
-    fn row_near<'a>(
-        entries: &'a [Row],
-        near: &mut Near,
-        prefix: &[Key],
-        bound: Key,
-    ) -> Option<&'a Row> {
-        let at = place_near(entries, near.at, prefix, bound);
-        near.at = at;
-        row_at(entries, at)
+    fn first_rows<'a>(entries: &'a [Row]) -> &'a [Row] {
+        entries
     }
 
-    #[inline]
-    fn row_here<'a>(
-        entries: &'a [Row],
-        near: &mut Near,
-        prefix: &[Key],
-        bound: Key,
-    ) -> Option<&'a Row> {
+    fn rows_near<'a>(entries: &'a [Row], near: &mut Near, prefix: &[Key], bound: Key) -> &'a [Row] {
         let at = place_near(entries, near.at, prefix, bound);
-        if at == 0 {
-            return None;
-        }
-        if entries.len() <= at {
-            return None;
-        }
         near.at = at;
-        let row = &entries[at];
-        Some(row)
+        &entries[at..]
     }
 
     fn row_about(&self, _along: Fraction) -> &Row {

@@ -1,8 +1,7 @@
 //! A list of 1 to 64 entries that may have several owners: a page is one of rows, a node one of pages.
-ghost use Rattle.std.specs.Prelude.{◌≡◌, ◌<◌, ◌≤◌, ◌+◌, ◌==◌, ◌++◌, ◌∷◌, [], true, false, length, take, drop, IfOk};
+ghost use Rattle.std.specs.Prelude.{◌≡◌, ◌<◌, ◌≤◌, ◌+◌, ◌==◌, ◌++◌, ◌∷◌, [], true, false, length, take, drop, slice_get, IfOk};
 ghost use Rattle.std.specs.List.{AllByRecursion};
-ghost use Rattle.std.specs.Option.{option_copied};
-ghost use Rattle.lt_face.specs.Rows.{IsAscending};
+ghost use Rattle.lt_face.specs.Rows.{IsAscending, IsRun};
 ghost use Rattle.lt_shared.specs.Entries.{joined, AreAllBelow, AreNoneBelow, IsFirst, IsNear, IsOrNext};
 
 use crate::edit::{put_among, take_among};
@@ -112,8 +111,8 @@ fn place_between<T: Entry>(
     low
 }
 
-/// The place of the entry in which the least row that is at least the prefix and then the bound lies, or behind which it
-/// begins: a hint and the entry behind it are tried first.
+/// The place of the entry in which the least row that is at least the prefix and then the bound lies, or behind which it begins,
+/// sought from a hint on by strides that double.
 fn place_near<T: Entry>(entries: &[Level<T>], hint: usize, prefix: &[Key], bound: Key) -> usize
     requires rises { IsAscending (joined (λ level. joined T.rows level) entries.now) }
     requires wide { AllByRecursion (λ row. length prefix.now < length row) (joined (λ level. joined T.rows level) entries.now) }
@@ -125,35 +124,34 @@ fn place_near<T: Entry>(entries: &[Level<T>], hint: usize, prefix: &[Key], bound
     if !is_behind(entries, at, prefix, bound) {
         return place_between(entries, 0, at, prefix, bound);
     }
-    let next = at + 1;
-    if next == all {
-        return at;
+    let mut low = at;
+    let mut stride = 1;
+    while stride < all - low {
+        let next = low + stride;
+        if !is_behind(entries, next, prefix, bound) {
+            return place_between(entries, low, next, prefix, bound);
+        }
+        low = next;
+        stride *= 2;
     }
-    if is_behind(entries, next, prefix, bound) {
-        return place_between(entries, next, all, prefix, bound);
-    }
-    at
+    place_between(entries, low, all, prefix, bound)
 }
 
-/// What a search in one entry found, else the first row of the next entry.
-fn or_next<'a, T: Entry>(
-    entries: &'a [Level<T>],
-    at: usize,
-    found: Option<&'a Row>,
-) -> Option<&'a Row>
-    requires { at < length entries.now }
-    ensures { IsOrNext (λ level. joined T.rows level) entries.now at (option_copied found.entry) (option_copied result) }
+/// What a search in one entry found, else the first rows of the next entry.
+fn or_next<'a, T: Entry>(entries: &'a [Level<T>], at: usize, found: &'a [Row]) -> &'a [Row]
+    requires within { at < length entries.now }
+    requires run { IsRun (joined (λ level. joined T.rows level) entries.now) found.now }
+    ensures first { IsOrNext (λ level. joined T.rows level) entries.now at (slice_get found.now 0) (slice_get result.now 0) }
+    ensures run { IsRun (joined (λ level. joined T.rows level) entries.now) result.now }
 {
-    match found {
-        Some(row) => Some(row),
-        None => {
-            if entries.len() - 1 <= at {
-                return None;
-            }
-            let entry = &entries[at + 1];
-            Some(entry.first_row())
-        }
+    if !found.is_empty() {
+        return found;
     }
+    if entries.len() - 1 <= at {
+        return found;
+    }
+    let entry = &entries[at + 1];
+    T::first_rows(entry.entries())
 }
 
 /// The places in the lists of one entry, of the places in a list of entries.
@@ -162,6 +160,18 @@ fn below(near: &Near) -> Near {
     Near {
         list: near.list / 64,
         at: near.list % 64,
+    }
+}
+
+/// The places in the lists of the entry at a place: behind all, where another was searched last.
+#[inline]
+fn below_at(near: &Near, at: usize) -> Near {
+    if at == near.at {
+        return below(near);
+    }
+    Near {
+        list: 0,
+        at: usize::MAX,
     }
 }
 
@@ -174,9 +184,15 @@ fn above(lower: &Near) -> usize {
 impl<T: Entry> Entry for Level<T> {
     ghost rows = { λ s. joined T.rows s };
 
-    ghost is_full = { λ s. length s == 64 };
+    ghost is_full = { λ s. T.is_many (length s) };
+
+    ghost is_many = { λ n. n == 64 };
 
     ghost most = { 65 + T.most };
+
+    fn shared_limit() -> usize {
+        LIMIT
+    }
 
     fn first(&self) -> &Row {
         self.first_row()
@@ -190,41 +206,28 @@ impl<T: Entry> Entry for Level<T> {
         least_among(&self.entries, from)
     }
 
+    fn first_rows<'a>(entries: &'a [Level<T>]) -> &'a [Row] {
+        let entry = &entries[0];
+        T::first_rows(entry.entries())
+    }
+
     /// `near.at` is the place in this list, and `near.list` has the places in the lists below it, in digits of 64.
-    fn row_near<'a>(
+    fn rows_near<'a>(
         entries: &'a [Level<T>],
         near: &mut Near,
         prefix: &[Key],
         bound: Key,
-    ) -> Option<&'a Row> {
+    ) -> &'a [Row] {
         if entries.is_empty() {
-            return None;
+            return &[];
         }
         let at = place_near(entries, near.at, prefix, bound);
-        let mut lower = below(near);
+        let mut lower = below_at(near, at);
         let entry = &entries[at];
-        let found = T::row_near(entry.entries(), &mut lower, prefix, bound);
+        let found = T::rows_near(entry.entries(), &mut lower, prefix, bound);
         near.list = above(&lower);
         near.at = at;
         or_next(entries, at, found)
-    }
-
-    #[inline]
-    fn row_here<'a>(
-        entries: &'a [Level<T>],
-        near: &mut Near,
-        prefix: &[Key],
-        bound: Key,
-    ) -> Option<&'a Row> {
-        let at = near.at;
-        if entries.len() <= at {
-            return None;
-        }
-        let entry = &entries[at];
-        let mut lower = below(near);
-        let found = T::row_here(entry.entries(), &mut lower, prefix, bound);
-        near.list = above(&lower);
-        found
     }
 
     fn row_about(&self, along: Fraction) -> &Row {
@@ -238,7 +241,7 @@ impl<T: Entry> Entry for Level<T> {
 
     fn put<L>(&mut self, row: Row, made: &mut Moves<L>) -> Result<Put<Level<T>>, NoMemory> {
         let alloc = *self.entries.allocator();
-        let put = put_among(&mut self.entries, row, LIMIT, made)?;
+        let put = put_among(&mut self.entries, row, LIMIT, T::shared_limit(), made)?;
         match put {
             Put::Was => Ok(Put::Was),
             Put::Fits => Ok(Put::Fits),

@@ -47,7 +47,7 @@ pub fn put_in<L>(
         *nodes = root_of(*nodes.allocator(), row, made)?;
         return Ok(true);
     }
-    let put = put_among(nodes, row, usize::MAX, made)?;
+    let put = put_among(nodes, row, usize::MAX, usize::MAX, made)?;
     match put {
         Put::Was => Ok(false),
         Put::Fits => Ok(true),

@@ -1,12 +1,11 @@
 //! Where a row lies in a list of entries.
-ghost use Rattle.std.specs.Prelude.{◌≡◌, ◌<◌, [], ◌∷◌, ◌++◌, true, length};
-ghost use Rattle.std.specs.List.{AllByRecursion};
+ghost use Rattle.std.specs.Prelude.{◌≡◌, ◌<◌, true, length};
 ghost use Rattle.std.specs.Option.{option_copied};
 ghost use Rattle.lt_face.specs.Rows.{IsAscending, has_row, first_from};
 ghost use Rattle.lt_shared.specs.Entries.{joined, IsPlace, IsOrNext};
 
 use crate::entry::Entry;
-use lt_face::{Fraction, Key, Near, Row};
+use lt_face::{Fraction, Row};
 
 /// The place of the last entry whose first row is at most the row, or of the first entry.
 pub fn place<T: Entry>(entries: &[T], row: &Row) -> usize
@@ -69,24 +68,6 @@ pub fn least_among<'a, T: Entry>(entries: &'a [T], from: &Row) -> Option<&'a Row
     let at = place(entries, from);
     let entry = &entries[at];
     or_next(entries, at, entry.row_at_least(from))
-}
-
-/// The least row of the entries that is at least the prefix and then the bound. The page that `near` says is searched first.
-pub fn near_among<'a, T: Entry>(
-    entries: &'a [T],
-    near: &mut Near,
-    prefix: &Row,
-    bound: Key,
-) -> Option<&'a Row>
-    requires rises { IsAscending (joined T.rows entries.now) }
-    requires wide { AllByRecursion (λ row. length prefix.now < length row) (joined T.rows entries.now) }
-    ensures { option_copied result ≡ first_from (joined T.rows entries.now) (prefix.now ++ bound ∷ []) }
-{
-    let cells = prefix.cells();
-    match T::row_here(entries, near, cells, bound) {
-        Some(row) => Some(row),
-        None => T::row_near(entries, near, cells, bound),
-    }
 }
 
 /// A row about so far along the entries, where each has about as many rows: the one that is so far along the entry in which

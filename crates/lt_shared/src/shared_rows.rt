@@ -6,16 +6,17 @@ ghost use Rattle.lt_face.specs.Rows.{IsRow, IsRowSet, has_row, with_row, without
 ghost use Rattle.lt_shared.specs.Shared.{root_rows, IsGrown};
 
 use crate::building::nodes_of;
+use crate::entry::Entry;
 use crate::level::Node;
 use crate::root::{put_in, take_from};
-use crate::search::{has_among, least_among, near_among, row_along};
+use crate::search::{has_among, least_among, row_along};
 use lt_face::{Fraction, Key, Moves, Near, NoMemory, Row, RowList, RowReads, RowSet};
 use std::alloc::Global;
 use std::marker::Model;
 use std::sync::Arc;
 
 /// A set of rows in three levels of lists: a root of nodes, a node of 1 to 64 pages, a page of 1 to 64 rows. Sets share
-/// what they have in common: an edit copies the root's list, one node and one page, where they have another owner.
+/// what they have in common: an edit copies the root's list, one node and one page (or halves of it), where they have another owner.
 #[derive(Drop)]
 pub struct SharedRows {
     width: usize,
@@ -126,8 +127,8 @@ impl RowReads for SharedRows {
         least_among(&self.nodes, from)
     }
 
-    fn row_near(&self, near: &mut Near, prefix: &Row, bound: Key) -> Option<&Row> {
-        near_among(&self.nodes, near, prefix, bound)
+    fn rows_near(&self, near: &mut Near, prefix: &[Key], bound: Key) -> &[Row] {
+        Node::rows_near(&self.nodes, near, prefix, bound)
     }
 
     fn row_about(&self, along: Fraction) -> Option<&Row> {

@@ -12,8 +12,8 @@ overflow_add-last g c =
     let rows = g.R.RowReads.rows c.args.rows.now in
     let set = c.width-width.ensures.is_set in
     let one = each_has (IsRow w) rows c.args.row.now set.each c.requires in
-    let is : c.args.row.now ≡ c.pop.new.self ++ c.in-Some.last ∷ [] = sym c.copy_row-prefix.ensures ∙ c.in-Some.ensures.cells in
-    let cell : c.in-Some.last < 2 ^ 120 = last_cell c.pop.new.self c.in-Some.last (subst (λ (r : List ℕ). AllByRecursion IsCell r) is one.has_cells) in
+    let is : c.args.row.now ≡ c.in-Some.prefix.now ++ c.in-Some.last.now ∷ [] = sym c.cells-cells.ensures.cells ∙ c.in-Some.ensures.cases.0 in
+    let cell : c.in-Some.last.now < 2 ^ 120 = last_cell c.in-Some.prefix.now c.in-Some.last.now (subst (λ (r : List ℕ). AllByRecursion IsCell r) is one.has_cells) in
     omega (arith, cell)
 
 pub row_near-requires : goal.row_near-requires
@@ -22,8 +22,8 @@ row_near-requires g c =
     let rows = g.R.RowReads.rows c.args.rows.now in
     let set = c.width-width.ensures.is_set in
     let one = each_has (IsRow w) rows c.args.row.now set.each c.requires in
-    let is : c.args.row.now ≡ c.pop.new.self ++ c.in-Some.last ∷ [] = sym c.copy_row-prefix.ensures ∙ c.in-Some.ensures.cells in
-    let long : length c.args.row.now ≡ length c.pop.new.self + 1 = ap length is ∙ length-append c.pop.new.self (c.in-Some.last ∷ []) in
+    let is : c.args.row.now ≡ c.in-Some.prefix.now ++ c.in-Some.last.now ∷ [] = sym c.cells-cells.ensures.cells ∙ c.in-Some.ensures.cases.0 in
+    let long : length c.args.row.now ≡ length c.in-Some.prefix.now + 1 = ap length is ∙ length-append c.in-Some.prefix.now (c.in-Some.last.now ∷ []) in
     let wide : length c.args.row.now ≡ w = one.is_wide in
     omega (arith, long, wide)
 
@@ -33,8 +33,8 @@ returns-in-Some g c =
     let rows = g.R.RowReads.rows c.args.rows.now in
     let set = c.width-width.ensures.is_set in
     let one = each_has (IsRow w) rows c.args.row.now set.each c.requires in
-    let is : c.args.row.now ≡ c.pop.new.self ++ c.in-Some.last ∷ [] = sym c.copy_row-prefix.ensures ∙ c.in-Some.ensures.cells in
-    c.row_near.ensures ∙ from_above w rows c.args.row.now c.pop.new.self c.in-Some.last set one is
+    let is : c.args.row.now ≡ c.in-Some.prefix.now ++ c.in-Some.last.now ∷ [] = sym c.cells-cells.ensures.cells ∙ c.in-Some.ensures.cases.0 in
+    c.row_near.ensures ∙ from_above w rows c.args.row.now c.in-Some.prefix.now c.in-Some.last.now set one is
 
 pub returns-in-None : goal.returns-in-None
 returns-in-None g c =
@@ -42,8 +42,4 @@ returns-in-None g c =
     let rows = g.R.RowReads.rows c.args.rows.now in
     let set = c.width-width.ensures.is_set in
     let one = each_has (IsRow w) rows c.args.row.now set.each c.requires in
-    none_above w rows c.args.row.now set.each one (ap length (sym c.copy_row-prefix.ensures) ∙ no_cells (length c.copy_row-prefix.result) c.in-None.ensures.some.1)
-  where
-    no_cells : (n : ℕ) → (0 < n → false ≡ true) → n ≡ 0
-    no_cells zero h = refl
-    no_cells (suc n) h = absurd (true≢false (sym (h (omega arith))))
+    none_above w rows c.args.row.now set.each one (ap length (sym c.cells-cells.ensures.cells) ∙ c.in-None.ensures.cases)

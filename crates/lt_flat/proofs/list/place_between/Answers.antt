@@ -27,8 +27,8 @@ loop-low-preserved c =
       above = not_below_from c.args.rows.now q middle c.index-rows-middle.result c.requires.rises (omega (arith, lt, c.loop-low.invariant.within)) c.index-rows-middle.is (sym c.is_below.ensures ∙ c.if-is_below.false);
     }
 
-pub returns : goal.returns
-returns c =
+pub returns-clause-found : goal.returns-clause-found
+returns-clause-found c =
     let q = c.args.prefix.now ++ c.args.bound ∷ [] in
     let same : c.loop-low.high ≡ c.loop-low.low = omega (arith, c.loop-low.invariant.order, c.loop-low-test.false) in
     found_between c.args.rows.now q c.loop-low.low (omega (arith, same, c.loop-low.invariant.within)) c.loop-low.invariant.below

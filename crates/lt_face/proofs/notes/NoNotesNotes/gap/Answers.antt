@@ -1,5 +1,0 @@
-use Rattle.std.proofs.Common.{rules}
-use Rattle.lt_face.proofs.notes.NoNotesNotes.gap.Goals as goal
-
-pub returns : goal.returns
-returns c = search rules
