@@ -5,7 +5,7 @@ use Rattle.std.proofs.lemmas.Bool.{cases_lt}
 use Rattle.std.proofs.lemmas.Bool.Decides.{nat_tests}
 use Rattle.std.proofs.lemmas.Grind.{common_steps}
 use Rattle.lt_face.specs.declared.key.Gap.{Gap}
-use Rattle.lt_face.specs.Noted.{gained, Gains}
+use Rattle.lt_leap.specs.Noted.{gained, Gains}
 use Rattle.lt_leap.specs.Search.{lies_in, IsGapOf, Notes}
 
 pub gained-none : (old : Option (List (ℕ × Gap))) → old ≡ gained old []
@@ -20,15 +20,15 @@ gained-more (Some kept) a b = ap Some (append_assoc kept a b)
 pub notes-none : (lists : List (List ℕ)) (start : ℕ) (old : Option (List (ℕ × Gap))) → Notes lists start start old old 0
 notes-none lists start old = record { gaps = []; is = gained-none old; true_gaps = tt; covers = λ k le lt. absurd (omega arith); few = omega arith }
 
-any_left : (k : ℕ) (a b : List (ℕ × Gap)) → list_any (lies_in k) a ≡ true → list_any (lies_in k) (a ++ b) ≡ true
+pub any_left : (k : ℕ) (a b : List (ℕ × Gap)) → list_any (lies_in k) a ≡ true → list_any (lies_in k) (a ++ b) ≡ true
 any_left k (g ∷ a) b h = elim (lies_in k g) as (λ t. (t || list_any (lies_in k) a) ≡ true → (t || list_any (lies_in k) (a ++ b)) ≡ true) [ true ↦ λ e. refl | false ↦ λ e. any_left k a b e ] h
 any_left k [] b h = absurd (let f : true ≡ false = sym h in let g : ⊥ = cc in g)
 
-any_last : (k : ℕ) (a : List (ℕ × Gap)) (g : ℕ × Gap) → lies_in k g ≡ true → list_any (lies_in k) (a ++ g ∷ []) ≡ true
+pub any_last : (k : ℕ) (a : List (ℕ × Gap)) (g : ℕ × Gap) → lies_in k g ≡ true → list_any (lies_in k) (a ++ g ∷ []) ≡ true
 any_last k [] g h = rw h refl
 any_last k (f ∷ a) g h = elim (lies_in k f) as (λ t. (t || list_any (lies_in k) (a ++ g ∷ [])) ≡ true) [ true ↦ refl | false ↦ any_last k a g h ]
 
-each_last : (P : ℕ × Gap → Type 0) (a : List (ℕ × Gap)) (g : ℕ × Gap) → AllByRecursion P a → P g → AllByRecursion P (a ++ g ∷ [])
+pub each_last : (P : ℕ × Gap → Type 0) (a : List (ℕ × Gap)) (g : ℕ × Gap) → AllByRecursion P a → P g → AllByRecursion P (a ++ g ∷ [])
 each_last P [] g all one = (one, tt)
 each_last P (f ∷ a) g all one = (all.0, each_last P a g all.1 one)
 

@@ -3,11 +3,11 @@ use Rattle.std.proofs.Common.{◌≡◌, ℕ, ◌+◌, ◌≤◌, List, [], ◌�
 use Rattle.std.specs.Prelude.{OnErr}
 use Rattle.std.proofs.lemmas.Grind.{common_steps}
 use Rattle.lt_face.specs.declared.key.Gap.{Gap}
-use Rattle.lt_face.specs.Noted.{gained, Gains}
+use Rattle.lt_leap.specs.Noted.{gained, Gains}
 use Rattle.lt_leap.specs.Moves.{IsMove, Leads, AreGapsOf, AreMade, IsGivenUp}
 use Rattle.lt_leap.proofs.Gaps.{gained-none, gained-more}
 
-leads-more : (lists : List (List ℕ)) (from to : List ℕ) (moves : List (ℕ × Gap)) (move : ℕ × Gap) → Leads lists from moves to → IsMove lists to move → Leads lists from (moves ++ move ∷ []) (set to move.0 move.1.hi)
+pub leads-more : (lists : List (List ℕ)) (from to : List ℕ) (moves : List (ℕ × Gap)) (move : ℕ × Gap) → Leads lists from moves to → IsMove lists to move → Leads lists from (moves ++ move ∷ []) (set to move.0 move.1.hi)
 leads-more lists from to [] move leads is = (subst (λ heres. IsMove lists heres move) leads is, ap (λ heres. set heres move.0 move.1.hi) leads)
 leads-more lists from to (first ∷ moves) move leads is = (leads.0, leads-more lists (set from first.0 first.1.hi) to moves move leads.1 is)
 

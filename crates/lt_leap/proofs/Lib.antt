@@ -11,3 +11,10 @@ pub mod Made
 pub mod Paid
 pub mod Standing
 pub mod Shifted
+pub mod Rounds
+pub mod AtPlaces
+pub mod Telling
+pub mod Seeks
+pub mod Meets
+pub mod Sought
+pub mod EachMoved

@@ -7,7 +7,7 @@ use Rattle.std.proofs.lemmas.Bool.Decides.{nat_tests}
 use Rattle.std.proofs.lemmas.Grind.{common_steps}
 use Rattle.lt_face.specs.declared.key.Gap.{Gap}
 use Rattle.lt_face.specs.Keys.{end_key, least_from, IsPlace, IsKeyList}
-use Rattle.lt_face.specs.Noted.{Gains}
+use Rattle.lt_leap.specs.Noted.{Gains}
 use Rattle.lt_leap.specs.Common.{has_key, common_keys}
 use Rattle.lt_leap.specs.Ring.{keys_at, IsRing}
 use Rattle.lt_leap.specs.Potential.{moves_left}

@@ -4,3 +4,5 @@ pub mod Potential
 pub mod Moves
 pub mod Search
 pub mod View
+pub mod Noted
+pub mod Places

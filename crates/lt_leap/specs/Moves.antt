@@ -3,7 +3,7 @@
 use Rattle.std.specs.Prelude.{◌≡◌, ◌≢◌, ◌≤◌, ◌<◌, ◌+◌, ◌⊎◌, ⊤, ℕ, List, [], ◌∷◌, length, slice_index, slice_set, Option}
 use Rattle.lt_face.specs.declared.key.Gap.{Gap}
 use Rattle.lt_face.specs.Keys.{end_key, least_from}
-use Rattle.lt_face.specs.Noted.{gained}
+use Rattle.lt_leap.specs.Noted.{gained}
 use Rattle.lt_leap.specs.Ring.{keys_at}
 
 -- iterators that stand at these keys can make the move: its iterator is not at its end, the bound is not below its key, and

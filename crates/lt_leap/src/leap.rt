@@ -9,12 +9,12 @@ ghost use Rattle.lt_leap.specs.Ring.{IsFound};
 ghost use Rattle.lt_leap.specs.Search.{IsGreatest, Notes as NotesGaps};
 
 use crate::make::ring_of;
+use crate::notes::Notes;
 use crate::ring::{advance, search};
 use lt_face::key::{END, Key};
 use lt_face::key_iter::KeyIter;
 use lt_face::memory::NoMemory;
 use lt_face::moves::Moves;
-use lt_face::notes::Notes;
 use std::alloc::Global;
 use std::marker::Model;
 

@@ -7,11 +7,11 @@ ghost use Rattle.lt_leap.specs.Potential.{moves_left};
 ghost use Rattle.lt_leap.specs.Ring.{keys_at, IsRing};
 ghost use Rattle.lt_leap.specs.Search.{NonePassed, changed, Notes as NotesGaps};
 
+use crate::notes::Notes;
 use lt_face::key::{END, Gap, Key};
 use lt_face::key_iter::KeyIter;
 use lt_face::memory::NoMemory;
 use lt_face::moves::Moves;
-use lt_face::notes::Notes;
 
 /// The first of the ring goes to its end.
 fn put_last(ring: &mut Vec<u32>)

@@ -1,6 +1,6 @@
 use Rattle.std.proofs.Common.{rules, ◌≡◌, ◌<◌, ℕ, map, length, slice_index, sym, ap, ◌+◌, ◌≤◌, length-set, ◌∙◌, subst, refl, arith}
 use Rattle.std.proofs.lemmas.List.{length-map}
-use Rattle.lt_face.specs.Noted.{Gains}
+use Rattle.lt_leap.specs.Noted.{Gains}
 use Rattle.lt_face.specs.Keys.{least_from}
 use Rattle.lt_leap.specs.Search.{changed}
 use Rattle.lt_leap.proofs.Changed.{changed-same, changed-set, changed-chain}

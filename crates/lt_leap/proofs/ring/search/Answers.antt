@@ -1,6 +1,6 @@
 use Rattle.std.proofs.Common.{rules, ◌≡◌, ◌-◌, ℕ, List, set, slice_index, map, length, inl, inr, ◌∙◌, sym, ap, subst, refl, arith}
 use Rattle.lt_face.specs.Keys.{least_from}
-use Rattle.lt_face.specs.Noted.{Gains}
+use Rattle.lt_leap.specs.Noted.{Gains}
 use Rattle.lt_leap.specs.Ring.{keys_at}
 use Rattle.std.proofs.lemmas.List.{length-map}
 use Rattle.lt_leap.proofs.Searched.{searching-none, searching-turned, to_last, low_greatest, left_turned, left_so_far, left_at_failure, searched, all_at}
