@@ -18,6 +18,11 @@ use Rattle.lt_sense.specs.Cut.{without_key, without_keys, has_room}
 use Rattle.lt_sense.specs.Ordered.{gaps_in}
 use Rattle.lt_sense.specs.Stored.{family_gap, run_gap, stored_gap}
 
+pub get_default : {X : Type 0} (xs : List X) (i : ℕ) (d e : X) → i < length xs → get_or xs i d ≡ get_or xs i e
+get_default [] i d e lt = absurd (omega arith)
+get_default (x ∷ xs) zero d e lt = refl
+get_default (x ∷ xs) (suc i) d e lt = get_default xs i d e (omega arith)
+
 -- ---- cells
 
 ascend_drop : (i : ℕ) (xs : List ℕ) → AreInOrder (λ a b. a < b) xs → AreInOrder (λ a b. a < b) (drop i xs)

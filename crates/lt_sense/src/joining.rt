@@ -19,7 +19,13 @@ impl Store {
         let prefix = other.prefix_of(gap);
         let run = other.runs[gap.run];
         let family = &other.families[run.family];
-        self.add_gap(family.relation, &family.columns, &prefix, gap.lo, gap.hi)
+        self.add_gap(
+            family.relation,
+            &family.columns,
+            prefix.cells(),
+            gap.lo,
+            gap.hi,
+        )
     }
 
     /// Adds a hit of another.

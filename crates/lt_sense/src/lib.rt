@@ -4,13 +4,11 @@
 mod counted;
 mod covering;
 mod cutting;
-mod gathering;
 mod hits;
 mod joining;
+mod keys_at;
 mod merging;
-mod no_noted;
 mod no_sense;
-mod noted;
 mod order;
 mod sealing;
 mod sense;
@@ -19,10 +17,9 @@ mod spot;
 mod store;
 
 pub use covering::{Hit, KeptGap};
+pub use keys_at::KeysAt;
 pub use lt_face::items::Changes;
-pub use no_noted::NoNoted;
 pub use no_sense::NoSense;
-pub use noted::{Noted, NotedGaps, Noting};
 pub use sense::Sense;
 pub use senses::{Sensed, Senses};
 pub use spot::Spot;

@@ -1,10 +1,9 @@
 //! A sense that nobody will ask.
-ghost use Rattle.std.specs.Prelude.{◌≡◌, ◌∷◌, ◌++◌, []};
+ghost use Rattle.std.specs.Prelude.{◌≡◌};
 ghost use Rattle.std.specs.Borrow.{ftrue};
 ghost use Rattle.lt_sense.specs.Kept.{Sense as Kept};
-ghost use Rattle.lt_sense.specs.Gathered.{gathered};
 
-use crate::no_noted::NoNoted;
+use crate::keys_at::KeysAt;
 use lt_face::items::Perm;
 use lt_face::key::Key;
 use lt_face::row::Row;
@@ -21,45 +20,51 @@ impl Model for NoSense {
 }
 
 impl NoSense {
-    /// Without gaps and hits.
-    pub(crate) fn nothing() -> NoSense
-        ensures { result.seen ≡ record { gaps = []; hits = [] } }
+    /// With the gaps and hits that its caller says.
+    #[inline]
+    pub(crate) fn of() -> NoSense
+        ghost all: { Kept }
+        ensures { result.seen ≡ all }
     {
         NoSense {}
     }
 
-    /// With one gap more.
+    /// The same, where they depend on a gap.
+    #[inline]
     pub(crate) fn with_gap(
         _old: &NoSense,
-        _relation: &u32,
+        _relation: u32,
         _perm: &Perm,
-        _prefix: &Row,
-        _lo: &Key,
-        _hi: &Key,
+        _prefix: &[Key],
+        _lo: Key,
+        _hi: Key,
     ) -> NoSense
-        ensures { result.seen ≡ record { gaps = _old.now.seen.gaps ++ record { relation = _relation.now; columns = _perm.now; prefix = _prefix.now; lo = _lo.now; hi = _hi.now } ∷ []; hits = _old.now.seen.hits } }
+        ghost all: { Kept }
+        ensures { result.seen ≡ all }
     {
-        NoSense {}
+        NoSense::of()
     }
 
-    /// With the gaps that an iterator noted.
-    pub(crate) fn with_gaps(
+    /// The same, where they depend on a hit.
+    #[inline]
+    pub(crate) fn with_hit(_old: &NoSense, _relation: u32, _row: &Row) -> NoSense
+        ghost all: { Kept }
+        ensures { result.seen ≡ all }
+    {
+        NoSense::of()
+    }
+
+    /// The same, where they depend on a hit by keys.
+    #[inline]
+    pub(crate) fn with_hit_at<K: KeysAt>(
         _old: &NoSense,
-        _relation: &u32,
-        _perm: &Perm,
-        _prefix: &Row,
-        _iter: &usize,
-        _noted: &NoNoted,
+        _relation: u32,
+        _places: &[usize],
+        _keys: &K,
     ) -> NoSense
-        ensures { result.seen ≡ record { gaps = _old.now.seen.gaps ++ gathered _relation.now _perm.now _prefix.now _iter.now _noted.now.gaps; hits = _old.now.seen.hits } }
+        ghost all: { Kept }
+        ensures { result.seen ≡ all }
     {
-        NoSense {}
-    }
-
-    /// With one hit more.
-    pub(crate) fn with_hit(_old: &NoSense, _relation: &u32, _row: &Row) -> NoSense
-        ensures { result.seen ≡ record { gaps = _old.now.seen.gaps; hits = _old.now.seen.hits ++ record { relation = _relation.now; row = _row.now } ∷ [] } }
-    {
-        NoSense {}
+        NoSense::of()
     }
 }

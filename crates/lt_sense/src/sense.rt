@@ -6,7 +6,7 @@ use crate::covering::{Hit, KeptGap};
 use crate::spot::Spot;
 use crate::store::Store;
 use lt_face::items::{Changes, Items, Perm};
-use lt_face::key::{Gap, Key};
+use lt_face::key::Key;
 use lt_face::memory::NoMemory;
 use lt_face::moves::Moves;
 use lt_face::row::Row;
@@ -38,7 +38,6 @@ impl Sense {
     ghost use Rattle.lt_sense.specs.Sense.{covers, gap_covers, hit_covers, IsTight};
     ghost use Rattle.lt_sense.specs.Cells.{HaveSameCells};
     ghost use Rattle.lt_sense.specs.Cut.{cut};
-    ghost use Rattle.lt_sense.specs.Gathered.{gathered};
     ghost use Rattle.lt_face.specs.Lists.{AreInOrder};
     ghost use Rattle.lt_sense.specs.Ordered.{IsSealed, orders_of};
     ghost use Rattle.lt_sense.specs.Spots.{IsSpotOf, IsFirstSpot, AreUncovered, IsFirstCovered};
@@ -54,6 +53,7 @@ impl Sense {
     }
 
     /// Adds a gap, unless it is empty. Want of memory leaves the sense as it was.
+    #[inline]
     pub fn add_gap(
         &mut self,
         relation: u32,
@@ -68,30 +68,30 @@ impl Sense {
         ensures hits { self.new.hits ≡ self.old.hits }
         ensures err { OnErr result (self.new ≡ self.old) }
     {
+        self.add_gap_under(relation, perm, prefix.cells(), lo, hi)
+    }
+
+    /// As `add_gap`, of a prefix that is no wider than a row.
+    pub(crate) fn add_gap_under(
+        &mut self,
+        relation: u32,
+        perm: &Perm,
+        prefix: &[Key],
+        lo: Key,
+        hi: Key,
+    ) -> Result<(), NoMemory>
+        requires narrow { length perm.now ≤ most_columns }
+        requires prefix { length prefix.now ≤ most_columns }
+        ensures kept { OnOk result (lo < hi → self.new.gaps ≡ self.old.gaps ++ record { relation = relation; columns = perm.now; prefix = prefix.now; lo = lo; hi = hi } ∷ []) }
+        ensures empty { OnOk result (hi ≤ lo → self.new.gaps ≡ self.old.gaps) }
+        ensures hits { self.new.hits ≡ self.old.hits }
+        ensures err { OnErr result (self.new ≡ self.old) }
+    {
         if hi <= lo {
             return Ok(());
         }
         self.sealed = false;
         self.store.add_gap(relation, perm, prefix, lo, hi)?;
-        Ok(())
-    }
-
-    /// Adds the gaps under one prefix that an iterator noted, but those that are empty. Want of memory leaves the sense as it was.
-    pub fn add_gaps(
-        &mut self,
-        relation: u32,
-        perm: &Perm,
-        prefix: &Row,
-        iter: usize,
-        noted: &[(u32, Gap)],
-    ) -> Result<(), NoMemory>
-        requires { length perm.now ≤ most_columns }
-        ensures kept { OnOk result (self.new.gaps ≡ self.old.gaps ++ gathered relation perm.now prefix.now iter noted.now) }
-        ensures hits { self.new.hits ≡ self.old.hits }
-        ensures err { OnErr result (self.new ≡ self.old) }
-    {
-        self.sealed = false;
-        self.store.add_gaps(relation, perm, prefix, iter, noted)?;
         Ok(())
     }
 

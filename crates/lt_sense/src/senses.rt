@@ -1,12 +1,11 @@
 //! Where the gaps and hits of a join go.
-ghost use Rattle.std.specs.Prelude.{◌≡◌, ◌<◌, ◌≤◌, ◌∷◌, ◌++◌, [], length, OnOk};
+ghost use Rattle.std.specs.Prelude.{◌≡◌, ◌<◌, ◌≤◌, ◌∷◌, ◌++◌, [], length, map, OnOk};
+ghost use Rattle.std.specs.List.{AllByRecursion};
 ghost use Rattle.lt_face.specs.Limits.{most_columns};
-ghost use Rattle.lt_sense.specs.Gathered.{gathered};
 ghost use Rattle.lt_sense.specs.Kept.{Sense as Kept};
 
-use crate::no_noted::NoNoted;
+use crate::keys_at::{KeysAt, row_of};
 use crate::no_sense::NoSense;
-use crate::noted::{Noted, NotedGaps, Noting};
 use crate::sense::Sense;
 use lt_face::items::Perm;
 use lt_face::key::Key;
@@ -17,9 +16,6 @@ use std::marker::Model;
 
 /// Takes the gaps that a join's moves passed and the rows that it met. Clauses see what it was given, whether it keeps that or not.
 pub trait Senses: Drop {
-    /// What takes the gaps of moves first.
-    type Noted: Noted;
-
     /// The gaps and the hits that it was given.
     ghost seen: { Self → Kept };
 
@@ -27,115 +23,132 @@ pub trait Senses: Drop {
     fn none(alloc: Global) -> Self
         ensures { seen result ≡ record { gaps = []; hits = [] } };
 
+    /// Where a level that has one key alone is opened: what keeps gaps has those before the key, too.
+    fn opens_at(key: Key) -> Key
+        ensures { result ≤ key };
+
     /// Takes a gap, unless it is empty.
     fn gap(
         &mut self,
         relation: u32,
         perm: &Perm,
-        prefix: &Row,
+        prefix: &[Key],
         lo: Key,
         hi: Key,
     ) -> Result<(), NoMemory>
-        requires { length perm.now ≤ most_columns }
+        requires narrow { length perm.now ≤ most_columns }
+        requires prefix { length prefix.now ≤ most_columns }
         ensures kept { OnOk result (lo < hi → (seen self.new).gaps ≡ (seen self.old).gaps ++ record { relation = relation; columns = perm.now; prefix = prefix.now; lo = lo; hi = hi } ∷ []) }
         ensures empty { OnOk result (hi ≤ lo → (seen self.new).gaps ≡ (seen self.old).gaps) }
-        ensures hits { (seen self.new).hits ≡ (seen self.old).hits };
-
-    /// Takes the gaps under one prefix that an iterator noted, but those that are empty.
-    fn gaps(
-        &mut self,
-        relation: u32,
-        perm: &Perm,
-        prefix: &Row,
-        iter: usize,
-        noted: &Self::Noted,
-    ) -> Result<(), NoMemory>
-        requires { length perm.now ≤ most_columns }
-        ensures kept { OnOk result ((seen self.new).gaps ≡ (seen self.old).gaps ++ gathered relation perm.now prefix.now iter (Self.Noted.list noted.now)) }
         ensures hits { (seen self.new).hits ≡ (seen self.old).hits };
 
     /// Takes a row that was met.
     fn hit(&mut self, relation: u32, row: &Row) -> Result<(), NoMemory>
         ensures kept { OnOk result ((seen self.new).hits ≡ (seen self.old).hits ++ record { relation = relation; row = row.now } ∷ []) }
         ensures gaps { (seen self.new).gaps ≡ (seen self.old).gaps };
+
+    /// Takes the row that has, in each column, the key of the level that its place says.
+    fn hit_at<K: KeysAt>(
+        &mut self,
+        alloc: Global,
+        relation: u32,
+        places: &[usize],
+        keys: &K,
+    ) -> Result<(), NoMemory>
+        requires narrow { length places.now ≤ most_columns }
+        requires there { AllByRecursion (λ l. l < K.count keys.now) places.now }
+        ensures kept { OnOk result ((seen self.new).hits ≡ (seen self.old).hits ++ record { relation = relation; row = map (K.key keys.now) places.now } ∷ []) }
+        ensures gaps { (seen self.new).gaps ≡ (seen self.old).gaps };
 }
 
 impl Senses for Sense {
-    type Noted = NotedGaps;
-
     ghost seen = { λ s. s };
 
+    #[inline]
     fn none(alloc: Global) -> Sense {
         Sense::new(alloc)
     }
 
+    #[inline]
+    fn opens_at(_key: Key) -> Key {
+        0
+    }
+
+    #[inline]
     fn gap(
         &mut self,
         relation: u32,
         perm: &Perm,
-        prefix: &Row,
+        prefix: &[Key],
         lo: Key,
         hi: Key,
     ) -> Result<(), NoMemory> {
-        self.add_gap(relation, perm, prefix, lo, hi)?;
+        self.add_gap_under(relation, perm, prefix, lo, hi)?;
         Ok(())
     }
 
-    fn gaps(
-        &mut self,
-        relation: u32,
-        perm: &Perm,
-        prefix: &Row,
-        iter: usize,
-        noted: &NotedGaps,
-    ) -> Result<(), NoMemory> {
-        self.add_gaps(relation, perm, prefix, iter, &noted.gaps)?;
-        Ok(())
-    }
-
+    #[inline]
     fn hit(&mut self, relation: u32, row: &Row) -> Result<(), NoMemory> {
         self.add_hit(relation, row)?;
+        Ok(())
+    }
+
+    fn hit_at<K: KeysAt>(
+        &mut self,
+        alloc: Global,
+        relation: u32,
+        places: &[usize],
+        keys: &K,
+    ) -> Result<(), NoMemory> {
+        let row = row_of(alloc, places, keys);
+        self.add_hit(relation, &row)?;
         Ok(())
     }
 }
 
 impl Senses for NoSense {
-    type Noted = NoNoted;
-
     ghost seen = { λ s. s.seen };
 
+    #[inline]
     fn none(_alloc: Global) -> NoSense {
-        NoSense::nothing()
+        NoSense::of()
     }
 
+    #[inline]
+    fn opens_at(key: Key) -> Key {
+        key
+    }
+
+    #[inline]
     fn gap(
         &mut self,
         relation: u32,
         perm: &Perm,
-        prefix: &Row,
+        prefix: &[Key],
         lo: Key,
         hi: Key,
     ) -> Result<(), NoMemory> {
         if lo < hi {
-            *self = NoSense::with_gap(self, &relation, perm, prefix, &lo, &hi);
+            *self = NoSense::with_gap(self, relation, perm, prefix, lo, hi);
         }
         Ok(())
     }
 
-    fn gaps(
-        &mut self,
-        relation: u32,
-        perm: &Perm,
-        prefix: &Row,
-        iter: usize,
-        noted: &NoNoted,
-    ) -> Result<(), NoMemory> {
-        *self = NoSense::with_gaps(self, &relation, perm, prefix, &iter, noted);
+    #[inline]
+    fn hit(&mut self, relation: u32, row: &Row) -> Result<(), NoMemory> {
+        *self = NoSense::with_hit(self, relation, row);
         Ok(())
     }
 
-    fn hit(&mut self, relation: u32, row: &Row) -> Result<(), NoMemory> {
-        *self = NoSense::with_hit(self, &relation, row);
+    #[inline]
+    fn hit_at<K: KeysAt>(
+        &mut self,
+        _alloc: Global,
+        relation: u32,
+        places: &[usize],
+        keys: &K,
+    ) -> Result<(), NoMemory> {
+        *self = NoSense::with_hit_at(self, relation, places, keys);
         Ok(())
     }
 }
@@ -172,15 +185,17 @@ impl<S: Senses> Sensed<S> {
     }
 
     /// Adds a gap, unless it is empty.
+    #[inline]
     pub fn add_gap(
         &mut self,
         relation: u32,
         perm: &Perm,
-        prefix: &Row,
+        prefix: &[Key],
         lo: Key,
         hi: Key,
     ) -> Result<(), NoMemory>
-        requires { length perm.now ≤ most_columns }
+        requires narrow { length perm.now ≤ most_columns }
+        requires prefix { length prefix.now ≤ most_columns }
         ensures kept { OnOk result (lo < hi → self.new.gaps ≡ self.old.gaps ++ record { relation = relation; columns = perm.now; prefix = prefix.now; lo = lo; hi = hi } ∷ []) }
         ensures empty { OnOk result (hi ≤ lo → self.new.gaps ≡ self.old.gaps) }
         ensures hits { self.new.hits ≡ self.old.hits }
@@ -188,29 +203,30 @@ impl<S: Senses> Sensed<S> {
         self.senses.gap(relation, perm, prefix, lo, hi)
     }
 
-    /// Adds the gaps under one prefix that an iterator noted, but those that are empty.
-    pub fn add_gaps(
-        &mut self,
-        relation: u32,
-        perm: &Perm,
-        prefix: &Row,
-        iter: usize,
-        noted: &Noting<S::Noted>,
-    ) -> Result<(), NoMemory>
-        requires { length perm.now ≤ most_columns }
-        ensures kept { OnOk result (self.new.gaps ≡ self.old.gaps ++ gathered relation perm.now prefix.now iter noted.now) }
-        ensures hits { self.new.hits ≡ self.old.hits }
-    {
-        self.senses
-            .gaps(relation, perm, prefix, iter, noted.noted())
-    }
-
     /// Adds a row that was met.
+    #[inline]
     pub fn add_hit(&mut self, relation: u32, row: &Row) -> Result<(), NoMemory>
         ensures kept { OnOk result (self.new.hits ≡ self.old.hits ++ record { relation = relation; row = row.now } ∷ []) }
         ensures gaps { self.new.gaps ≡ self.old.gaps }
     {
         self.senses.hit(relation, row)
+    }
+
+    /// Adds the row that has, in each column, the key of the level that its place says.
+    #[inline]
+    pub fn add_hit_at<K: KeysAt>(
+        &mut self,
+        alloc: Global,
+        relation: u32,
+        places: &[usize],
+        keys: &K,
+    ) -> Result<(), NoMemory>
+        requires narrow { length places.now ≤ most_columns }
+        requires there { AllByRecursion (λ l. l < K.count keys.now) places.now }
+        ensures kept { OnOk result (self.new.hits ≡ self.old.hits ++ record { relation = relation; row = map (K.key keys.now) places.now } ∷ []) }
+        ensures gaps { self.new.gaps ≡ self.old.gaps }
+    {
+        self.senses.hit_at(alloc, relation, places, keys)
     }
 
     /// What took it all.

@@ -4,13 +4,11 @@ ghost use Rattle.std.specs.List.{list_any, AllByRecursion};
 ghost use Rattle.lt_face.specs.Limits.{most_columns};
 ghost use Rattle.lt_face.specs.Lists.{IsIn};
 ghost use Rattle.lt_sense.specs.Sense.{gap_covers, hit_covers};
-ghost use Rattle.lt_sense.specs.Gathered.{gathered};
 ghost use Rattle.lt_sense.specs.Stored.{piece_of, stored_gap, hit_of, sense_of, IsPiece, IsSound, GrowsBelow, IsRunFor};
 
 use crate::covering::{Hit, KeptGap, lies_in};
-use crate::gathering::push_gaps;
 use lt_face::items::Perm;
-use lt_face::key::{Gap, Key};
+use lt_face::key::Key;
 use lt_face::memory::NoMemory;
 use lt_face::row::Row;
 use std::alloc::Global;
@@ -88,7 +86,7 @@ impl Store {
     }
 
     /// Whether a run is of this relation, these columns and this prefix.
-    fn is_run(&self, at: usize, relation: u32, perm: &Perm, prefix: &Row) -> bool
+    fn is_run(&self, at: usize, relation: u32, perm: &Perm, prefix: &[Key]) -> bool
         requires sound { IsSound self.now }
         requires there { at < length self.now.runs.items }
         ensures { IsTrue result → IsRunFor self.now relation perm.now prefix.now at }
@@ -98,14 +96,14 @@ impl Store {
         if family.relation != relation {
             return false;
         }
-        if cells_of(&self.cells, run.prefix) != prefix.cells() {
+        if cells_of(&self.cells, run.prefix) != prefix {
             return false;
         }
         family.columns.as_slice() == perm.as_slice()
     }
 
     /// One of the latest runs that is of this relation, these columns and this prefix.
-    fn latest_run(&self, relation: u32, perm: &Perm, prefix: &Row) -> Option<usize>
+    fn latest_run(&self, relation: u32, perm: &Perm, prefix: &[Key]) -> Option<usize>
         requires { IsSound self.now }
         ensures { IfSome result (IsRunFor self.now relation perm.now prefix.now) }
     {
@@ -149,18 +147,19 @@ impl Store {
     }
 
     /// A new run of this relation, these columns and this prefix.
-    fn new_run(&mut self, relation: u32, perm: &Perm, prefix: &Row) -> Result<usize, NoMemory>
+    fn new_run(&mut self, relation: u32, perm: &Perm, prefix: &[Key]) -> Result<usize, NoMemory>
         requires sound { IsSound self.old }
         requires narrow { length perm.now ≤ most_columns }
+        requires prefix { length prefix.now ≤ most_columns }
         ensures sound { IsSound self.new }
         ensures grows { GrowsBelow self.old self.new }
         ensures run { IfOk result (IsRunFor self.new relation perm.now prefix.now) }
     {
         let family = self.family_for(relation, perm)?;
         let start = self.cells.len();
-        self.cells.extend_from_slice(prefix.cells())?;
+        self.cells.extend_from_slice(prefix)?;
         let at = self.runs.len();
-        let width = prefix.width();
+        let width = prefix.len();
         self.runs.push(Run {
             family,
             prefix: Piece { start, width },
@@ -169,9 +168,10 @@ impl Store {
     }
 
     /// A run of this relation, these columns and this prefix: one of the latest, if one is such.
-    fn run_for(&mut self, relation: u32, perm: &Perm, prefix: &Row) -> Result<usize, NoMemory>
+    fn run_for(&mut self, relation: u32, perm: &Perm, prefix: &[Key]) -> Result<usize, NoMemory>
         requires sound { IsSound self.old }
         requires narrow { length perm.now ≤ most_columns }
+        requires prefix { length prefix.now ≤ most_columns }
         ensures sound { IsSound self.new }
         ensures grows { GrowsBelow self.old self.new }
         ensures run { IfOk result (IsRunFor self.new relation perm.now prefix.now) }
@@ -188,12 +188,13 @@ impl Store {
         &mut self,
         relation: u32,
         perm: &Perm,
-        prefix: &Row,
+        prefix: &[Key],
         lo: Key,
         hi: Key,
     ) -> Result<(), NoMemory>
         requires sound { IsSound self.old }
         requires narrow { length perm.now ≤ most_columns }
+        requires prefix { length prefix.now ≤ most_columns }
         ensures sound { IsSound self.new }
         ensures kept { OnOk result ((sense_of self.new).gaps ≡ (sense_of self.old).gaps ++ record { relation = relation; columns = perm.now; prefix = prefix.now; lo = lo; hi = hi } ∷ []) }
         ensures hits { (sense_of self.new).hits ≡ (sense_of self.old).hits }
@@ -202,33 +203,6 @@ impl Store {
         let run = self.run_for(relation, perm, prefix)?;
         self.gaps.push(Passed { run, lo, hi })?;
         Ok(())
-    }
-
-    /// Adds the gaps under one prefix that an iterator noted, but those that are empty.
-    pub(crate) fn add_gaps(
-        &mut self,
-        relation: u32,
-        perm: &Perm,
-        prefix: &Row,
-        iter: usize,
-        noted: &[(u32, Gap)],
-    ) -> Result<(), NoMemory>
-        requires sound { IsSound self.old }
-        requires narrow { length perm.now ≤ most_columns }
-        ensures sound { IsSound self.new }
-        ensures kept { OnOk result ((sense_of self.new).gaps ≡ (sense_of self.old).gaps ++ gathered relation perm.now prefix.now iter noted.now) }
-        ensures hits { (sense_of self.new).hits ≡ (sense_of self.old).hits }
-        ensures err { OnErr result (sense_of self.new ≡ sense_of self.old) }
-    {
-        let run = self.new_run(relation, perm, prefix)?;
-        let count = self.gaps.len();
-        match push_gaps(&mut self.gaps, run, iter, noted) {
-            Ok(()) => Ok(()),
-            Err(refused) => {
-                self.gaps.truncate(count);
-                Err(refused)
-            }
-        }
     }
 
     /// Adds a row that was met.

@@ -2,8 +2,7 @@ use Rattle.std.proofs.Common.{◌≡◌, ◌<◌, ◌++◌, List, get_or, length
 use Rattle.lt_sense.specs.declared.store.Passed.{Passed}
 use Rattle.lt_sense.specs.Ordered.{gaps_in}
 use Rattle.lt_sense.specs.Stored.{stored_gap}
-use Rattle.lt_sense.proofs.Cuts.{cut_begun, cut_more, parts_of}
-use Rattle.lt_sense.proofs.Pushing.{get_default}
+use Rattle.lt_sense.proofs.Cuts.{cut_begun, cut_more, get_default, parts_of}
 use Rattle.lt_sense.proofs.store.Store.cut_gaps.Goals as goal
 
 pub loop-gap-init : goal.loop-gap-init

@@ -16,4 +16,4 @@ returns c so =
     let pre = (bytes_decides _ _).0 (not_false _ (sym c.ne.ensures ∙ c.if-ne.false)) in
     let col = (bytes_decides _ _).0 (sym c.eq.ensures ∙ so) in
     is_run_for s c.args.relation c.args.perm.now c.args.prefix.now c.args.at run family c.requires.there at_run at_family
-    (ap (λ cs. piece_of cs run.prefix) (sym c.deref.ensures.value) ∙ sym c.cells_of.ensures ∙ pre ∙ c.cells.ensures.cells) c.if-family-relation.false (sym c.as_slice.ensures ∙ col ∙ c.as_slice-2.ensures)
+    (ap (λ cs. piece_of cs run.prefix) (sym c.deref.ensures.value) ∙ sym c.cells_of.ensures ∙ pre) c.if-family-relation.false (sym c.as_slice.ensures ∙ col ∙ c.as_slice-2.ensures)
