@@ -3,6 +3,7 @@ pub mod Counting
 pub mod Distinct
 pub mod Elements
 pub mod Given
+pub mod LevelParts
 pub mod LevelSteps
 pub mod Needed
 pub mod Orders

@@ -22,13 +22,13 @@ ordered-append R (x ∷ xs) ys a b h = (
   ordered-append R xs ys a.1 b (λ z y l r. h z y (inr l) r),
 )
 
-ordered-below : (n : ℕ) → AreInOrder (λ x y. x < y) (below n)
+pub ordered-below : (n : ℕ) → AreInOrder (λ x y. x < y) (below n)
 ordered-below zero = tt
 ordered-below (suc n) =
     ordered-append (λ x y. x < y) (below n) (n ∷ []) (ordered-below n) (tt, tt)
     (λ x y h k. elim k [ inl e ↦ let lt = IsIn-below_from n x h in omega arith | inr r ↦ absurd r ])
 
-ordered-filter : (R : ℕ → ℕ → Type 0) (p : ℕ → Bool) (xs : List ℕ) → AreInOrder R xs → AreInOrder R (filter p xs)
+pub ordered-filter : (R : ℕ → ℕ → Type 0) (p : ℕ → Bool) (xs : List ℕ) → AreInOrder R xs → AreInOrder R (filter p xs)
 ordered-filter R p [] h = tt
 ordered-filter R p (x ∷ xs) h =
     elim (p x) as (λ b. AreInOrder R (cond b (x ∷ filter p xs) (filter p xs))) [

@@ -1,4 +1,5 @@
 pub mod Answering
+pub mod Holding
 pub mod Keyed
 pub mod Laws
 pub mod Lists

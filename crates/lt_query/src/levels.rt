@@ -8,7 +8,7 @@ ghost use Rattle.lt_query.specs.LevelsOf.{constants_of, first_place as first_lev
 ghost use Rattle.lt_query.specs.Order.{place_at, places_of, terms_at};
 
 use crate::places::is_var;
-use crate::{Atom, Level, Term, Test};
+use crate::{Atom, Level, Pins, Term, Test};
 use lt_face::items::Items;
 use lt_face::memory::NoMemory;
 use lt_model::syntax::Op;
@@ -30,10 +30,10 @@ fn constant_of(test: &Test, v: u32) -> Option<u128>
 }
 
 /// The constants that tests equate the variable with.
-fn constants(alloc: Global, tests: &[Test], v: u32) -> Result<Items<u128>, NoMemory>
+fn constants(alloc: Global, tests: &[Test], v: u32) -> Result<Pins, NoMemory>
     ensures { IfOk result (λ constants. constants ≡ constants_of tests.now v) }
 {
-    let mut constants = Items::new(alloc);
+    let mut constants = Pins::new(alloc);
     for test in tests {
         if let Some(c) = constant_of(test, v) {
             constants.push(c)?;
@@ -55,7 +55,7 @@ fn first_level(seen: &[Level], v: u32) -> Option<usize>
 }
 
 /// A list of one.
-fn only<T: Drop>(alloc: Global, x: T) -> Result<Items<T>, NoMemory>
+fn only(alloc: Global, x: usize) -> Result<Items<usize>, NoMemory>
     ensures { IfOk result (λ list. list ≡ x ∷ []) }
 {
     let mut list = Items::from_vec(Vec::with_capacity(alloc, 1)?);
@@ -72,7 +72,7 @@ fn variable_level(alloc: Global, tests: &[Test], seen: &[Level], v: u32) -> Resu
     match first_level(seen, v) {
         Some(first) => {
             let ties = only(alloc, first)?;
-            let pins = Items::new(alloc);
+            let pins = Pins::new(alloc);
             Ok(Level { term, pins, ties })
         }
         None => {
@@ -93,7 +93,8 @@ fn level(alloc: Global, tests: &[Test], seen: &[Level], term: Term) -> Result<Le
             Ok(level)
         }
         Term::Cell(c) => {
-            let pins = only(alloc, c)?;
+            let mut pins = Pins::new(alloc);
+            pins.push(c)?;
             let ties = Items::new(alloc);
             Ok(Level { term, pins, ties })
         }

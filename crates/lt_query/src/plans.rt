@@ -1,9 +1,13 @@
 //! What a plan is.
-ghost use Rattle.std.specs.Prelude.{◌≡◌, length, IfOk};
+ghost use Rattle.std.specs.Prelude.{◌≡◌, ◌<◌, length, IfOk};
+ghost use Rattle.std.specs.List.{AllByRecursion};
+ghost use Rattle.lt_query.specs.Holding.{atoms_at_level};
+ghost use Rattle.lt_query.specs.Lists.{IsRising};
 
 use crate::Term;
+use crate::holders::Holders;
+use crate::pins::Pins;
 use lt_face::items::{Items, Perm};
-use lt_face::key::Key;
 use lt_face::memory::NoMemory;
 use std::alloc::Global;
 use std::marker::Model;
@@ -15,7 +19,7 @@ use std::sync::Arc;
 #[derive(Drop)]
 pub struct Level {
     pub term: Term,
-    pub pins: Items<Key>,
+    pub pins: Pins,
     pub ties: Items<usize>,
 }
 
@@ -34,10 +38,10 @@ pub struct Plan {
     pub guides: Guides,
 }
 
-/// How the atoms of a body are gone through, in text order. Plans of one shape share it.
+/// How the atoms of a body are gone through, in text order, and which of them hold each level. Plans of one shape share it.
 #[derive(Drop)]
 pub struct Guides {
-    guides: Arc<Items<Guide>>,
+    holders: Arc<Holders>,
 }
 
 impl Model for Guides {
@@ -47,7 +51,7 @@ impl Model for Guides {
 
     ghost Value = { List Guide };
 
-    ghost view = { λ g. arc_value g.guides };
+    ghost view = { λ g. arc_value g.holders };
 }
 
 impl Guides {
@@ -55,30 +59,41 @@ impl Guides {
     pub fn new(alloc: Global, guides: Items<Guide>) -> Result<Guides, NoMemory>
         ensures { IfOk result (λ shared. shared ≡ guides) }
     {
-        let guides = Arc::new(alloc, guides)?;
-        Ok(Guides { guides })
+        let holders = Holders::new(alloc, guides)?;
+        let holders = Arc::new(alloc, holders)?;
+        Ok(Guides { holders })
     }
 
     /// A second owner.
     pub fn share(&self) -> Result<Guides, NoMemory>
         ensures { IfOk result (λ same. same ≡ self.now) }
     {
-        let guides = self.guides.clone()?;
-        Ok(Guides { guides })
+        let holders = self.holders.clone()?;
+        Ok(Guides { holders })
     }
 
     /// The guides.
     pub fn as_slice(&self) -> &[Guide]
         ensures { result.now ≡ self.now }
     {
-        self.guides.as_slice()
+        self.holders.as_slice()
     }
 
     /// How many there are.
     pub fn len(&self) -> usize
         ensures { result ≡ length self.now }
     {
-        self.guides.len()
+        self.holders.len()
+    }
+
+    /// The places, ascending, of the guides that hold a level: one of whose columns is at it.
+    #[inline]
+    pub fn at_level(&self, level: usize) -> &[usize]
+        ensures value { result.now ≡ atoms_at_level self.now level }
+        ensures within { AllByRecursion (λ i. i < length self.now) result.now }
+        ensures rising { IsRising result.now }
+    {
+        self.holders.at_level(level)
     }
 }
 
