@@ -138,15 +138,14 @@ GainsFewer-below atoms begun_sense s h t begun now after key so at_key gaps few 
     let b = below.hits in
     record { gaps = omega arith; hits = omega arith }
 
--- and then the level went on
-pub IsCredited-more : (atoms : ℕ) (begun_sense s h t u : Sense) (begun now after end key key' : ℕ) → IsCredited atoms begun_sense s begun now key → key < 2 ^ 128 - 1 → h.gaps ≡ s.gaps → length h.hits ≤ length s.hits + atoms → GainsFewer h t now after → LevelGains atoms t u after end key' → IsCredited atoms begun_sense u begun end key'
-IsCredited-more atoms begun_sense s h t u begun now after end key key' so at_key gaps few below level =
-    let whole = GainsFewer-below atoms begun_sense s h t begun now after key so at_key gaps few below in
+-- a key's hits and the walk below it, and then the level went on
+pub credited_key : (atoms : ℕ) (begun_sense s t u : Sense) (begun now after end key key' : ℕ) → IsCredited atoms begun_sense s begun now key → key < 2 ^ 128 - 1 → length t.gaps + now ≤ length s.gaps + after → length t.hits + now ≤ length s.hits + after + atoms → LevelGains atoms t u after end key' → IsCredited atoms begun_sense u begun end key'
+credited_key atoms begun_sense s t u begun now after end key key' so at_key gaps hits level =
     let e = ap length level.hits in
     let r = level.rises in
-    let a = whole.gaps in
-    let b = whole.hits in
-    let c = level.gaps in
+    let c = so.credit at_key in
+    let g = so.gains.gaps in
+    let h = level.gaps in
     record {
       gains = record { gaps = omega arith; hits = omega arith };
       credit = λ at_key'. (let p = level.paid at_key' in omega arith);

@@ -9,17 +9,21 @@ use Rattle.lt_face.specs.State.{Row, State, Has, permuted}
 use Rattle.lt_face.proofs.Membership.{IsIn-append_left, IsIn-append_right}
 use Rattle.lt_trie.specs.Trie.{TrieView}
 use Rattle.lt_query.specs.declared.plans.Guide.{Guide}
+use Rattle.lt_query.specs.Holding.{holds_level, guide_at, atoms_at_level}
+use Rattle.lt_query.specs.Lists.{below}
 use Rattle.lt_query.specs.Plan.{Keys, levels_of}
+use Rattle.lt_query.proofs.Distinct.{IsIn-below, IsIn-filter}
 use Rattle.lt_sense.specs.declared.covering.Hit.{Hit}
 use Rattle.lt_sense.specs.Kept.{Sense}
 use Rattle.lt_sense.specs.Sense.{IsTight}
 use Rattle.lt_join.specs.Explored.{before, hit_of}
 use Rattle.lt_leap.specs.Common.{has_key}
-use Rattle.lt_join.specs.Walked.{at, Grows}
-use Rattle.lt_join.specs.Holders.{OfAtom, IsWalkable, IsTrieOf, path_of, atoms_at}
+use Rattle.lt_join.specs.Walked.{at, Grows, HitsAbove}
+use Rattle.lt_join.specs.Holders.{IsWalkable, IsTrieOf, path_of}
 use Rattle.lt_join.proofs.Repair.{All_at}
 use Rattle.lt_join.proofs.Steps.{Grows-chain}
-use Rattle.lt_join.proofs.Opening.{Grows-none, All_more, atoms_more, atoms_skip, holds_same}
+use Rattle.lt_join.proofs.KnownLists.{All_more, all_guides, all_get, guide_is}
+use Rattle.lt_join.proofs.LookingUp.{Grows-none}
 
 -- ---- a full row
 
@@ -109,44 +113,38 @@ full_row state l keys guide t walkable is full deep =
 abbrev pub IsHitAbove : Sense → List ℕ → Guide → Type 0
 IsHitAbove sense keys guide = AllByRecursion (λ l. l < length keys) guide.places → IsIn (hit_of (at keys) guide) sense.hits
 
-pub record AreHit (state : State) (keys : List ℕ) (old new : Sense) (guides : List Guide) : Type 0 where
+-- those at these places are among the hits, where all their levels are above
+pub record AreHit (state : State) (keys : List ℕ) (old new : Sense) (guides : List Guide) (places : List ℕ) : Type 0 where
   pub grows : Grows old new
   pub tight : IsTight new state
-  pub hits : AllByRecursion (IsHitAbove new keys) guides
+  pub hits : AllByRecursion (λ i. IsHitAbove new keys (guide_at guides i)) places
   pub gaps : new.gaps ≡ old.gaps
-  pub few : length new.hits ≤ length old.hits + length (atoms_at guides (length keys - 1))
+  pub few : length new.hits ≤ length old.hits + length places
 
-pub hit_none : (state : State) (keys : List ℕ) (s : Sense) → IsTight s state → AreHit state keys s s []
-hit_none state keys s tight = record { grows = Grows-none s; tight = tight; hits = tt; gaps = refl; few = omega arith }
+pub hit_none : (state : State) (keys : List ℕ) (guides : List Guide) (s : Sense) → IsTight s state → AreHit state keys s s guides []
+hit_none state keys guides s tight = record { grows = Grows-none s; tight = tight; hits = tt; gaps = refl; few = omega arith }
 
-hits_kept : (s t : Sense) (keys : List ℕ) → Grows s t → (guides : List Guide) → AllByRecursion (IsHitAbove s keys) guides → AllByRecursion (IsHitAbove t keys) guides
-hits_kept s t keys grows [] h = tt
-hits_kept s t keys grows (g ∷ guides) h = ((λ above. grows.hits (hit_of (at keys) g) (h.0 above)), hits_kept s t keys grows guides h.1)
+hits_kept : (s t : Sense) (keys : List ℕ) → Grows s t → (guides : List Guide) (places : List ℕ) → AllByRecursion (λ i. IsHitAbove s keys (guide_at guides i)) places → AllByRecursion (λ i. IsHitAbove t keys (guide_at guides i)) places
+hits_kept s t keys grows guides [] h = tt
+hits_kept s t keys grows guides (i ∷ places) h = ((λ above. grows.hits (hit_of (at keys) (guide_at guides i)) (h.0 above)), hits_kept s t keys grows guides places h.1)
 
 length_more : {X : Type 0} (xs : List X) (x : X) → length (xs ++ x ∷ []) ≡ length xs + 1
 length_more [] x = refl
-length_more (y ∷ xs) x = let e = length_more xs x in omega arith
-
-no_fewer : (guides : List Guide) (guide : Guide) (l : ℕ) → length (atoms_at guides l) ≤ length (atoms_at (guides ++ guide ∷ []) l)
-no_fewer guides guide l =
-    elim (cases_Bool (has_key (levels_of guide) l)) [
-      | inl held ↦ (let e = ap length (atoms_more guides guide l held) in let n = length_more (atoms_at guides l) (OfAtom guide) in omega arith)
-      | inr apart ↦ (let e = ap length (atoms_skip guides guide l apart) in omega arith)
-    ]
+length_more (y ∷ xs) x = let e = length_more xs x in omega (arith, e)
 
 -- one more row is a hit
-pub hit_more : (state : State) (keys : List ℕ) (old mid new : Sense) (guides : List Guide) (guide : Guide) (t : TrieView) (hit : Hit) → IsWalkable guide → IsTrieOf state (length keys) (at keys) guide t → t.level ≡ length guide.columns → 0 < t.level → has_key guide.places (length keys - 1) ≡ true → AreHit state keys old mid guides
-    → hit ≡ hit_of (at keys) guide → new.hits ≡ mid.hits ++ hit ∷ [] → new.gaps ≡ mid.gaps → AreHit state keys old new (guides ++ guide ∷ [])
-hit_more state keys old mid new guides guide t hit walkable is full deep held so hit_is hits gaps =
+pub hit_more : (state : State) (keys : List ℕ) (old mid new : Sense) (guides : List Guide) (places : List ℕ) (i : ℕ) (t : TrieView) (hit : Hit) → IsWalkable (guide_at guides i) → IsTrieOf state (length keys) (at keys) (guide_at guides i) t → t.level ≡ length (guide_at guides i).columns → 0 < t.level
+    → AreHit state keys old mid guides places → hit ≡ hit_of (at keys) (guide_at guides i) → new.hits ≡ mid.hits ++ hit ∷ [] → new.gaps ≡ mid.gaps → AreHit state keys old new guides (places ++ i ∷ [])
+hit_more state keys old mid new guides places i t hit walkable is full deep so hit_is hits gaps =
+    let guide = guide_at guides i in
     let grows : Grows mid new = record { gaps = λ g h. rw gaps h; hits = λ g h. rw hits (IsIn-append_left g mid.hits (hit ∷ []) h) } in
     let there : Has state hit.relation hit.row = subst (λ (w : Hit). Has state w.relation w.row) (sym hit_is) (full_row state (length keys) (at keys) guide t walkable is full deep) in
     record {
       grows = Grows-chain old mid new so.grows grows;
       tight = record { gaps = rw gaps (so.tight.gaps); hits = rw hits (All_more (λ (w : Hit). Has state w.relation w.row) mid.hits hit so.tight.hits there) };
-      hits = All_more (IsHitAbove new keys) guides guide (hits_kept mid new keys grows guides so.hits) (λ above. rw hits (IsIn-append_right (hit_of (at keys) guide) mid.hits (hit ∷ []) (inl hit_is)));
+      hits = All_more (λ j. IsHitAbove new keys (guide_at guides j)) places i (hits_kept mid new keys grows guides places so.hits) (λ above. rw hits (IsIn-append_right (hit_of (at keys) guide) mid.hits (hit ∷ []) (inl hit_is)));
       gaps = gaps ∙ so.gaps;
-      few = (let p = so.few in let e = ap length hits in let n = length_more mid.hits hit in let a = ap length (atoms_more guides guide (length keys - 1) (holds_same guide (length keys - 1) walkable ∙ held)) in
-          let m = length_more (atoms_at guides (length keys - 1)) (OfAtom guide) in omega arith);
+      few = (let e = ap length hits in let n = length_more mid.hits hit in let m = length_more places i in omega (arith, so.few, e, n, m));
     }
 
 take_last : (keys : List ℕ) (i : ℕ) → i < length keys - 1 → at keys i ≡ at (take (length keys - 1) keys) i
@@ -199,22 +197,34 @@ full_above state l keys guide t walkable is above =
     by [] h = tt
     by (c ∷ columns) h = (in_place guide.places c h.0 above, by columns h.1)
 
--- no row more: it isn't full, or was a hit before
-pub hit_skip : (state : State) (keys : List ℕ) (old mid : Sense) (guides : List Guide) (guide : Guide) (t : TrieView) → 0 < length keys → IsWalkable guide → IsTrieOf state (length keys) (at keys) guide t → AreHit state keys old mid guides
-    → IsHitAbove old (take (length keys - 1) keys) guide → (t.level ≡ length guide.columns → has_key guide.places (length keys - 1) ≡ false) → AreHit state keys old mid (guides ++ guide ∷ [])
-hit_skip state keys old mid guides guide t some walkable is so was free = record {
+-- no row more: not all of its levels are above
+pub hit_skip : (state : State) (keys : List ℕ) (old mid : Sense) (guides : List Guide) (places : List ℕ) (i : ℕ) (t : TrieView) → IsWalkable (guide_at guides i) → IsTrieOf state (length keys) (at keys) (guide_at guides i) t → (t.level ≡ length (guide_at guides i).columns → ⊥)
+    → AreHit state keys old mid guides places → AreHit state keys old mid guides (places ++ i ∷ [])
+hit_skip state keys old mid guides places i t walkable is apart so = record {
   grows = so.grows;
   tight = so.tight;
-  hits = All_more (IsHitAbove mid keys) guides guide so.hits (λ above.
-      let full = full_above state (length keys) (at keys) guide t walkable is above in
-      let n : length (take (length keys - 1) keys) ≡ length keys - 1 = length_take keys (length keys - 1) (omega arith) in
-      let lower = below_last (length keys) guide.places some (free full) above in
-      let old_hit = was (subst (λ m. AllByRecursion (λ l. l < m) guide.places) (sym n) lower) in
-      let same : hit_of (at (take (length keys - 1) keys)) guide ≡ hit_of (at keys) guide = ap (λ (r : Row). record { relation = guide.relation; row = r }) (sym (map_agree (at keys) (at (take (length keys - 1) keys)) (length keys - 1) guide.places (take_last keys) lower)) in
-      so.grows.hits (hit_of (at keys) guide) (subst (λ h. IsIn h old.hits) same old_hit));
+  hits = All_more (λ j. IsHitAbove mid keys (guide_at guides j)) places i so.hits (λ above. absurd (apart (full_above state (length keys) (at keys) (guide_at guides i) t walkable is above)));
   gaps = so.gaps;
-  few = (let p = so.few in let a = no_fewer guides guide (length keys - 1) in omega arith);
+  few = let n = length_more places i in omega (arith, so.few, n);
 }
+
+-- with those that hold the last level all are hits whose levels are above
+pub hit_all : (state : State) (keys : List ℕ) (old new : Sense) (guides : List Guide) → 0 < length keys → HitsAbove old guides (take (length keys - 1) keys) → AreHit state keys old new guides (atoms_at_level guides (length keys - 1)) → HitsAbove new guides keys
+hit_all state keys old new guides some was so = all_guides (IsHitAbove new keys) guides each
+  where
+    each : (i : ℕ) → i < length guides → IsHitAbove new keys (guide_at guides i)
+    each i lt =
+        let guide = guide_at guides i in
+        elim (cases_Bool (holds_level (length keys - 1) guide)) [
+          | inl held ↦ All_at (λ j. IsHitAbove new keys (guide_at guides j)) (atoms_at_level guides (length keys - 1)) i so.hits
+              (IsIn-filter (λ j. holds_level (length keys - 1) (guide_at guides j)) i (below (length guides)) (IsIn-below (length guides) i lt) held)
+          | inr free ↦ λ above.
+              let n : length (take (length keys - 1) keys) ≡ length keys - 1 = length_take keys (length keys - 1) (omega arith) in
+              let lower = below_last (length keys) guide.places some free above in
+              let old_hit = all_get (IsHitAbove old (take (length keys - 1) keys)) guides i guide was lt (guide_is guides i lt) (subst (λ m. AllByRecursion (λ l. l < m) guide.places) (sym n) lower) in
+              let same : hit_of (at (take (length keys - 1) keys)) guide ≡ hit_of (at keys) guide = ap (λ (r : Row). record { relation = guide.relation; row = r }) (sym (map_agree (at keys) (at (take (length keys - 1) keys)) (length keys - 1) guide.places (take_last keys) lower)) in
+              so.grows.hits (hit_of (at keys) guide) (subst (λ h. IsIn h old.hits) same old_hit)
+        ]
 
 all_map_at : (P : ℕ → Type 0) (f : ℕ → ℕ) (cs : List ℕ) (c : ℕ) → AllByRecursion P (map f cs) → IsIn c cs → P (f c)
 all_map_at P f [] c h i = absurd i
@@ -233,7 +243,3 @@ places_above state l keys guide t walkable is full =
     let all = before_all l (levels_of guide) (omega arith) in
     let levels = subst (AllByRecursion (λ m. m < l)) all (below_before l (levels_of guide)) in
     all_by (λ m. m < l) guide.places (λ c lt. all_map_at (λ m. m < l) (λ d. slice_index guide.places d) guide.columns c levels (walkable.each c lt))
-
-pub some_place : (places : List ℕ) (l : ℕ) → has_key places l ≡ true → 0 < length places
-some_place [] l h = cc
-some_place (p ∷ places) l h = omega arith

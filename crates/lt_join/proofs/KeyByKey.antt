@@ -29,8 +29,8 @@ use Rattle.lt_join.specs.Parts.{IsBetween, AreSlicesWithin}
 use Rattle.lt_join.specs.Sliced.{slice_keys, united, IsSliceOf, AreRootGaps}
 use Rattle.lt_join.specs.Walked.{at, IsSkipped, StandsAt}
 use Rattle.lt_join.proofs.Costs.{IsCredited}
-use Rattle.lt_join.proofs.Levels.{length_append}
-use Rattle.lt_join.proofs.Noting.{some_is}
+use Rattle.lt_join.proofs.Lists.{length_append}
+use Rattle.lt_join.proofs.Lists.{some_is}
 use Rattle.lt_join.proofs.Repair.{All_at, All_of}
 use Rattle.lt_join.proofs.Steps.{IsSkipped-grows}
 

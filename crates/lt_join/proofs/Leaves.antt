@@ -222,7 +222,7 @@ module _ (body : Body) (plan : Plan) (of_body : IsPlanOf body plan) where
       (leaf_assignment body plan.levels keys, held, met_at keys state sense tight fit body.atoms plan.guides of_body.guides hits, refl, gaps_missed sense state tight (leaf_assignment body plan.levels keys) body.absents gapped)
 
   -- each answer of an assignment with the keys above these levels was collected
-  pub collected_below : {S N : Type 0} → (terms : List Term) (state : State) (found : Found S N) (levels : List Level) (l : ℕ) (keys : Keys) → AreTestsBound body → are_bound body terms ≡ true → IsTight found.sense state → Explored found.sense plan.guides (IsCollected body plan terms found) levels l keys → AreLevelsFrom body plan.levels l levels → l + length levels ≡ length plan.levels
+  pub collected_below : {S : Type 0} → (terms : List Term) (state : State) (found : Found S) (levels : List Level) (l : ℕ) (keys : Keys) → AreTestsBound body → are_bound body terms ≡ true → IsTight found.sense state → Explored found.sense plan.guides (IsCollected body plan terms found) levels l keys → AreLevelsFrom body plan.levels l levels → l + length levels ≡ length plan.levels
       → (a : Assignment) → holds a body ≡ true → Stands a body.atoms state → Lacks a body.absents state → AgreeBelow l keys (keys_under a plan.levels) → IsIn (cells_of a terms) found.rows
   collected_below terms state found levels l keys whole heads tight explored are e a holds_body stands none agree =
       elim (followed body plan found.sense state tight a holds_body of_body (IsCollected body plan terms found) levels l keys explored are agree e) [
@@ -263,12 +263,12 @@ module _ (body : Body) (plan : Plan) (of_body : IsPlanOf body plan) where
       certified_below sense state plan.levels 0 keys whole tight explored of_body.levels (omega arith) a held (λ m lt. absurd (omega arith))
 
   -- each answer was collected
-  pub collected : {S N : Type 0} → (terms : List Term) (state : State) (found : Found S N) (keys : Keys) → AreTestsBound body → are_bound body terms ≡ true → IsTight found.sense state → Explored found.sense plan.guides (IsCollected body plan terms found) plan.levels 0 keys → (row : Row) → IsAnswer terms body state row → IsIn row found.rows
+  pub collected : {S : Type 0} → (terms : List Term) (state : State) (found : Found S) (keys : Keys) → AreTestsBound body → are_bound body terms ≡ true → IsTight found.sense state → Explored found.sense plan.guides (IsCollected body plan terms found) plan.levels 0 keys → (row : Row) → IsAnswer terms body state row → IsIn row found.rows
   collected terms state found keys whole heads tight explored row answer =
       subst (λ r. IsIn r found.rows) answer.3 (collected_below terms state found plan.levels 0 keys whole heads tight explored of_body.levels (omega arith) answer.0 answer.1 answer.2 answer.4 (λ m lt. absurd (omega arith)))
 
   -- what was collected, sorted and without repeats, is the answers
-  pub answers_are : {S N : Type 0} → (terms : List Term) (state : State) (found : Found S N) (keys : Keys) → AreTestsBound body → are_bound body terms ≡ true → IsTight found.sense state → Explored found.sense plan.guides (IsCollected body plan terms found) plan.levels 0 keys → ((row : Row) → IsIn row found.rows → IsAnswer terms body state row) → ascending found.rows ≡ answers terms body state
+  pub answers_are : {S : Type 0} → (terms : List Term) (state : State) (found : Found S) (keys : Keys) → AreTestsBound body → are_bound body terms ≡ true → IsTight found.sense state → Explored found.sense plan.guides (IsCollected body plan terms found) plan.levels 0 keys → ((row : Row) → IsIn row found.rows → IsAnswer terms body state row) → ascending found.rows ≡ answers terms body state
   answers_are terms state found keys whole heads tight explored right =
       ascending_same (ascending found.rows) (answers terms body state) (IsAscending-ascending found.rows) (IsAscending-answers terms body state)
       (λ r h. IsIn-answers_of terms body state r whole heads (right r (IsIn-ascending_from r found.rows h)))

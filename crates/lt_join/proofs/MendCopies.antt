@@ -6,7 +6,7 @@ use Rattle.lt_model.specs.declared.normal.Atom.{Atom}
 use Rattle.lt_model.specs.declared.normal.Term.{Term}
 use Rattle.lt_query.specs.declared.plans.Level.{Level}
 use Rattle.lt_join.specs.MendedPlan.{pinned_levels}
-use Rattle.lt_join.proofs.Opening.{take_more}
+use Rattle.lt_join.proofs.Lists.{take_more}
 
 -- one atom more
 pub atoms_more : (atoms : List Atom) (i : ℕ) (atom : Atom) (copy more : List Atom) (terms : List Term) → i < length atoms → atom ≡ get_or atoms i atom → terms ≡ atom.terms → more ≡ copy ++ record { relation = atom.relation; terms = terms } ∷ [] → copy ≡ take i atoms → more ≡ take (i + 1) atoms

@@ -26,7 +26,7 @@ use Rattle.lt_join.specs.Cost.{bound}
 use Rattle.lt_join.specs.Holders.{IsPrepared}
 use Rattle.lt_join.specs.MendedPlan.{pinned_plan, MayPin, IsForbidden, first_admits, slice_cost, mending_cost}
 use Rattle.lt_join.specs.Sliced.{pinned, slice_keys, IsSliceOf}
-use Rattle.lt_join.proofs.Opening.{take_more}
+use Rattle.lt_join.proofs.Lists.{take_more}
 use Rattle.lt_join.proofs.Pinned.{holds_pinned}
 use Rattle.lt_join.proofs.PinnedPlan.{IsRunnable-pinned, variables_pinned}
 use Rattle.lt_join.proofs.Prepared.{IsPrepared-from}

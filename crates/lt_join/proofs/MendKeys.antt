@@ -28,7 +28,7 @@ use Rattle.lt_join.specs.Mended.{LiesAt, Touches, HaveTouched}
 use Rattle.lt_join.specs.MendedKeys.{IsDisturbed, IsSliceTouched, IsRowLying, IsRootTouched, AreTouched, NameCovered, GainsJust, HaveSame}
 use Rattle.lt_join.specs.Sliced.{united}
 use Rattle.lt_join.proofs.Spotted.{covered_root, covered_slice}
-use Rattle.lt_join.proofs.Opening.{take_more, take_all}
+use Rattle.lt_join.proofs.Lists.{take_more, take_all}
 use Rattle.lt_join.proofs.Repair.{All_at, list_any_from, list_any_of}
 use Rattle.lt_join.proofs.SortedRows.{eq_nat}
 

@@ -25,11 +25,10 @@ use Rattle.lt_join.specs.declared.Found.{Found}
 use Rattle.lt_join.specs.Certify.{Certifies, IsMissed}
 use Rattle.lt_join.specs.Explored.{with_key}
 use Rattle.lt_join.specs.Parts.{IsBetween, IsAnswerWithin, IsPartOf, ArePartRows, IsAtMost}
-use Rattle.lt_join.specs.Cost.{LevelGains}
-use Rattle.lt_join.specs.Walked.{at, Grows, IsCollected, IsSettled, AreFoundUnder, StandsAt}
+use Rattle.lt_join.specs.Walked.{at, Grows, IsCollected, IsSettled, AreFoundUnder}
 use Rattle.lt_join.proofs.Costs.{IsCredited}
 use Rattle.lt_join.proofs.Leaves.{collected_below, certified_below}
-use Rattle.lt_join.proofs.LevelLists.{all_append}
+use Rattle.lt_join.proofs.Lists.{all_append}
 use Rattle.lt_join.proofs.Repair.{GapIsTight, IsAscending-answers, not_missed}
 use Rattle.lt_join.proofs.SliceLaws.{first_is, levels_below, one_less, stands_for_grows}
 use Rattle.lt_join.proofs.Steps.{IsDone, IsUnderWay, Explored-grows, explored_under, settled_of}
@@ -42,36 +41,12 @@ abbrev pub AreWithin : List Term → Body → State → Term → ℕ → ℕ →
 AreWithin terms body state term lo hi rows = (row : Row) → IsIn row rows → IsAnswerWithin terms body state term lo hi row
 
 -- what was found under one key of the range
-pub within_more : {S N : Type 0} → (terms : List Term) (body : Body) (plan : Plan) (state : State) (lo hi key : ℕ) (old new : Found S N) → lo ≤ key → key < hi → AreFoundUnder terms body plan state (key ∷ []) old new → AreWithin terms body state (term_at plan.levels 0) lo hi old.rows → AreWithin terms body state (term_at plan.levels 0) lo hi new.rows
+pub within_more : {S : Type 0} → (terms : List Term) (body : Body) (plan : Plan) (state : State) (lo hi key : ℕ) (old new : Found S) → lo ≤ key → key < hi → AreFoundUnder terms body plan state (key ∷ []) old new → AreWithin terms body state (term_at plan.levels 0) lo hi old.rows → AreWithin terms body state (term_at plan.levels 0) lo hi new.rows
 within_more terms body plan state lo hi key old new from below under so row there =
     elim (under row there) [
       | inl before ↦ so row before
       | inr u ↦ let is : cell_of u.0 (term_at plan.levels 0) ≡ key = u.4 0 (omega arith) in (u.0, u.1, u.2, u.3, u.5, (omega arith, omega arith))
     ]
-
--- a walk over a range begins
-pub way_begun : {S N : Type 0} → (body : Body) (plan : Plan) (terms : List Term) (state : State) (level : Level) (lo : ℕ) (none sense : Sense) (rows : List Row) (keys : List ℕ) (key : ℕ) → none ≡ record { gaps = []; hits = [] } → rows ≡ [] → keys ≡ [] → StandsAt plan state none sense [] level lo key
-    → IsUnderWay {S = S} {N = N} body plan terms state (record { sense = record { gaps = []; hits = [] }; rows = [] }) [] level lo (record { sense = sense; rows = rows }) keys key
-way_begun body plan terms state level lo none sense rows keys key empty no_rows at_root stands = rw no_rows (record {
-  same = at_root;
-  grows = record { sense = subst (λ (s : Sense). Grows s sense) empty stands.grows; rows = λ row h. h };
-  right = record { tight = stands.tight; answers = tt };
-  done = λ k cell le lt. inl (stands.skipped k cell le lt);
-  at_key = stands.found;
-})
-
--- a key's hits and the walk below it, and then the level went on
-pub credited_key : (atoms : ℕ) (begun_sense s t u : Sense) (begun now after end key key' : ℕ) → IsCredited atoms begun_sense s begun now key → key < 2 ^ 128 - 1 → length t.gaps + now ≤ length s.gaps + after → length t.hits + now ≤ length s.hits + after + atoms → LevelGains atoms t u after end key' → IsCredited atoms begun_sense u begun end key'
-credited_key atoms begun_sense s t u begun now after end key key' so at_key gaps hits level =
-    let e = ap length level.hits in
-    let r = level.rises in
-    let c = so.credit at_key in
-    let g = so.gains.gaps in
-    let h = level.gaps in
-    record {
-      gains = record { gaps = omega arith; hits = omega arith };
-      credit = λ at_key'. (let p = level.paid at_key' in omega arith);
-    }
 
 pub at_most_paid : (atoms : ℕ) (sense : Sense) (begun now key : ℕ) → IsCredited atoms (record { gaps = []; hits = [] }) sense begun now key → IsAtMost sense (now - begun)
 at_most_paid atoms sense begun now key so =
@@ -84,9 +59,9 @@ module _ (body : Body) (plan : Plan) (state : State) (of_body : IsPlanOf body pl
   agree_first a m lt = let none : m ≡ 0 = omega arith in rw none refl
 
   -- where a walk over a range went for an assignment in it
-  went : {S N : Type 0} → (terms : List Term) (begun found : Found S N) (keys : List ℕ) (level : Level) (lo hi key : ℕ) → slice_get plan.levels 0 ≡ Some level → hi ≤ key → IsTight found.sense state → IsUnderWay body plan terms state begun [] level lo found keys key
+  went : {S : Type 0} → (terms : List Term) (begun found : Found S) (level : Level) (lo hi key : ℕ) → slice_get plan.levels 0 ≡ Some level → hi ≤ key → IsTight found.sense state → IsUnderWay body plan terms state begun [] level lo found key
       → (a : Assignment) → holds a body ≡ true → IsBetween lo hi (cell_of a (term_at plan.levels 0)) → AnyByRecursion (IsMissed found.sense state a) body.atoms ⊎ IsDone body plan terms found [] (keys_under a plan.levels 0)
-  went terms begun found keys level lo hi key first ended tight way a held between =
+  went terms begun found level lo hi key first ended tight way a held between =
       elim (followed_at body plan found.sense state tight a held of_body 0 level (at []) some (first_is body plan.levels plan.levels level of_body.levels first) (λ m lt. absurd (omega arith))
       (λ k. IsBetween lo hi k → IsDone body plan terms found [] k)
       (λ k cell. elim (cases_lt k lo) [
@@ -100,22 +75,22 @@ module _ (body : Body) (plan : Plan) (state : State) (of_body : IsPlanOf body pl
         ]
       ])) [ inl missed ↦ inl missed | inr on ↦ inr (on between) ]
 
-  pub part_found : {S N : Type 0} → (terms : List Term) (begun found : Found S N) (keys : List ℕ) (level : Level) (lo hi key : ℕ) → are_bound body terms ≡ true → slice_get plan.levels 0 ≡ Some level → hi ≤ key
-      → AreWithin terms body state (term_at plan.levels 0) lo hi found.rows → IsUnderWay body plan terms state begun [] level lo found keys key → IsPartOf terms body state (term_at plan.levels 0) lo hi found.rows found.sense
-  part_found terms begun found keys level lo hi key heads first ended within way =
+  pub part_found : {S : Type 0} → (terms : List Term) (begun found : Found S) (level : Level) (lo hi key : ℕ) → are_bound body terms ≡ true → slice_get plan.levels 0 ≡ Some level → hi ≤ key
+      → AreWithin terms body state (term_at plan.levels 0) lo hi found.rows → IsUnderWay body plan terms state begun [] level lo found key → IsPartOf terms body state (term_at plan.levels 0) lo hi found.rows found.sense
+  part_found terms begun found level lo hi key heads first ended within way =
       let tight = way.right.tight in
       let are = levels_below body plan.levels plan.levels of_body.levels in
       let e = one_less plan.levels some in
       record {
         right = within;
         whole = λ row answer.
-            elim (went terms begun found keys level lo hi key first ended tight way answer.0 answer.1 answer.5) [
+            elim (went terms begun found level lo hi key first ended tight way answer.0 answer.1 answer.5) [
               | inl missed ↦ absurd (not_missed found.sense state answer.0 body.atoms answer.2 missed)
               | inr done ↦ subst (λ r. IsIn r found.rows) answer.3
                   (collected_below body plan of_body terms state found (drop 1 plan.levels) 1 (with_key (at []) 0 (keys_under answer.0 plan.levels 0)) whole heads tight (explored_under body plan terms found [] (keys_under answer.0 plan.levels 0) done) are e answer.0 answer.1 answer.2 answer.4 (agree_first answer.0))
             ];
         certified = λ a held between.
-            elim (went terms begun found keys level lo hi key first ended tight way a held between) [
+            elim (went terms begun found level lo hi key first ended tight way a held between) [
               | inl missed ↦ inr (inl missed)
               | inr done ↦
                   certified_below body plan of_body found.sense state (drop 1 plan.levels) 1 (with_key (at []) 0 (keys_under a plan.levels 0)) whole tight

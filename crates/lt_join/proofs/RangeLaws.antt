@@ -26,8 +26,8 @@ use Rattle.lt_join.specs.Parts.{IsBetween, IsAtMost, AreSlicesWithin}
 use Rattle.lt_join.specs.Sliced.{slice_keys, united, IsSliceOf}
 use Rattle.lt_join.specs.Walked.{at}
 use Rattle.lt_join.proofs.Alike.{rooted_alike, root_gaps_alike, no_hits_alike}
-use Rattle.lt_join.proofs.Levels.{length_append}
-use Rattle.lt_join.proofs.LevelLists.{all_append}
+use Rattle.lt_join.proofs.Lists.{length_append}
+use Rattle.lt_join.proofs.Lists.{all_append}
 use Rattle.lt_join.proofs.PartLaws.{grows_one, grows_next, tight_both}
 use Rattle.lt_join.proofs.Steps.{IsSkipped-grows}
 

@@ -28,7 +28,7 @@ use Rattle.lt_join.specs.Cost.{cost_from}
 use Rattle.lt_join.specs.Sliced.{pinned, slice_keys, united, sliced_rows, CertifiesBut, IsSliceOf, AreRooted}
 use Rattle.lt_join.specs.Walked.{at, Grows, IsExploredBelow, AreFoundUnder, IsCollected, IsSettled}
 use Rattle.lt_join.proofs.Leaves.{collected_below, certified_below}
-use Rattle.lt_join.proofs.Noting.{some_is}
+use Rattle.lt_join.proofs.Lists.{some_is}
 use Rattle.lt_join.proofs.Pinned.{holds_pinned, pinned_holds, are_bound_pinned, tests_pinned, term_in}
 use Rattle.lt_join.proofs.Repair.{All_at, All_of, GapIsTight, IsAscending-answers, not_missed}
 use Rattle.lt_join.proofs.Steps.{covers_grows, met_grows, Explored-grows, settled_of}
@@ -160,7 +160,7 @@ agree_first a levels key e zero lt = sym e
 agree_first a levels key e (suc m) lt = absurd (omega arith)
 
 -- what a walk below a key of the first level found is the key's slice
-pub is_slice : {S N : Type 0} → (body : Body) (plan : Plan) (terms : List Term) (state : State) (begun found : Found S N) (key : ℕ) (rows : List Row) → IsPlanOf body plan → 0 < length plan.levels → AreTestsBound body → are_bound body terms ≡ true → IsTight found.sense state → begun.rows ≡ [] → AreFoundUnder terms body plan state (key ∷ []) begun found → IsExploredBelow body plan terms found (key ∷ []) → rows ≡ ascending found.rows
+pub is_slice : {S : Type 0} → (body : Body) (plan : Plan) (terms : List Term) (state : State) (begun found : Found S) (key : ℕ) (rows : List Row) → IsPlanOf body plan → 0 < length plan.levels → AreTestsBound body → are_bound body terms ≡ true → IsTight found.sense state → begun.rows ≡ [] → AreFoundUnder terms body plan state (key ∷ []) begun found → IsExploredBelow body plan terms found (key ∷ []) → rows ≡ ascending found.rows
     → IsSliceOf terms body (term_at plan.levels 0) state (record { key = key; rows = rows; sense = found.sense })
 is_slice body plan terms state begun found key rows of_body some whole heads tight none under explored sorted =
     let term : Term = term_at plan.levels 0 in

@@ -15,7 +15,7 @@ use Rattle.lt_model.specs.Answers.{ascending}
 use Rattle.lt_query.proofs.Ascending.{IsAscending-ascending, IsIn-ascending, IsIn-ascending_from, ascending_same}
 use Rattle.lt_join.specs.declared.slicing.Slice.{Slice}
 use Rattle.lt_join.specs.Sliced.{sliced_rows}
-use Rattle.lt_join.proofs.Opening.{take_more}
+use Rattle.lt_join.proofs.Lists.{take_more}
 use Rattle.lt_join.proofs.Repair.{All_at, All_of}
 
 -- ---- rows in order

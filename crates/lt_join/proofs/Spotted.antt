@@ -16,7 +16,7 @@ use Rattle.lt_sense.specs.Spots.{IsSpotOf}
 use Rattle.lt_join.specs.declared.slicing.Slice.{Slice}
 use Rattle.lt_join.specs.Sliced.{united}
 use Rattle.lt_join.specs.Walked.{Grows}
-use Rattle.lt_join.proofs.Opening.{take_more, take_all}
+use Rattle.lt_join.proofs.Lists.{take_more, take_all}
 use Rattle.lt_join.proofs.Repair.{All_at, All_of, list_any_from, list_any_of}
 use Rattle.lt_join.proofs.SliceLaws.{grows_root, grows_slice}
 use Rattle.lt_join.proofs.Steps.{covers_grows}

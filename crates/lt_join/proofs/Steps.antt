@@ -52,7 +52,7 @@ hits_grow : (s t : Sense) → Grows s t → (guides : List Guide) (keys : Keys) 
 hits_grow s t grows [] keys h = tt
 hits_grow s t grows (guide ∷ guides) keys h = (grows.hits (hit_of keys guide) h.0, hits_grow s t grows guides keys h.1)
 
-pub IsCollected-grows : {S N : Type 0} → (body : Body) (plan : Plan) (terms : List Term) (f g : Found S N) → FoundGrows f g → (keys : Keys) → IsCollected body plan terms f keys → IsCollected body plan terms g keys
+pub IsCollected-grows : {S : Type 0} → (body : Body) (plan : Plan) (terms : List Term) (f g : Found S) → FoundGrows f g → (keys : Keys) → IsCollected body plan terms f keys → IsCollected body plan terms g keys
 IsCollected-grows body plan terms f g grows keys h = record {
   hits = hits_grow f.sense g.sense grows.sense plan.guides keys h.hits;
   answer = λ held. elim (h.answer held) [
@@ -61,7 +61,7 @@ IsCollected-grows body plan terms f g grows keys h = record {
   ];
 }
 
-pub settled_of : {S N : Type 0} → (body : Body) (plan : Plan) (terms : List Term) (found : Found S N) (keys : Keys) → IsCollected body plan terms found keys → IsSettled body plan found.sense keys
+pub settled_of : {S : Type 0} → (body : Body) (plan : Plan) (terms : List Term) (found : Found S) (keys : Keys) → IsCollected body plan terms found keys → IsSettled body plan found.sense keys
 settled_of body plan terms found keys h = record { hits = h.hits; looked = λ held. elim (h.answer held) [ inl there ↦ inl there.1 | inr hit ↦ inr hit ] }
 
 pub IsSkipped-grows : (plan : Plan) (s t : Sense) → Grows s t → (keys : List ℕ) (level : Level) (k : ℕ) → IsSkipped plan s keys level k → IsSkipped plan t keys level k
@@ -70,7 +70,7 @@ IsSkipped-grows plan s t grows keys level k h = elim h [ inl p ↦ inl (passed_g
 pub Grows-chain : (s t u : Sense) → Grows s t → Grows t u → Grows s u
 Grows-chain s t u g h = record { gaps = λ gap k. h.gaps gap (g.gaps gap k); hits = λ hit k. h.hits hit (g.hits hit k) }
 
-pub FoundGrows-chain : {S N : Type 0} → (s t u : Found S N) → FoundGrows s t → FoundGrows t u → FoundGrows s u
+pub FoundGrows-chain : {S : Type 0} → (s t u : Found S) → FoundGrows s t → FoundGrows t u → FoundGrows s u
 FoundGrows-chain s t u g h = record { sense = Grows-chain s.sense t.sense u.sense g.sense h.sense; rows = λ row k. h.rows row (g.rows row k) }
 
 pub covers_grows : (s t : Sense) → Grows s t → (relation : ℕ) (row : Row) → covers s relation row ≡ true → covers t relation row ≡ true
@@ -96,23 +96,22 @@ witnesses_grow s t grows terms body state (row ∷ rows) h =
     ((h.0.0, h.0.1, met_grows s t grows state h.0.0 body.atoms h.0.2, h.0.3, all_missed_grow s t grows state h.0.0 body.absents h.0.4), witnesses_grow s t grows terms body state rows h.1)
 
 -- the walk below a key
-pub IsDone : {S N : Type 0} → Body → Plan → List Term → Found S N → List ℕ → ℕ → Type 0
+pub IsDone : {S : Type 0} → Body → Plan → List Term → Found S → List ℕ → ℕ → Type 0
 IsDone body plan terms found keys k =
     Explored found.sense plan.guides (IsCollected body plan terms found) (drop (length keys + 1) plan.levels) (length keys + 1) (with_key (at keys) (length keys) k)
 
-pub IsDone-grows : {S N : Type 0} → (body : Body) (plan : Plan) (terms : List Term) (f g : Found S N) → FoundGrows f g → (keys : List ℕ) (k : ℕ) → IsDone body plan terms f keys k → IsDone body plan terms g keys k
+pub IsDone-grows : {S : Type 0} → (body : Body) (plan : Plan) (terms : List Term) (f g : Found S) → FoundGrows f g → (keys : List ℕ) (k : ℕ) → IsDone body plan terms f keys k → IsDone body plan terms g keys k
 unfolding IsDone
 IsDone-grows body plan terms f g grows keys k h =
     Explored-grows f.sense g.sense grows.sense plan.guides (IsCollected body plan terms f) (IsCollected body plan terms g) (IsCollected-grows body plan terms f g grows) (drop (length keys + 1) plan.levels) (length keys + 1) (with_key (at keys) (length keys) k) h
 
-pub explored_under : {S N : Type 0} → (body : Body) (plan : Plan) (terms : List Term) (found : Found S N) (keys : List ℕ) (k : ℕ) → IsDone body plan terms found keys k
+pub explored_under : {S : Type 0} → (body : Body) (plan : Plan) (terms : List Term) (found : Found S) (keys : List ℕ) (k : ℕ) → IsDone body plan terms found keys k
     → Explored found.sense plan.guides (IsCollected body plan terms found) (drop (length keys + 1) plan.levels) (length keys + 1) (with_key (at keys) (length keys) k)
 unfolding IsDone
 explored_under body plan terms found keys k h = h
 
 -- what the loop over a level's keys keeps, which began at the least from a number on
-pub record IsUnderWay {S N : Type 0} (body : Body) (plan : Plan) (terms : List Term) (state : State) (begun : Found S N) (keys0 : List ℕ) (level : Level) (from : ℕ) (found : Found S N) (keys : List ℕ) (key : ℕ) : Type 0 where
-  pub same : keys ≡ keys0
+pub record IsUnderWay {S : Type 0} (body : Body) (plan : Plan) (terms : List Term) (state : State) (begun : Found S) (keys0 : List ℕ) (level : Level) (from : ℕ) (found : Found S) (key : ℕ) : Type 0 where
   pub grows : FoundGrows begun found
   pub right : IsRight body terms state found
   pub done : (k : ℕ) → is_cell k ≡ true → from ≤ k → k < key → IsSkipped plan found.sense keys0 level k ⊎ IsDone body plan terms found keys0 k
@@ -148,7 +147,7 @@ at_push keys k =
     ] in
     λ i. λ m. each m i
 
-pub IsDone-of_child : {S N : Type 0} → (body : Body) (plan : Plan) (terms : List Term) (found : Found S N) (keys : List ℕ) (k : ℕ) → IsExploredBelow body plan terms found (keys ++ k ∷ []) → IsDone body plan terms found keys k
+pub IsDone-of_child : {S : Type 0} → (body : Body) (plan : Plan) (terms : List Term) (found : Found S) (keys : List ℕ) (k : ℕ) → IsExploredBelow body plan terms found (keys ++ k ∷ []) → IsDone body plan terms found keys k
 unfolding IsDone
 IsDone-of_child body plan terms found keys k h =
     let deeper = subst (λ n. Explored found.sense plan.guides (IsCollected body plan terms found) (drop n plan.levels) n (at (keys ++ k ∷ []))) (length_push keys k) h in
@@ -199,9 +198,8 @@ drop_at (x ∷ levels) zero level e = let same : x ≡ level = cc in ap (λ w. w
 drop_at (x ∷ levels) (suc n) level e = drop_at levels n level e ∙ (let s : suc (n + 1) ≡ suc n + 1 = omega arith in ap (λ m. level ∷ drop m (x ∷ levels)) s)
 
 -- the loop begins
-pub IsUnderWay-begun : {S N : Type 0} → (body : Body) (plan : Plan) (terms : List Term) (state : State) (begun : Found S N) (keys : List ℕ) (level : Level) (from : ℕ) (sense : Sense) (key : ℕ) → IsRight body terms state begun → StandsAt plan state begun.sense sense keys level from key → IsUnderWay body plan terms state begun keys level from (record { sense = sense; rows = begun.rows }) keys key
+pub IsUnderWay-begun : {S : Type 0} → (body : Body) (plan : Plan) (terms : List Term) (state : State) (begun : Found S) (keys : List ℕ) (level : Level) (from : ℕ) (sense : Sense) (key : ℕ) → IsRight body terms state begun → StandsAt plan state begun.sense sense keys level from key → IsUnderWay body plan terms state begun keys level from (record { sense = sense; rows = begun.rows }) key
 IsUnderWay-begun body plan terms state begun keys level from sense key right stands = record {
-  same = refl;
   grows = record { sense = stands.grows; rows = λ row h. h };
   right = record { tight = stands.tight; answers = witnesses_grow begun.sense sense stands.grows terms body state begun.rows right.answers };
   done = λ k cell le lt. inl (stands.skipped k cell le lt);
@@ -209,12 +207,11 @@ IsUnderWay-begun body plan terms state begun keys level from sense key right sta
 }
 
 -- one key was explored, and the level went to its next
-pub IsUnderWay-more : {S N : Type 0} → (body : Body) (plan : Plan) (terms : List Term) (state : State) (begun f h g : Found S N) (keys0 keys back : List ℕ) (level : Level) (from key : ℕ) (sense : Sense) (key' : ℕ) → IsUnderWay body plan terms state begun keys0 level from f keys key → FoundGrows f h → FoundGrows h g → IsRight body terms state g → IsExploredBelow body plan terms g (keys0 ++ key ∷ []) → back ≡ keys0 → StandsAt plan state g.sense sense keys0 level (key + 1) key' → IsUnderWay body plan terms state begun keys0 level from (record { sense = sense; rows = g.rows }) back key'
-IsUnderWay-more body plan terms state begun f h g keys0 keys back level from key sense key' way first second right explored is_back stands =
+pub IsUnderWay-more : {S : Type 0} → (body : Body) (plan : Plan) (terms : List Term) (state : State) (begun f h g : Found S) (keys0 : List ℕ) (level : Level) (from key : ℕ) (sense : Sense) (key' : ℕ) → IsUnderWay body plan terms state begun keys0 level from f key → FoundGrows f h → FoundGrows h g → IsRight body terms state g → IsExploredBelow body plan terms g (keys0 ++ key ∷ []) → StandsAt plan state g.sense sense keys0 level (key + 1) key' → IsUnderWay body plan terms state begun keys0 level from (record { sense = sense; rows = g.rows }) key'
+IsUnderWay-more body plan terms state begun f h g keys0 level from key sense key' way first second right explored stands =
     let last : FoundGrows g (record { sense = sense; rows = g.rows }) = record { sense = stands.grows; rows = λ row r. r } in
     let whole : FoundGrows f (record { sense = sense; rows = g.rows }) = FoundGrows-chain f h (record { sense = sense; rows = g.rows }) first (FoundGrows-chain h g (record { sense = sense; rows = g.rows }) second last) in
     record {
-      same = is_back;
       grows = FoundGrows-chain begun f (record { sense = sense; rows = g.rows }) way.grows whole;
       right = record { tight = stands.tight; answers = witnesses_grow g.sense sense stands.grows terms body state g.rows right.answers };
       done = λ k cell le lt.
@@ -233,8 +230,8 @@ IsUnderWay-more body plan terms state begun f h g keys0 keys back level from key
     }
 
 -- all keys of the level are done
-pub IsExploredBelow-all : {S N : Type 0} → (body : Body) (plan : Plan) (terms : List Term) (state : State) (begun found : Found S N) (keys0 keys : List ℕ) (level : Level) (key : ℕ) → IsUnderWay body plan terms state begun keys0 level 0 found keys key → slice_get plan.levels (length keys0) ≡ Some level → 2 ^ 128 - 1 ≤ key → IsExploredBelow body plan terms found keys0
-IsExploredBelow-all body plan terms state begun found keys0 keys level key way here ended =
+pub IsExploredBelow-all : {S : Type 0} → (body : Body) (plan : Plan) (terms : List Term) (state : State) (begun found : Found S) (keys0 : List ℕ) (level : Level) (key : ℕ) → IsUnderWay body plan terms state begun keys0 level 0 found key → slice_get plan.levels (length keys0) ≡ Some level → 2 ^ 128 - 1 ≤ key → IsExploredBelow body plan terms found keys0
+IsExploredBelow-all body plan terms state begun found keys0 level key way here ended =
     rw (drop_at plan.levels (length keys0) level here) (λ k cell.
     let small : k < 2 ^ 120 = ltb-true k (2 ^ 120) (and_parts (nat_lt 0 k) (nat_lt k (2 ^ 120)) cell).1 in
     elim (way.done k cell (omega arith) (omega arith)) [
@@ -289,7 +286,7 @@ above_grows : (s t : Sense) → Grows s t → (guides : List Guide) (keys : List
 above_grows s t grows [] keys h = tt
 above_grows s t grows (guide ∷ guides) keys h = ((λ above. grows.hits (hit_of (at keys) guide) (h.0 above)), above_grows s t grows guides keys h.1)
 
-IsReached-grows : (plan : Plan) (s t : Sense) → Grows s t → (keys : List ℕ) → IsReached plan s keys → IsReached plan t keys
+pub IsReached-grows : (plan : Plan) (s t : Sense) → Grows s t → (keys : List ℕ) → IsReached plan s keys → IsReached plan t keys
 IsReached-grows plan s t grows keys h = record { within = h.within; cells = h.cells; fit = h.fit; hits = above_grows s t grows plan.guides keys h.hits }
 
 -- at a leaf
@@ -302,21 +299,21 @@ module _ (body : Body) (plan : Plan) (terms : List Term) (state : State) (keys :
   leaf_holds : (sense : Sense) → IsReached plan sense keys → list_all (passes (leaf_assignment body plan.levels (at keys))) body.tests ≡ holds (leaf_assignment body plan.levels (at keys)) body
   leaf_holds sense reached = holds_at_leaf body plan of_body (at keys) (leaf_fits sense reached) (λ l lt. all_at_cell keys l (omega arith) reached.cells)
 
-  leaf_collected : {S N : Type 0} → (found : Found S N) → IsReached plan found.sense keys
+  leaf_collected : {S : Type 0} → (found : Found S) → IsReached plan found.sense keys
       → (holds (leaf_assignment body plan.levels (at keys)) body ≡ true → (IsIn (cells_of (leaf_assignment body plan.levels (at keys)) terms) found.rows × AllByRecursion (IsGapped found.sense (leaf_assignment body plan.levels (at keys))) body.absents) ⊎ AnyByRecursion (IsHitOf found.sense (leaf_assignment body plan.levels (at keys))) body.absents) → IsExploredBelow body plan terms found keys
   leaf_collected found reached answer =
       rw (drop_all plan.levels (length keys) full) (record { hits = leaf_hits plan.levels found.sense keys full body.atoms plan.guides of_body.guides reached.hits; answer = answer })
 
   -- the tests fail
-  pub leaf_without : {S N : Type 0} → (found : Found S N) → IsReached plan found.sense keys → None ≡ (if list_all (passes (leaf_assignment body plan.levels (at keys))) body.tests then Some (cells_of (leaf_assignment body plan.levels (at keys)) terms) else None) → IsExploredBelow body plan terms found keys
+  pub leaf_without : {S : Type 0} → (found : Found S) → IsReached plan found.sense keys → None ≡ (if list_all (passes (leaf_assignment body plan.levels (at keys))) body.tests then Some (cells_of (leaf_assignment body plan.levels (at keys)) terms) else None) → IsExploredBelow body plan terms found keys
   leaf_without found reached e = leaf_collected found reached (λ held. absurd (none_when (list_all (passes (leaf_assignment body plan.levels (at keys))) body.tests) (cells_of (leaf_assignment body plan.levels (at keys)) terms) e (leaf_holds found.sense reached ∙ held)))
 
   -- an absent row is there
-  pub leaf_refused : {S N : Type 0} → (found new : Found S N) → IsReached plan found.sense keys → Grows found.sense new.sense → AnyByRecursion (IsHitOf new.sense (leaf_assignment body plan.levels (at keys))) body.absents → IsExploredBelow body plan terms new keys
+  pub leaf_refused : {S : Type 0} → (found new : Found S) → IsReached plan found.sense keys → Grows found.sense new.sense → AnyByRecursion (IsHitOf new.sense (leaf_assignment body plan.levels (at keys))) body.absents → IsExploredBelow body plan terms new keys
   leaf_refused found new reached grows hit = leaf_collected new (IsReached-grows plan found.sense new.sense grows keys reached) (λ held. inr hit)
 
   -- the tests hold, and all absent rows are absent
-  pub leaf_with : {S N : Type 0} → (found new : Found S N) (row : Row) → IsReached plan found.sense keys → IsRight body terms state found → Some row ≡ (if list_all (passes (leaf_assignment body plan.levels (at keys))) body.tests then Some (cells_of (leaf_assignment body plan.levels (at keys)) terms) else None)
+  pub leaf_with : {S : Type 0} → (found new : Found S) (row : Row) → IsReached plan found.sense keys → IsRight body terms state found → Some row ≡ (if list_all (passes (leaf_assignment body plan.levels (at keys))) body.tests then Some (cells_of (leaf_assignment body plan.levels (at keys)) terms) else None)
       → Grows found.sense new.sense → IsTight new.sense state → AllByRecursion (IsGapped new.sense (leaf_assignment body plan.levels (at keys))) body.absents → new.rows ≡ found.rows ++ row ∷ []
       → IsRight body terms state new × IsExploredBelow body plan terms new keys × AreFoundUnder terms body plan state keys found new
   leaf_with found new row reached right e grows tight gapped is =
@@ -345,7 +342,7 @@ under_shorter terms body plan state keys k row u =
     (u.0, u.1, u.2, u.3, λ l lt. u.4 l (let n = length_push keys k in omega arith) ∙ at_push_below keys k l lt, u.5)
 
 -- one key was explored
-pub under_more : {S N : Type 0} → (terms : List Term) (body : Body) (plan : Plan) (state : State) (keys pushed : List ℕ) (k : ℕ) (begun f g : Found S N) → pushed ≡ keys ++ k ∷ [] → AreFoundUnder terms body plan state keys begun f → AreFoundUnder terms body plan state pushed f g → AreFoundUnder terms body plan state keys begun g
+pub under_more : {S : Type 0} → (terms : List Term) (body : Body) (plan : Plan) (state : State) (keys pushed : List ℕ) (k : ℕ) (begun f g : Found S) → pushed ≡ keys ++ k ∷ [] → AreFoundUnder terms body plan state keys begun f → AreFoundUnder terms body plan state pushed f g → AreFoundUnder terms body plan state keys begun g
 under_more terms body plan state keys pushed k begun f g is first second row there =
     elim (second row there) [
       | inl old ↦ first row old
@@ -379,11 +376,11 @@ no_hits sense (guide ∷ guides) h = ((λ above. absurd (none_above guide.places
 pub IsReached-none : (plan : Plan) (sense : Sense) → AllByRecursion (λ (guide : Guide). 0 < length guide.places) plan.guides → IsReached plan sense []
 IsReached-none plan sense h = record { within = omega arith; cells = tt; fit = λ l level below is. absurd (omega arith); hits = no_hits sense plan.guides h }
 
-pub IsRight-none : {S N : Type 0} → (body : Body) (terms : List Term) (state : State) → IsRight {S = S} {N = N} body terms state (record { sense = record { gaps = []; hits = [] }; rows = [] })
+pub IsRight-none : {S : Type 0} → (body : Body) (terms : List Term) (state : State) → IsRight {S = S} body terms state (record { sense = record { gaps = []; hits = [] }; rows = [] })
 IsRight-none body terms state = record { tight = record { gaps = tt; hits = tt }; answers = tt }
 
 -- what a whole walk has found
-pub found_all : {S N : Type 0} → (body : Body) (plan : Plan) (terms : List Term) (state : State) (found : Found S N) → IsPlanOf body plan → AreTestsBound body → are_bound body terms ≡ true → IsRight body terms state found → IsExploredBelow body plan terms found [] → (ascending found.rows ≡ answers terms body state) × Certifies found.sense body state
+pub found_all : {S : Type 0} → (body : Body) (plan : Plan) (terms : List Term) (state : State) (found : Found S) → IsPlanOf body plan → AreTestsBound body → are_bound body terms ≡ true → IsRight body terms state found → IsExploredBelow body plan terms found [] → (ascending found.rows ≡ answers terms body state) × Certifies found.sense body state
 found_all body plan terms state found of_body whole heads right explored = (
   answers_are body plan of_body terms state found (at []) whole heads right.tight explored (λ row there. IsAnswer-from_witness found.sense terms body state row (All_at (IsWitness found.sense terms body state) found.rows row right.answers there)),
   Certifies-from_explored body plan of_body found.sense state (at []) whole right.tight

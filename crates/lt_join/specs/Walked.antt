@@ -38,7 +38,7 @@ leaf_assignment body levels keys v = unwrap_or (give_all (value_from levels 0 ke
 
 -- a leaf's rows are hits, and the answer that its keys give was collected and its absent rows lie in gaps, or one of these is
 -- a hit
-pub record IsCollected {S N : Type 0} (body : Body) (plan : Plan) (terms : List Term) (found : Found S N) (keys : Keys) : Type 0 where
+pub record IsCollected {S : Type 0} (body : Body) (plan : Plan) (terms : List Term) (found : Found S) (keys : Keys) : Type 0 where
   pub hits : AreHits found.sense plan.guides keys
   pub answer : holds (leaf_assignment body plan.levels keys) body ≡ true →
       (IsIn (cells_of (leaf_assignment body plan.levels keys) terms) found.rows × AllByRecursion (IsGapped found.sense (leaf_assignment body plan.levels keys)) body.absents)
@@ -55,12 +55,12 @@ pub record Grows (old new : Sense) : Type 0 where
   pub gaps : (gap : KeptGap) → IsIn gap old.gaps → IsIn gap new.gaps
   pub hits : (hit : Hit) → IsIn hit old.hits → IsIn hit new.hits
 
-pub record FoundGrows {S N : Type 0} (old new : Found S N) : Type 0 where
+pub record FoundGrows {S : Type 0} (old new : Found S) : Type 0 where
   pub sense : Grows old.sense new.sense
   pub rows : (row : Row) → IsIn row old.rows → IsIn row new.rows
 
 -- what was found is right for the state
-pub record IsRight {S N : Type 0} (body : Body) (terms : List Term) (state : State) (found : Found S N) : Type 0 where
+pub record IsRight {S : Type 0} (body : Body) (terms : List Term) (state : State) (found : Found S) : Type 0 where
   pub tight : IsTight found.sense state
   pub answers : AllByRecursion (IsWitness found.sense terms body state) found.rows
 
@@ -71,7 +71,7 @@ IsAnswerUnder terms body plan state keys row =
     (a : Assignment) × (holds a body ≡ true) × Stands a body.atoms state × (cells_of a terms ≡ row) × ((l : ℕ) → l < length keys → cell_of a (term_at plan.levels l) ≡ at keys l) × Lacks a body.absents state
 
 -- each row that was found was there before, or is an answer under the keys
-abbrev pub AreFoundUnder : {S N : Type 0} → List Term → Body → Plan → State → List ℕ → Found S N → Found S N → Type 0
+abbrev pub AreFoundUnder : {S : Type 0} → List Term → Body → Plan → State → List ℕ → Found S → Found S → Type 0
 AreFoundUnder terms body plan state keys old new = (row : Row) → IsIn row new.rows → IsIn row old.rows ⊎ IsAnswerUnder terms body plan state keys row
 
 -- the atoms whose columns are all above the level have their rows among the hits
@@ -87,7 +87,7 @@ pub record IsReached (plan : Plan) (sense : Sense) (keys : List ℕ) : Type 0 wh
   pub hits : HitsAbove sense plan.guides keys
 
 -- the levels below these keys are explored
-abbrev pub IsExploredBelow : {S N : Type 0} → Body → Plan → List Term → Found S N → List ℕ → Type 0
+abbrev pub IsExploredBelow : {S : Type 0} → Body → Plan → List Term → Found S → List ℕ → Type 0
 IsExploredBelow body plan terms found keys =
     Explored found.sense plan.guides (IsCollected body plan terms found) (drop (length keys) plan.levels) (length keys) (at keys)
 

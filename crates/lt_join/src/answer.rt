@@ -15,14 +15,14 @@ ghost use Rattle.lt_join.specs.Holders.{IsPrepared};
 
 use crate::Found;
 use crate::ascending::ascending;
-use crate::looking_up::look_ups_of;
-use crate::walk::{descend, roots_of};
+use crate::walk::{Walk, walk_all};
+use crate::way::Way;
 use lt_face::indexes::Indexes;
-use lt_face::items::{Items, RowList};
+use lt_face::items::RowList;
 use lt_face::memory::NoMemory;
 use lt_face::moves::Moves;
 use lt_query::{Body, Plan, TermList};
-use lt_sense::{NoSense, Noting, Sense, Sensed, Senses};
+use lt_sense::{NoSense, Sense, Senses};
 use std::alloc::Global;
 
 /// As `answers_unsealed`, of a body and a plan that can be walked, however many literals there are, with what took the gaps and hits.
@@ -49,20 +49,12 @@ pub(crate) fn answers_prepared<I: Indexes, S: Senses, L>(
     ensures cost { moves.new ≤ moves.old + bound body.now plan.now (I.state indexes.now) }
     ensures moves { moves.old ≤ moves.new }
 {
-    let mut keys = Items::new(alloc);
-    let mut noted = Noting::new(alloc);
-    let mut iters = roots_of(alloc, indexes, plan)?;
-    let look_ups = look_ups_of(alloc, indexes, body)?;
-    let mut found = Found {
-        sense: Sensed::none(alloc),
-        rows: Items::new(alloc),
-    };
-    descend(
-        alloc, indexes, &mut iters, &look_ups, body, plan, terms, &mut keys, &mut noted,
-        &mut found, moves, false,
-    )?;
-    let rows = ascending(found.rows.into_vec())?;
-    Ok((rows, found.sense.into_senses()))
+    let way = Way::new(alloc, indexes, body, plan, terms.as_slice(), false)?;
+    let mut walk = Walk::new(alloc);
+    walk_all(&way, &mut walk, moves)?;
+    let Found { sense, rows } = walk.found;
+    let rows = ascending(rows.into_vec())?;
+    Ok((rows, sense.into_senses()))
 }
 
 /// As `answers`, with the sense in the order in which it was gathered.
@@ -156,20 +148,10 @@ fn some_sensed<I: Indexes, S: Senses, L>(
     ensures cost { moves.new ≤ moves.old + bound body.now plan.now (I.state indexes.now) }
     ensures moves { moves.old ≤ moves.new }
 {
-    let mut keys = Items::new(alloc);
-    let mut noted = Noting::new(alloc);
-    let mut iters = roots_of(alloc, indexes, plan)?;
-    let look_ups = look_ups_of(alloc, indexes, body)?;
-    let terms = Items::new(alloc);
-    let mut found = Found {
-        sense: Sensed::none(alloc),
-        rows: Items::new(alloc),
-    };
-    let truth = descend(
-        alloc, indexes, &mut iters, &look_ups, body, plan, &terms, &mut keys, &mut noted,
-        &mut found, moves, true,
-    )?;
-    Ok((truth, found.sense.into_senses()))
+    let way = Way::new(alloc, indexes, body, plan, &[], true)?;
+    let mut walk = Walk::new(alloc);
+    let truth = walk_all(&way, &mut walk, moves)?;
+    Ok((truth, walk.found.sense.into_senses()))
 }
 
 /// As `some`, with the sense in the order in which it was gathered.

@@ -5,7 +5,6 @@ ghost use Rattle.lt_face.specs.Keys.{end_key};
 ghost use Rattle.lt_query.specs.Lists.{IsRising};
 ghost use Rattle.lt_join.specs.Parts.{AreBounds, bound_at};
 
-use crate::level::holds;
 use lt_face::indexes::Indexes;
 use lt_face::key::{CELL_LIMIT, END, Key};
 use lt_face::memory::NoMemory;
@@ -20,12 +19,9 @@ fn first_rows<'a, I: Indexes>(plan: &Plan, tables: &'a I) -> Option<&'a I::Rows>
     if level.pins.len() > 0 {
         return None;
     }
-    for guide in plan.guides.as_slice() {
-        if holds(guide, 0) {
-            return tables.index(guide.relation, &guide.columns);
-        }
-    }
-    None
+    let first = plan.guides.at_level(0).first()?;
+    let guide = &plan.guides.as_slice()[*first];
+    tables.index(guide.relation, &guide.columns)
 }
 
 /// The first cell of a row, 0 where it has none.

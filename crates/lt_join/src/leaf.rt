@@ -1,70 +1,80 @@
 //! What the keys of all levels give.
-ghost use Rattle.std.specs.Prelude.{◌≡◌, ◌≤◌, length, Some, None, if◌then◌else◌};
-ghost use Rattle.std.specs.List.{AllByRecursion, list_all};
-ghost use Rattle.lt_face.specs.Limits.{most_columns, most_variables};
-ghost use Rattle.lt_model.specs.Answers.{cells_of, passes};
-ghost use Rattle.lt_model.specs.Fits.{IsTermOf};
-ghost use Rattle.lt_join.specs.Values.{values_in, assigned, IsTest};
-ghost use Rattle.lt_join.specs.Walked.{at, value_from, leaf_assignment};
+ghost use Rattle.std.specs.Prelude.{◌≡◌, ◌≤◌, ◌+◌, ◌∷◌, ◌++◌, [], true, false, length, IfOk, OnOk};
+ghost use Rattle.lt_model.specs.Answers.{cells_of};
+ghost use Rattle.lt_join.specs.Known.{IsKnown};
+ghost use Rattle.lt_join.specs.Values.{assigned, values_in};
+ghost use Rattle.lt_join.specs.Walked.{IsReached, IsRight};
+ghost use Rattle.lt_join.specs.Way.{HasWalked};
 
-use crate::conditions::{all_pass, give_each, give_value};
+use crate::Found;
+use crate::conditions::{all_pass, give_each};
+use crate::looking_up::lacks_each;
+use crate::path::Path;
 use crate::values::Values;
-use lt_face::items::Items;
-use lt_face::key::Key;
-use lt_face::row::Row;
-use lt_query::{Body, Level, Plan, Term};
-use std::alloc::Global;
+use crate::way::Way;
+use lt_face::indexes::Indexes;
+use lt_face::memory::NoMemory;
+use lt_face::moves::Moves;
+use lt_sense::Senses;
 
-/// Gives each variable the key at its first level.
-fn give_levels(values: &mut Values, levels: &[Level], keys: &[Key])
-    requires none { values_in values.old.cells ≡ (λ _. None) }
-    requires as_long { length levels.now ≤ length keys.now }
-    requires variables { AllByRecursion (λ level. IsTermOf most_variables level.term) levels.now }
-    ensures { values_in values.new.cells ≡ value_from levels.now 0 (at keys.now) }
+/// Adds the row that the values give, unless the first answer suffices.
+#[inline]
+fn add_row<'a, I: Indexes, S: Senses>(
+    way: &Way<'a, I>,
+    values: &Values,
+    found: &mut Found<S>,
+) -> Result<(), NoMemory>
+    ensures added { OnOk result (way.now.first ≡ false → found.new.rows ≡ found.old.rows ++ cells_of (assigned (values_in values.now.cells)) way.now.terms ∷ []) }
+    ensures first { way.now.first ≡ true → found.new.rows ≡ found.old.rows }
+    ensures sense { found.new.sense ≡ found.old.sense }
 {
-    for i in 0..levels.len() {
-        let level = &levels[i];
-        match level.term {
-            Term::Var(v) => give_value(values, v, keys[i]),
-            Term::Cell(_) => {}
-        }
+    if !way.first {
+        found.rows.push(values.row(way.alloc, way.terms))?;
     }
+    Ok(())
 }
 
-/// The values that the keys of all levels give the variables.
-pub(crate) fn leaf_values(body: &Body, plan: &Plan, keys: &Items<Key>) -> Values
-    requires as_long { length plan.now.levels ≤ length keys.now }
-    requires variables { AllByRecursion (λ level. IsTermOf most_variables level.term) plan.now.levels }
-    requires tests { AllByRecursion IsTest body.now.tests }
-    ensures { assigned (values_in result.cells) ≡ leaf_assignment body.now plan.now.levels (at keys.now) }
+/// Adds the answer that the values give, where they give one, and answers whether the walk stops there. They are those of the keys of
+/// all levels.
+pub(crate) fn at_leaf<'a, I: Indexes, S: Senses, L>(
+    way: &Way<'a, I>,
+    _keys: &Path,
+    values: &Values,
+    found: &mut Found<S>,
+    moves: &mut Moves<L>,
+) -> Result<bool, NoMemory>
+    requires full { length _keys.now ≡ length way.now.plan.levels }
+    requires known { IsKnown way.now.plan.levels _keys.now (values_in values.now.cells) }
+    requires reached { IsReached way.now.plan found.old.sense _keys.now }
+    requires right { IsRight way.now.body way.now.terms way.now.state found.old }
+    ensures walked { IfOk result (HasWalked way.now _keys.now found.old found.new moves.old moves.new) }
+    // also where memory is refused
+    ensures cost { moves.new ≤ moves.old + length way.now.body.absents }
+    ensures moves { moves.old ≤ moves.new }
 {
-    let mut values = Values::none();
-    give_levels(&mut values, plan.levels.as_slice(), keys.as_slice());
-    give_each(&mut values, body.tests.as_slice());
-    values
-}
-
-/// The answer that the keys of all levels give, where the tests hold.
-pub(crate) fn leaf_answer(
-    alloc: Global,
-    body: &Body,
-    plan: &Plan,
-    terms: &Items<Term>,
-    keys: &Items<Key>,
-) -> Option<Row>
-    requires as_long { length plan.now.levels ≤ length keys.now }
-    requires variables { AllByRecursion (λ level. IsTermOf most_variables level.term) plan.now.levels }
-    requires tests { AllByRecursion IsTest body.now.tests }
-    requires narrow { length terms.now ≤ most_columns }
-    ensures { let a = leaf_assignment body.now plan.now.levels (at keys.now) in result ≡ (if list_all (passes a) body.now.tests then Some (cells_of a terms.now) else None) }
-{
-    let tests = body.tests.as_slice();
-    let mut values = Values::none();
-    give_levels(&mut values, plan.levels.as_slice(), keys.as_slice());
-    give_each(&mut values, tests);
-    if all_pass(&values, tests) {
-        Some(values.row(alloc, terms.as_slice()))
-    } else {
-        None
+    let tests = way.body.tests.as_slice();
+    let absents = way.body.absents.as_slice();
+    if tests.is_empty() && absents.is_empty() {
+        add_row(way, values, found)?;
+        return Ok(way.first);
     }
+    let mut all = *values;
+    give_each(&mut all, tests);
+    if !all_pass(&all, tests) {
+        return Ok(false);
+    }
+    let lacks = lacks_each(
+        way.alloc,
+        way.tables,
+        &way.look_ups,
+        absents,
+        &all,
+        &mut found.sense,
+        moves,
+    )?;
+    if !lacks {
+        return Ok(false);
+    }
+    add_row(way, &all, found)?;
+    Ok(way.first)
 }

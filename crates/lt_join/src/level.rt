@@ -1,244 +1,331 @@
-//! One level of a walk: its iterators are opened, and joined by a leapfrog.
-ghost use Rattle.std.specs.Prelude.{◌≡◌, ◌+◌, ◌<◌, ◌≤◌, ◌++◌, ◌-◌, ◌^◌, length, map, IfOk, OnOk};
-ghost use Rattle.std.specs.List.{AllByRecursion, AllZip};
+//! One level of a walk: the iterators of the atoms that hold it are opened there, and joined by a leapfrog.
+ghost use Rattle.std.specs.Prelude.{◌≡◌, ◌≢◌, ◌+◌, ◌<◌, ◌≤◌, ◌^◌, ◌++◌, ℕ, [], ◌∷◌, true, false, List, length, map, slice_get, Some, IfOk};
+ghost use Rattle.std.specs.List.{AllByRecursion};
 ghost use Rattle.lt_face.specs.Keys.{end_key};
-ghost use Rattle.lt_sense.specs.Sense.{IsTight};
-ghost use Rattle.lt_leap.specs.Common.{has_key};
+ghost use Rattle.lt_face.specs.Lists.{IsIn};
+ghost use Rattle.lt_leap.specs.Places.{ArePlaces};
 ghost use Rattle.lt_leap.specs.Potential.{join_cost};
-ghost use Rattle.lt_join.specs.Cost.{iterators_at, GainsFewer, LevelGains};
+ghost use Rattle.lt_query.specs.declared.plans.Level.{Level as LevelView};
+ghost use Rattle.lt_query.specs.Holding.{atoms_at_level};
+ghost use Rattle.lt_sense.specs.Sense.{IsTight};
+ghost use Rattle.lt_join.specs.AtomIter.{AtomView, atom_keys};
+ghost use Rattle.lt_join.specs.Cost.{iterators_at};
+ghost use Rattle.lt_join.specs.Explored.{Fits};
+ghost use Rattle.lt_join.specs.Holders.{IsUsable, atoms_at};
+ghost use Rattle.lt_join.specs.Known.{IsKnown};
+ghost use Rattle.lt_join.specs.Level.{AreAtomsAt, AreOpened, AreSensed, HasGone, HoldsAt, IsLevelAt, IsOpenedFrom, RiseFrom, heres_of, is_lone, left_at, lists_of};
+ghost use Rattle.lt_join.specs.Lone.{IsAsked, IsLeftBy};
+ghost use Rattle.lt_join.specs.Values.{values_in};
 ghost use Rattle.lt_join.specs.Walked.{at};
-ghost use Rattle.lt_join.specs.Holders.{IsUsable, IsOpen, IsJoined, left_of, IsWalkable, IsTrieOf, AreUnder, AreOpened, atoms_at, alone};
 
-use crate::keeping::keep_gaps;
-use crate::leaper::{Leaper, LoneKey, Walk};
+use crate::atom_iter::AtomIter;
+use crate::path::Path;
+use crate::values::Values;
+use crate::way::Way;
 use lt_face::indexes::Indexes;
-use lt_face::items::Items;
 use lt_face::key::{END, Key};
+use lt_face::key_iter::KeyIter;
 use lt_face::memory::NoMemory;
 use lt_face::moves::Moves;
 use lt_face::row_set::RowReads;
-use lt_leap::Leap;
-use lt_query::{Guide, Level, Plan};
-use lt_sense::{Noting, Sensed, Senses};
-use lt_trie::TrieIter;
-use std::alloc::Global;
+use lt_leap::{Meeting, Passing, meet, meet_from};
+use lt_query::Level;
+use lt_sense::{Sensed, Senses};
 
-/// Whether one of an atom's columns is at the level.
-pub(crate) fn holds(guide: &Guide, level: usize) -> bool
-    ensures { result ≡ has_key guide.now.places level }
-{
-    guide.places.as_slice().contains(&level)
+/// Which keys the pins and ties of a level leave.
+#[derive(Clone, Copy, Drop)]
+pub enum Asked {
+    Any,
+    One(Key),
+    None,
 }
 
-/// Opens the iterators of the atoms that hold the level below the keys, each at its first key, and keeps the gaps of these moves.
-pub(crate) fn open_walks<'a, I: Indexes, S: Senses, L>(
-    alloc: Global,
-    _tables: &'a I,
-    iters: &[TrieIter<'a, I::Rows>],
-    plan: &Plan,
-    keys: &Items<Key>,
+/// What was asked, and that it is this key.
+#[inline]
+fn and_key(asked: Asked, key: Key) -> Asked
+    ensures { (before : List ℕ) → IsLeftBy before asked → IsLeftBy (before ++ key ∷ []) result }
+{
+    match asked {
+        Asked::Any => Asked::One(key),
+        Asked::One(other) => if other == key { asked } else { Asked::None },
+        Asked::None => Asked::None,
+    }
+}
+
+/// What pins leave.
+#[inline]
+fn asked_by(pins: &[Key]) -> Asked
+    ensures { IsLeftBy pins.now result }
+{
+    let mut asked = Asked::Any;
+    for pin in pins {
+        asked = and_key(asked, *pin);
+    }
+    asked
+}
+
+/// What was asked, and that it is the key of each tied level.
+#[inline]
+fn and_ties(asked: Asked, levels: &[Level], ties: &[usize], values: &Values, _keys: &Path) -> Asked
+    requires known { IsKnown levels.now _keys.now (values_in values.now.cells) }
+    requires within { length _keys.now ≤ length levels.now }
+    requires ties { AllByRecursion (λ m. m < length _keys.now) ties.now }
+    ensures { (before : List ℕ) → IsLeftBy before asked → IsLeftBy (before ++ map (at _keys.now) ties.now) result }
+{
+    let mut asked = asked;
+    for tie in ties {
+        asked = and_key(asked, values.cell(levels[*tie].term));
+    }
+    asked
+}
+
+/// What the pins and ties of a level leave.
+#[inline]
+fn asked_of(levels: &[Level], level: &Level, values: &Values, keys: &Path) -> Asked
+    requires known { IsKnown levels.now keys.now (values_in values.now.cells) }
+    requires within { length keys.now ≤ length levels.now }
+    requires ties { AllByRecursion (λ m. m < length keys.now) level.now.ties }
+    ensures { IsAsked level.now (at keys.now) result }
+{
+    let asked = asked_by(level.pins.as_slice());
+    and_ties(asked, levels, level.ties.as_slice(), values, keys)
+}
+
+/// Brings the iterators at these places, which were opened, back to where they stood.
+#[inline]
+fn close<'a, R: RowReads>(iters: &mut [AtomIter<'a, R>], places: &[usize])
+    requires places { ArePlaces places.now (length iters.old) }
+    requires opened { (above : List AtomView) × AreOpened places.now above iters.old }
+    ensures { (above : List AtomView) → AreOpened places.now above iters.old → iters.new ≡ above }
+{
+    for place in places {
+        iters[*place].up();
+    }
+}
+
+/// Opens the iterators that hold the level below the keys, one after another, each at its first key from where the one before
+/// stands. Answers where the last one stands; at `END` all are back where they stood.
+fn open_rising<'a, I: Indexes, S: Senses, L>(
+    way: &Way<'a, I>,
+    iters: &mut [AtomIter<'a, I::Rows>],
+    keys: &Path,
+    from: Key,
     sense: &mut Sensed<S>,
     moves: &mut Moves<L>,
-) -> Result<Vec<Leaper<'a, I::Rows>>, NoMemory>
-    requires walkable { AllByRecursion IsWalkable plan.now.guides }
-    requires iters { AllZip (IsTrieOf (I.state _tables.now) (length keys.now) (at keys.now)) plan.now.guides iters.now }
-    requires tight { IsTight sense.old (I.state _tables.now) }
-    ensures opened { IfOk result (λ leapers. AreOpened plan.now (I.state _tables.now) keys.now plan.now.guides sense.old sense.new leapers.items moves.old moves.new) }
+) -> Result<Key, NoMemory>
+    requires iters { AreAtomsAt way.now.plan way.now.state keys.now iters.old }
+    requires tight { IsTight sense.old way.now.state }
+    ensures sensed { IfOk result (λ key. AreSensed way.now.plan way.now.state keys.now sense.old sense.new from key moves.old moves.new) }
+    ensures opened { IfOk result (λ key. key ≢ end_key → AreOpened (atoms_at_level way.now.plan.guides (length keys.now)) iters.old iters.new) }
+    ensures rising { IfOk result (λ key. key ≢ end_key → RiseFrom from (lists_of iters.new (atoms_at_level way.now.plan.guides (length keys.now))) (heres_of iters.new (atoms_at_level way.now.plan.guides (length keys.now)))) }
+    ensures last { IfOk result (λ key. key ≢ end_key → AllByRecursion (λ here. here ≤ key) (heres_of iters.new (atoms_at_level way.now.plan.guides (length keys.now)))) }
+    ensures closed { IfOk result (λ key. key ≡ end_key → iters.new ≡ iters.old) }
+    ensures each { IfOk result (λ key. key ≢ end_key → moves.new ≡ moves.old + length (atoms_at_level way.now.plan.guides (length keys.now))) }
     // also where memory is refused
-    ensures within { moves.new ≤ moves.old + length (atoms_at plan.now.guides (length keys.now)) }
+    ensures within { moves.new ≤ moves.old + length (atoms_at_level way.now.plan.guides (length keys.now)) }
     ensures moves { moves.old ≤ moves.new }
 {
-    let depth = keys.len();
-    let guides = plan.guides.as_slice();
-    let mut leapers = Vec::new(alloc);
-    for i in 0..iters.len() {
-        let guide = &guides[i];
-        if holds(guide, depth) {
-            let mut trie = iters[i].copy();
-            let gap = trie.open_level(moves);
-            sense.add_gap(
-                guide.relation,
-                &guide.columns,
-                trie.prefix(),
-                gap.lo,
-                gap.hi,
-            )?;
-            leapers.push(Leaper::Walks(Walk { guide: i, trie }))?;
+    let places = way.plan.guides.at_level(keys.len());
+    let mut key = from;
+    for i in 0..places.len() {
+        let place = places[i];
+        let gap = iters[place].open_at(key, moves);
+        sense.pass(place, &iters[place], gap)?;
+        key = gap.hi;
+        if key == END {
+            close(iters, &places[..i + 1]);
+            return Ok(END);
         }
     }
-    Ok(leapers)
+    Ok(key)
 }
 
-/// Leapers a key alone for each pin and for each tie.
-pub(crate) fn add_keys<'a, R: RowReads>(
-    leapers: &mut Vec<Leaper<'a, R>>,
-    level: &Level,
-    keys: &Items<Key>,
-) -> Result<(), NoMemory>
-    requires pins { AllByRecursion (λ pin. pin < 2 ^ 120) level.now.pins }
-    requires ties { AllByRecursion (λ m. m < length keys.now) level.now.ties }
-    requires keys { AllByRecursion (λ k. k < 2 ^ 120) keys.now }
-    ensures { OnOk result (leapers.new.items ≡ leapers.old.items ++ (map alone level.now.pins ++ map (λ m. alone (at keys.now m)) level.now.ties)) }
-{
-    for pin in level.pins.as_slice() {
-        leapers.push(Leaper::Single(LoneKey::at(*pin)))?;
-    }
-    for tie in level.ties.as_slice() {
-        let key = keys.as_slice()[*tie];
-        leapers.push(Leaper::Single(LoneKey::at(key)))?;
-    }
-    Ok(())
-}
-
-/// A level that was opened, and the key where it stands: one that all its leapers have, or `END`.
-#[derive(Drop)]
-pub(crate) struct Joined<'a, R: RowReads> {
-    pub(crate) leap: Leap<Leaper<'a, R>>,
-    pub(crate) key: Key,
-}
-
-/// Opens the level below the keys.
-pub(crate) fn open_level<'a, I: Indexes, S: Senses, L>(
-    alloc: Global,
-    tables: &'a I,
-    iters: &[TrieIter<'a, I::Rows>],
-    plan: &Plan,
-    level: &Level,
-    keys: &Items<Key>,
-    noted: &mut Noting<S::Noted>,
+/// Opens the iterator at this place where a level with one key is opened, and brings it to the key or past it. Answers where it stands.
+#[inline]
+fn open_lone<'a, I: Indexes, S: Senses, L>(
+    _way: &Way<'a, I>,
+    iter: &mut AtomIter<'a, I::Rows>,
+    place: usize,
+    _keys: &Path,
+    key: Key,
     sense: &mut Sensed<S>,
     moves: &mut Moves<L>,
-) -> Result<Joined<'a, I::Rows>, NoMemory>
-    requires walkable { AllByRecursion IsWalkable plan.now.guides }
-    requires iters { AllZip (IsTrieOf (I.state tables.now) (length keys.now) (at keys.now)) plan.now.guides iters.now }
-    requires usable { IsUsable plan.now.guides level.now keys.now }
-    requires tight { IsTight sense.old (I.state tables.now) }
-    ensures gains { IfOk result (λ joined. LevelGains (length (atoms_at plan.now.guides (length keys.now))) sense.old sense.new moves.old moves.new joined.key) }
-    ensures stands { IfOk result (λ joined. IsJoined plan.now (I.state tables.now) sense.old sense.new keys.now level.now 0
-        (moves.old + join_cost (iterators_at (I.state tables.now) plan.now.guides level.now (length keys.now) (at keys.now))) moves.new joined.leap joined.key) }
-    ensures under { IfOk result (λ _. AreUnder keys.now sense.old sense.new) }
+) -> Result<Key, NoMemory>
+    requires holds { HoldsAt _way.now.plan _way.now.state _keys.now iter.old }
+    requires tight { IsTight sense.old _way.now.state }
+    requires bound { key < 2 ^ 120 }
+    ensures opened { IfOk result (λ here. IsOpenedFrom iter.old iter.new) }
+    ensures stands { IfOk result (λ here. iter.new.trie.here ≡ here) }
+    ensures reaches { IfOk result (λ here. key ≤ here) }
+    ensures there { IfOk result (λ here. here ≡ key → IsIn key (atom_keys iter.new)) }
+    ensures sensed { IfOk result (λ here. AreSensed _way.now.plan _way.now.state _keys.now sense.old sense.new key here moves.old moves.new) }
+    ensures each { IfOk result (λ _. moves.old + 1 ≤ moves.new) }
     // also where memory is refused
-    ensures within { moves.new ≤ moves.old + join_cost (iterators_at (I.state tables.now) plan.now.guides level.now (length keys.now) (at keys.now)) }
+    ensures within { moves.new ≤ moves.old + 2 }
     ensures moves { moves.old ≤ moves.new }
 {
-    let mut leapers = open_walks(alloc, tables, iters, plan, keys, sense, moves)?;
-    add_keys(&mut leapers, level, keys)?;
-    noted.clear();
-    let leap = Leap::init(alloc, leapers, noted, moves)?;
-    keep_gaps(tables, &leap, noted, plan, level, keys, sense)?;
-    let key = leap.key();
-    Ok(Joined { leap, key })
+    let gap = iter.open_at(S::opens_at(key), moves);
+    sense.pass(place, iter, gap)?;
+    if gap.hi >= key {
+        return Ok(gap.hi);
+    }
+    let gap = iter.seek(key, moves);
+    sense.pass(place, iter, gap)?;
+    Ok(gap.hi)
 }
 
-/// Goes to the level's next key. Where a pin or a tie sits, none can follow.
+/// Opens the iterators that hold the level below the keys at the one key that it may have. Answers whether all have it; if not, all are
+/// back where they stood.
+fn open_at_key<'a, I: Indexes, S: Senses, L>(
+    way: &Way<'a, I>,
+    iters: &mut [AtomIter<'a, I::Rows>],
+    keys: &Path,
+    key: Key,
+    sense: &mut Sensed<S>,
+    moves: &mut Moves<L>,
+) -> Result<bool, NoMemory>
+    requires iters { AreAtomsAt way.now.plan way.now.state keys.now iters.old }
+    requires tight { IsTight sense.old way.now.state }
+    requires bound { key < 2 ^ 120 }
+    ensures sensed { IfOk result (λ all. AreSensed way.now.plan way.now.state keys.now sense.old sense.new key key moves.old moves.new) }
+    ensures lacks { IfOk result (λ all. all ≢ true → AreSensed way.now.plan way.now.state keys.now sense.old sense.new key (key + 1) moves.old moves.new) }
+    ensures opened { IfOk result (λ all. all ≡ true → AreOpened (atoms_at_level way.now.plan.guides (length keys.now)) iters.old iters.new) }
+    ensures at_key { IfOk result (λ all. all ≡ true → AllByRecursion (λ here. here ≡ key) (heres_of iters.new (atoms_at_level way.now.plan.guides (length keys.now)))) }
+    ensures there { IfOk result (λ all. all ≡ true → AllByRecursion (λ keys. IsIn key keys) (lists_of iters.new (atoms_at_level way.now.plan.guides (length keys.now)))) }
+    ensures each { IfOk result (λ all. all ≡ true → moves.old + length (atoms_at_level way.now.plan.guides (length keys.now)) ≤ moves.new) }
+    ensures closed { IfOk result (λ all. all ≢ true → iters.new ≡ iters.old) }
+    // also where memory is refused
+    ensures within { moves.new ≤ moves.old + length (atoms_at_level way.now.plan.guides (length keys.now)) + length (atoms_at_level way.now.plan.guides (length keys.now)) }
+    ensures moves { moves.old ≤ moves.new }
+{
+    let places = way.plan.guides.at_level(keys.len());
+    for i in 0..places.len() {
+        let place = places[i];
+        let here = open_lone(way, &mut iters[place], place, keys, key, sense, moves)?;
+        if here != key {
+            close(iters, &places[..i + 1]);
+            return Ok(false);
+        }
+    }
+    Ok(true)
+}
+
+/// The level has no key, or none any more.
+#[inline]
+fn ended() -> Meeting
+    ensures key { result.key ≡ end_key }
+{
+    Meeting { key: END, turn: 0 }
+}
+
+/// Opens the level below the keys, where it has neither pin nor tie, and goes to its first key at or above the bound, or to `END`.
+#[inline]
+fn open_joined<'a, I: Indexes, S: Senses, L>(
+    way: &Way<'a, I>,
+    iters: &mut [AtomIter<'a, I::Rows>],
+    keys: &Path,
+    from: Key,
+    sense: &mut Sensed<S>,
+    moves: &mut Moves<L>,
+) -> Result<Meeting, NoMemory>
+    requires iters { AreAtomsAt way.now.plan way.now.state keys.now iters.old }
+    requires held { 0 < length (atoms_at way.now.plan.guides (length keys.now)) }
+    requires tight { IsTight sense.old way.now.state }
+    requires bound { from ≤ 2 ^ 120 }
+    ensures gone { IfOk result (λ met. (level : LevelView) → is_lone level ≡ false
+        → HasGone way.now.plan way.now.state sense.old sense.new keys.now level (atoms_at_level way.now.plan.guides (length keys.now)) iters.old iters.new from
+        (moves.old + join_cost (iterators_at way.now.state way.now.plan.guides level (length keys.now) (at keys.now))) moves.old moves.new met.key met.turn) }
+    // also where memory is refused
+    ensures within { (level : LevelView) → is_lone level ≡ false
+        → moves.new ≤ moves.old + join_cost (iterators_at way.now.state way.now.plan.guides level (length keys.now) (at keys.now)) }
+    ensures moves { moves.old ≤ moves.new }
+{
+    let places = way.plan.guides.at_level(keys.len());
+    let greatest = open_rising(way, iters, keys, from, sense, moves)?;
+    if greatest == END {
+        return Ok(ended());
+    }
+    let met = meet(iters, places, 0, sense, moves)?;
+    if met.key == END {
+        close(iters, places);
+        return Ok(ended());
+    }
+    Ok(met)
+}
+
+/// Opens the level below the keys, and goes to its first key at or above the bound, or to `END`.
+pub(crate) fn open<'a, I: Indexes, S: Senses, L>(
+    way: &Way<'a, I>,
+    iters: &mut [AtomIter<'a, I::Rows>],
+    keys: &Path,
+    from: Key,
+    values: &Values,
+    sense: &mut Sensed<S>,
+    moves: &mut Moves<L>,
+) -> Result<Meeting, NoMemory>
+    requires iters { AreAtomsAt way.now.plan way.now.state keys.now iters.old }
+    requires known { IsKnown way.now.plan.levels keys.now (values_in values.now.cells) }
+    requires usable { (level : LevelView) × (slice_get way.now.plan.levels (length keys.now) ≡ Some level) × IsUsable way.now.plan.guides level keys.now }
+    requires tight { IsTight sense.old way.now.state }
+    requires bound { from ≤ 2 ^ 120 }
+    ensures gone { IfOk result (λ met. (level : LevelView) → slice_get way.now.plan.levels (length keys.now) ≡ Some level
+        → HasGone way.now.plan way.now.state sense.old sense.new keys.now level (atoms_at_level way.now.plan.guides (length keys.now)) iters.old iters.new from
+        (moves.old + join_cost (iterators_at way.now.state way.now.plan.guides level (length keys.now) (at keys.now))) moves.old moves.new met.key met.turn) }
+    // also where memory is refused
+    ensures within { (level : LevelView) → slice_get way.now.plan.levels (length keys.now) ≡ Some level
+        → moves.new ≤ moves.old + join_cost (iterators_at way.now.state way.now.plan.guides level (length keys.now) (at keys.now)) }
+    ensures moves { moves.old ≤ moves.new }
+{
+    let levels = way.plan.levels.as_slice();
+    match asked_of(levels, &levels[keys.len()], values, keys) {
+        Asked::Any => open_joined(way, iters, keys, from, sense, moves),
+        Asked::One(key) => {
+            if key < from {
+                return Ok(ended());
+            }
+            let all = open_at_key(way, iters, keys, key, sense, moves)?;
+            if all {
+                return Ok(Meeting { key, turn: 0 });
+            }
+            Ok(ended())
+        }
+        Asked::None => Ok(ended()),
+    }
+}
+
+/// Goes to the level's next key, or to `END`. Where a pin or a tie sits, none can follow.
 pub(crate) fn next_key<'a, I: Indexes, S: Senses, L>(
-    tables: &'a I,
-    joined: &mut Joined<'a, I::Rows>,
-    plan: &Plan,
-    level: &Level,
-    keys: &Items<Key>,
-    noted: &mut Noting<S::Noted>,
+    way: &Way<'a, I>,
+    iters: &mut [AtomIter<'a, I::Rows>],
+    keys: &Path,
+    met: Meeting,
     sense: &mut Sensed<S>,
     moves: &mut Moves<L>,
-) -> Result<(), NoMemory>
-    requires is_open { IsOpen plan.now (I.state tables.now) keys.now level.now joined.old.leap joined.old.key }
-    requires at_key { joined.old.key < 2 ^ 128 - 1 }
-    requires usable { IsUsable plan.now.guides level.now keys.now }
-    requires tight { IsTight sense.old (I.state tables.now) }
-    ensures gains { OnOk result (LevelGains (length (atoms_at plan.now.guides (length keys.now))) sense.old sense.new moves.old moves.new joined.new.key) }
-    ensures stands { OnOk result (IsJoined plan.now (I.state tables.now) sense.old sense.new keys.now level.now (joined.old.key + 1) (moves.old + left_of joined.old.leap) moves.new joined.new.leap joined.new.key) }
-    ensures rises { OnOk result (joined.old.key < joined.new.key) }
-    ensures ends { OnOk result (0 < length level.now.pins + length level.now.ties → (joined.new.key ≡ end_key) × (moves.new ≡ moves.old)) }
-    ensures under { OnOk result (AreUnder keys.now sense.old sense.new) }
+) -> Result<Meeting, NoMemory>
+    requires usable { (level : LevelView) × (slice_get way.now.plan.levels (length keys.now) ≡ Some level) × IsUsable way.now.plan.guides level keys.now }
+    requires at { (above : List AtomView) × IsLevelAt way.now.plan way.now.state keys.now (atoms_at_level way.now.plan.guides (length keys.now)) above iters.old met.key met.turn }
+    requires low { met.key < 2 ^ 120 }
+    requires tight { IsTight sense.old way.now.state }
+    ensures gone { IfOk result (λ next. (level : LevelView) → slice_get way.now.plan.levels (length keys.now) ≡ Some level → (above : List AtomView)
+        → IsLevelAt way.now.plan way.now.state keys.now (atoms_at_level way.now.plan.guides (length keys.now)) above iters.old met.key met.turn
+        → Fits level (at keys.now) met.key
+        → HasGone way.now.plan way.now.state sense.old sense.new keys.now level (atoms_at_level way.now.plan.guides (length keys.now)) above iters.new (met.key + 1)
+        (moves.old + left_at level (atoms_at_level way.now.plan.guides (length keys.now)) iters.old met.key met.turn) moves.old moves.new next.key next.turn) }
     // also where memory is refused
-    ensures within { moves.new ≤ moves.old + left_of joined.old.leap }
+    ensures within { (level : LevelView) → slice_get way.now.plan.levels (length keys.now) ≡ Some level
+        → moves.new ≤ moves.old + left_at level (atoms_at_level way.now.plan.guides (length keys.now)) iters.old met.key met.turn }
     ensures moves { moves.old ≤ moves.new }
 {
+    let places = way.plan.guides.at_level(keys.len());
+    let level = &way.plan.levels.as_slice()[keys.len()];
     if level.pins.len() > 0 || level.ties.len() > 0 {
-        joined.key = END;
-        return Ok(());
+        close(iters, places);
+        return Ok(ended());
     }
-    noted.clear();
-    joined.leap.next(noted, moves)?;
-    keep_gaps(tables, &joined.leap, noted, plan, level, keys, sense)?;
-    joined.key = joined.leap.key();
-    Ok(())
-}
-
-/// Goes to the level's least key at or above the bound, which is above where it stands.
-fn seek_key<'a, I: Indexes, S: Senses, L>(
-    tables: &'a I,
-    joined: &mut Joined<'a, I::Rows>,
-    plan: &Plan,
-    level: &Level,
-    keys: &Items<Key>,
-    noted: &mut Noting<S::Noted>,
-    sense: &mut Sensed<S>,
-    moves: &mut Moves<L>,
-    bound: Key,
-) -> Result<(), NoMemory>
-    requires is_open { IsOpen plan.now (I.state tables.now) keys.now level.now joined.old.leap joined.old.key }
-    requires ahead { joined.old.key < bound }
-    requires bound { bound ≤ 2 ^ 120 }
-    requires usable { IsUsable plan.now.guides level.now keys.now }
-    requires tight { IsTight sense.old (I.state tables.now) }
-    ensures gains { OnOk result (GainsFewer sense.old sense.new moves.old moves.new) }
-    ensures hits { OnOk result (sense.new.hits ≡ sense.old.hits) }
-    ensures stands { OnOk result (IsJoined plan.now (I.state tables.now) sense.old sense.new keys.now level.now bound (moves.old + left_of joined.old.leap) moves.new joined.new.leap joined.new.key) }
-    ensures reaches { OnOk result (bound ≤ joined.new.key) }
-    ensures under { OnOk result (AreUnder keys.now sense.old sense.new) }
-    // also where memory is refused
-    ensures within { moves.new ≤ moves.old + left_of joined.old.leap }
-    ensures moves { moves.old ≤ moves.new }
-{
-    noted.clear();
-    joined.leap.seek(bound, noted, moves)?;
-    keep_gaps(tables, &joined.leap, noted, plan, level, keys, sense)?;
-    joined.key = joined.leap.key();
-    Ok(())
-}
-
-/// Opens the level below the keys, and goes to its first key at or above the bound.
-pub(crate) fn open_from<'a, I: Indexes, S: Senses, L>(
-    alloc: Global,
-    tables: &'a I,
-    iters: &[TrieIter<'a, I::Rows>],
-    plan: &Plan,
-    level: &Level,
-    keys: &Items<Key>,
-    noted: &mut Noting<S::Noted>,
-    sense: &mut Sensed<S>,
-    moves: &mut Moves<L>,
-    bound: Key,
-) -> Result<Joined<'a, I::Rows>, NoMemory>
-    requires walkable { AllByRecursion IsWalkable plan.now.guides }
-    requires iters { AllZip (IsTrieOf (I.state tables.now) (length keys.now) (at keys.now)) plan.now.guides iters.now }
-    requires usable { IsUsable plan.now.guides level.now keys.now }
-    requires tight { IsTight sense.old (I.state tables.now) }
-    requires bound { bound ≤ 2 ^ 120 }
-    ensures gains { IfOk result (λ joined. LevelGains (length (atoms_at plan.now.guides (length keys.now))) sense.old sense.new moves.old moves.new joined.key) }
-    ensures stands { IfOk result (λ joined. IsJoined plan.now (I.state tables.now) sense.old sense.new keys.now level.now bound
-        (moves.old + join_cost (iterators_at (I.state tables.now) plan.now.guides level.now (length keys.now) (at keys.now))) moves.new joined.leap joined.key) }
-    ensures reaches { IfOk result (λ joined. bound ≤ joined.key) }
-    ensures under { IfOk result (λ _. AreUnder keys.now sense.old sense.new) }
-    // also where memory is refused
-    ensures within { moves.new ≤ moves.old + join_cost (iterators_at (I.state tables.now) plan.now.guides level.now (length keys.now) (at keys.now)) }
-    ensures moves { moves.old ≤ moves.new }
-{
-    let mut joined = open_level(alloc, tables, iters, plan, level, keys, noted, sense, moves)?;
-    if joined.key >= bound {
-        return Ok(joined);
+    let next = meet_from(iters, places, met.turn, met.key + 1, sense, moves)?;
+    if next.key == END {
+        close(iters, places);
+        return Ok(ended());
     }
-    seek_key(
-        tables,
-        &mut joined,
-        plan,
-        level,
-        keys,
-        noted,
-        sense,
-        moves,
-        bound,
-    )?;
-    Ok(joined)
+    Ok(next)
 }

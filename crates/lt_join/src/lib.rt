@@ -3,13 +3,11 @@
 
 mod answer;
 pub mod ascending;
+mod atom_iter;
 mod bounds;
 pub mod conditions;
 mod covering;
-mod exploring;
-mod keeping;
 mod leaf;
-mod leaper;
 mod level;
 mod looking_up;
 mod mending;
@@ -21,6 +19,7 @@ mod mending_read;
 mod mending_shared;
 mod mending_touched;
 mod parts;
+mod path;
 mod ranging;
 mod slicing;
 mod splitting;
@@ -28,10 +27,10 @@ mod splitting_alone;
 mod splitting_slices;
 pub mod values;
 mod walk;
+mod way;
 
 pub use answer::{answers, answers_alone, answers_unsealed, some, some_alone, some_unsealed};
 pub use covering::agreeing_states_answer_alike;
-pub use leaper::{Leaper, LoneKey, Walk};
 use lt_face::items::RowList;
 use lt_sense::{Sensed, Senses};
 pub use mending::{mended_slices_are_slices, slices_stay};

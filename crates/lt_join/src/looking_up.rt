@@ -1,13 +1,11 @@
 //! The rows that the negated atoms of a body name, looked up.
 ghost use Rattle.std.specs.Prelude.{◌≡◌, ◌+◌, ◌<◌, ◌≤◌, ◌^◌, true, false, length, IfOk, OnOk};
 ghost use Rattle.std.specs.List.{AllByRecursion, AllZip};
-ghost use Rattle.lt_face.specs.Limits.{most_columns, most_variables};
+ghost use Rattle.lt_face.specs.Limits.{most_columns};
 ghost use Rattle.lt_face.specs.Lists.{IsIn, AnyByRecursion};
 ghost use Rattle.lt_face.specs.Rows.{has_row};
 ghost use Rattle.lt_face.specs.State.{Row as RowView, Has};
 ghost use Rattle.lt_model.specs.Answers.{cells_of};
-ghost use Rattle.lt_model.specs.Cells.{is_cell};
-ghost use Rattle.lt_model.specs.Fits.{IsTermOf};
 ghost use Rattle.lt_query.specs.Lists.{below};
 ghost use Rattle.lt_query.specs.Runnable.{AreAtomsWide};
 ghost use Rattle.lt_sense.specs.declared.covering.KeptGap.{KeptGap as KeptGapView};
@@ -15,19 +13,17 @@ ghost use Rattle.lt_sense.specs.Sense.{IsTight, gap_covers};
 ghost use Rattle.lt_join.specs.Certify.{IsGapped, IsHitOf};
 ghost use Rattle.lt_join.specs.Cost.{GainsFewer};
 ghost use Rattle.lt_join.specs.Holders.{IsLookUpFor, IsLookUpOf};
-ghost use Rattle.lt_join.specs.Values.{values_in, assigned, IsTest};
-ghost use Rattle.lt_join.specs.Walked.{at, leaf_assignment, Grows};
+ghost use Rattle.lt_join.specs.Values.{values_in, assigned};
+ghost use Rattle.lt_join.specs.Walked.{Grows};
 
-use crate::leaf::leaf_values;
 use crate::values::Values;
 use lt_face::indexes::Indexes;
-use lt_face::items::{Items, Perm};
-use lt_face::key::Key;
+use lt_face::items::Perm;
 use lt_face::memory::NoMemory;
 use lt_face::moves::Moves;
 use lt_face::row::Row;
 use lt_face::row_set::RowReads;
-use lt_query::{Atom, Body, Plan, own_columns};
+use lt_query::{Atom, Body, own_columns};
 use lt_sense::{Sensed, Senses};
 use std::alloc::Global;
 use std::marker::Model;
@@ -120,7 +116,7 @@ fn keep_lack<'a, I: Indexes, S: Senses>(
     let Some(cell) = prefix.pop() else {
         return Ok(());
     };
-    sense.add_gap(relation, columns, &prefix, cell, cell + 1)?;
+    sense.add_gap(relation, columns, prefix.cells(), cell, cell + 1)?;
     Ok(())
 }
 
@@ -158,7 +154,7 @@ fn look_up<'a, I: Indexes, S: Senses, L>(
 
 /// Whether the state has none of the rows that these atoms name. They are looked up in text order, up to the first that is
 /// there.
-fn lacks_each<'a, I: Indexes, S: Senses, L>(
+pub(crate) fn lacks_each<'a, I: Indexes, S: Senses, L>(
     alloc: Global,
     tables: &'a I,
     look_ups: &[LookUp<'a, I::Rows>],
@@ -188,41 +184,4 @@ fn lacks_each<'a, I: Indexes, S: Senses, L>(
         }
     }
     Ok(true)
-}
-
-/// Whether the state has none of the rows that the negated atoms name under the keys of all levels.
-pub(crate) fn lacks_rows<'a, I: Indexes, S: Senses, L>(
-    alloc: Global,
-    tables: &'a I,
-    look_ups: &[LookUp<'a, I::Rows>],
-    body: &Body,
-    plan: &Plan,
-    keys: &Items<Key>,
-    sense: &mut Sensed<S>,
-    moves: &mut Moves<L>,
-) -> Result<bool, NoMemory>
-    requires full { length keys.now ≡ length plan.now.levels }
-    requires cells { AllByRecursion (λ k. is_cell k ≡ true) keys.now }
-    requires variables { AllByRecursion (λ level. IsTermOf most_variables level.term) plan.now.levels }
-    requires tests { AllByRecursion IsTest body.now.tests }
-    requires absents { AllByRecursion (λ atom. AllByRecursion (IsTermOf most_variables) atom.terms) body.now.absents }
-    requires wide { AreAtomsWide body.now.absents }
-    requires look_ups { AllZip (IsLookUpOf (I.state tables.now)) body.now.absents look_ups.now }
-    requires tight { IsTight sense.old (I.state tables.now) }
-    ensures grows { OnOk result (Grows sense.old sense.new) }
-    ensures tight { OnOk result (IsTight sense.new (I.state tables.now)) }
-    ensures lacks { IfOk result (λ lacks. lacks ≡ true → AllByRecursion (IsGapped sense.new (leaf_assignment body.now plan.now.levels (at keys.now))) body.now.absents) }
-    ensures finds { IfOk result (λ lacks. lacks ≡ false → AnyByRecursion (IsHitOf sense.new (leaf_assignment body.now plan.now.levels (at keys.now))) body.now.absents) }
-    ensures gains { OnOk result (GainsFewer sense.old sense.new moves.old moves.new) }
-    // also where memory is refused
-    ensures cost { moves.new ≤ moves.old + length body.now.absents }
-    ensures moves { moves.old ≤ moves.new }
-{
-    let absents = body.absents.as_slice();
-    if absents.len() == 0 {
-        return Ok(true);
-    }
-    let values = leaf_values(body, plan, keys);
-    let lacks = lacks_each(alloc, tables, look_ups, absents, &values, sense, moves)?;
-    Ok(lacks)
 }

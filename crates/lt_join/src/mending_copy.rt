@@ -7,7 +7,7 @@ use lt_face::items::Items;
 use lt_face::key::Key;
 use lt_face::memory::NoMemory;
 use lt_model::syntax::Op;
-use lt_query::{Atom, Body, Level, Plan, Term, Test};
+use lt_query::{Atom, Body, Level, Pins, Plan, Term, Test};
 use std::alloc::Global;
 
 /// Equal atoms.
@@ -58,11 +58,11 @@ pub(crate) fn pin_body(alloc: Global, body: &Body, term: Term, key: Key) -> Resu
 }
 
 /// The pins of the level of this number: of the first the key alone.
-fn pins_at(alloc: Global, number: usize, level: &Level, key: Key) -> Result<Items<Key>, NoMemory>
+fn pins_at(alloc: Global, number: usize, level: &Level, key: Key) -> Result<Pins, NoMemory>
     ensures { IfOk result (λ pins. pins ≡ (if number == 0 then key ∷ [] else level.now.pins)) }
 {
     if number == 0 {
-        let mut pins = Items::new(alloc);
+        let mut pins = Pins::new(alloc);
         pins.push(key)?;
         return Ok(pins);
     }

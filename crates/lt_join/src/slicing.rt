@@ -1,6 +1,6 @@
 //! The answers of a body, key by key of its first variable.
-ghost use Rattle.std.specs.Prelude.{◌≡◌, ◌≤◌, ◌<◌, ◌+◌, ◌-◌, ◌^◌, ◌∷◌, [], ℕ, List, true, length, slice_get, drop, Some, IfOk, IsTrue};
-ghost use Rattle.std.specs.List.{AllByRecursion, AllZip};
+ghost use Rattle.std.specs.Prelude.{◌≡◌, ◌≤◌, ◌<◌, ◌+◌, ◌-◌, ◌^◌, ◌∷◌, [], ℕ, List, true, false, length, slice_get, drop, Some, IfOk, IsTrue};
+ghost use Rattle.std.specs.List.{AllByRecursion};
 ghost use Rattle.lt_face.specs.Keys.{end_key};
 ghost use Rattle.lt_face.specs.Lists.{IsIn};
 ghost use Rattle.lt_face.specs.State.{Row as RowView, State};
@@ -11,7 +11,7 @@ ghost use Rattle.lt_model.specs.Bound.{are_bound};
 ghost use Rattle.lt_model.specs.Cells.{is_cell};
 ghost use Rattle.lt_query.specs.Answering.{AreTestsBound};
 ghost use Rattle.lt_query.specs.Lists.{IsRising};
-ghost use Rattle.lt_query.specs.Plan.{IsPlanOf, term_at};
+ghost use Rattle.lt_query.specs.Plan.{term_at};
 ghost use Rattle.lt_query.specs.declared.plans.Plan.{Plan as PlanView};
 ghost use Rattle.lt_sense.specs.Cells.{HaveSameCells};
 ghost use Rattle.lt_sense.specs.Kept.{Sense as SenseView};
@@ -21,7 +21,9 @@ ghost use Rattle.lt_join.specs.Asked.{CanJoin, AreAnswerable};
 ghost use Rattle.lt_join.specs.Certify.{Certifies};
 ghost use Rattle.lt_join.specs.Cost.{bound, cost_from};
 ghost use Rattle.lt_join.specs.Explored.{Fits};
-ghost use Rattle.lt_join.specs.Holders.{IsPrepared, IsTrieOf, IsOpen, IsLookUpOf, atoms_at};
+ghost use Rattle.lt_join.specs.Holders.{atoms_at};
+ghost use Rattle.lt_join.specs.Level.{AreAtomsAt};
+ghost use Rattle.lt_query.specs.declared.plans.Level.{Level as LevelView};
 ghost use Rattle.lt_join.specs.Walked.{at};
 ghost use Rattle.lt_join.specs.declared.slicing.Slice.{Slice as SliceView};
 ghost use Rattle.lt_join.specs.Mended.{AreSlicesOn};
@@ -30,19 +32,20 @@ ghost use Rattle.lt_join.specs.Sliced.{pinned, slice_keys, united, sliced_rows, 
 
 use crate::Found;
 use crate::ascending::ascending;
-use crate::exploring::explore_key;
-use crate::level::{Joined, next_key, open_from};
-use crate::looking_up::{LookUp, look_ups_of};
+use crate::atom_iter::AtomIter;
+use crate::level::{next_key, open};
 use crate::mending_shared::{SharedSlice, SharedSlices};
-use crate::walk::roots_of;
+use crate::path::Path;
+use crate::values::Values;
+use crate::walk::{Walk, explore_key};
+use crate::way::Way;
 use lt_face::indexes::Indexes;
 use lt_face::items::{Items, RowList};
 use lt_face::key::{END, Key};
 use lt_face::memory::NoMemory;
 use lt_face::moves::Moves;
-use lt_query::{Body, Level, Plan, TermList};
-use lt_sense::{NotedGaps, Noting, Sense, Sensed};
-use lt_trie::TrieIter;
+use lt_query::{Body, Plan, TermList};
+use lt_sense::{Sense, Sensed};
 use std::alloc::Global;
 
 /// What a body answers under one key of its first variable, and what that was sensitive to.
@@ -77,60 +80,40 @@ fn sealed_if(mut sense: Sense, sealing: bool) -> Result<Sense, NoMemory>
     Ok(sense)
 }
 
-/// The slice of the key where the first level stands.
+/// The slice of the key at which the first level stands.
 fn slice_at<'a, I: Indexes, L>(
-    alloc: Global,
-    tables: &'a I,
-    iters: &mut Vec<TrieIter<'a, I::Rows>>,
-    joined: &Joined<'a, I::Rows>,
-    look_ups: &[LookUp<'a, I::Rows>],
-    body: &Body,
-    plan: &Plan,
-    level: &Level,
-    terms: &TermList,
-    keys: &mut Items<Key>,
-    noted: &mut Noting<NotedGaps>,
+    way: &Way<'a, I>,
+    iters: &mut [AtomIter<'a, I::Rows>],
+    keys: &mut Path,
+    key: Key,
     moves: &mut Moves<L>,
     sealing: bool,
 ) -> Result<Slice, NoMemory>
-    requires of_body { IsPlanOf body.now plan.now }
-    requires prepared { IsPrepared body.now plan.now terms.now }
-    requires tests { AreTestsBound body.now }
-    requires heads { IsTrue (are_bound body.now terms.now) }
-    requires first { slice_get plan.now.levels 0 ≡ Some level.now }
     requires at_root { keys.old ≡ [] }
-    requires iters { AllZip (IsTrieOf (I.state tables.now) (length keys.old) (at keys.old)) plan.now.guides iters.old.items }
-    requires look_ups { AllZip (IsLookUpOf (I.state tables.now)) body.now.absents look_ups.now }
-    requires is_open { IsOpen plan.now (I.state tables.now) keys.old level.now joined.now.leap joined.now.key }
-    requires stands { (is_cell joined.now.key ≡ true) × Fits level.now (at keys.old) joined.now.key }
-    requires at_key { joined.now.key < 2 ^ 128 - 1 }
+    requires all { way.now.first ≡ false }
+    requires has_levels { 0 < length way.now.plan.levels }
+    requires tests { AreTestsBound way.now.body }
+    requires heads { IsTrue (are_bound way.now.body way.now.terms) }
+    requires iters { AreAtomsAt way.now.plan way.now.state (key ∷ []) iters.old }
+    requires cell { is_cell key ≡ true }
+    requires fits { (level : LevelView) → slice_get way.now.plan.levels 0 ≡ Some level → Fits level (at []) key }
     // also where memory is refused
-    ensures cost { moves.new ≤ moves.old + cost_from (length body.now.absents) (I.state tables.now) plan.now.guides (drop 1 plan.now.levels) 1 (at (joined.now.key ∷ [])) }
+    ensures cost { moves.new ≤ moves.old + cost_from (length way.now.body.absents) way.now.state way.now.plan.guides (drop 1 way.now.plan.levels) 1 (at (key ∷ [])) }
     ensures moves { moves.old ≤ moves.new }
-    ensures back { IfOk result (λ _. keys.new ≡ keys.old) }
-    ensures iters { IfOk result (λ _. AllZip (IsTrieOf (I.state tables.now) (length keys.old) (at keys.old)) plan.now.guides iters.new.items) }
-    ensures key { IfOk result (λ slice. slice.key ≡ joined.now.key) }
-    ensures slice { IfOk result (IsSliceOf terms.now body.now (term_at plan.now.levels 0) (I.state tables.now)) }
+    ensures back { IfOk result (λ _. keys.new ≡ []) }
+    ensures iters { IfOk result (λ _. iters.new ≡ iters.old) }
+    ensures key { IfOk result (λ slice. slice.key ≡ key) }
+    ensures slice { IfOk result (IsSliceOf way.now.terms way.now.body (term_at way.now.plan.levels 0) way.now.state) }
     ensures sealed { IfOk result (λ slice. sealing ≡ true → IsSealed slice.sense) }
     ensures gaps { IfOk result (λ slice. length slice.sense.gaps + moves.old ≤ moves.new) }
-    ensures hits { IfOk result (λ slice. length slice.sense.hits + moves.old ≤ moves.new + length (atoms_at plan.now.guides 0)) }
+    ensures hits { IfOk result (λ slice. length slice.sense.hits + moves.old ≤ moves.new + length (atoms_at way.now.plan.guides 0)) }
 {
-    let empty = Items::new(alloc);
-    let mut found: Found<Sense> = Found {
-        sense: Sensed::none(alloc),
-        rows: empty,
-    };
-    explore_key(
-        alloc, tables, iters, joined, look_ups, body, plan, level, terms, keys, noted, &mut found,
-        moves,
-    )?;
-    let rows = ascending(found.rows.into_vec())?;
-    let sense = sealed_if(found.sense.into_senses(), sealing)?;
-    Ok(Slice {
-        key: joined.key,
-        rows,
-        sense,
-    })
+    let mut walk: Walk<Sense> = Walk::new(way.alloc);
+    explore_key(way, iters, keys, key, &mut walk, moves)?;
+    let Found { sense, rows } = walk.found;
+    let rows = ascending(rows.into_vec())?;
+    let sense = sealed_if(sense.into_senses(), sealing)?;
+    Ok(Slice { key, rows, sense })
 }
 
 /// What was gathered of a range of keys: the root gaps, and the slices of the keys that were found in it.
@@ -138,6 +121,43 @@ fn slice_at<'a, I: Indexes, L>(
 pub(crate) struct Gathered {
     pub(crate) root: Sense,
     pub(crate) slices: SharedSlices,
+}
+
+/// Gathers the slices of the keys from `lo` to below `hi`, by a way.
+fn gather_keys<'a, I: Indexes, L>(
+    way: &Way<'a, I>,
+    iters: &mut [AtomIter<'a, I::Rows>],
+    lo: Key,
+    hi: Key,
+    moves: &mut Moves<L>,
+    sealing: bool,
+) -> Result<Gathered, NoMemory>
+    requires iters { AreAtomsAt way.now.plan way.now.state [] iters.old }
+    requires all { way.now.first ≡ false }
+    requires has_levels { 0 < length way.now.plan.levels }
+    requires tests { AreTestsBound way.now.body }
+    requires heads { IsTrue (are_bound way.now.body way.now.terms) }
+    requires bound { lo ≤ 2 ^ 120 }
+    ensures slices { IfOk result (λ found. AreSlicesWithin way.now.terms way.now.body way.now.plan way.now.state lo hi found.root found.slices) }
+    ensures few { IfOk result (λ found. IsAtMost (united found.root found.slices) (moves.new - moves.old)) }
+    ensures sealed { IfOk result (λ found. sealing ≡ true → AllByRecursion (λ slice. IsSealed slice.sense) found.slices) }
+    // also where memory is refused
+    ensures cost { moves.new ≤ moves.old + bound way.now.body way.now.plan way.now.state }
+    ensures moves { moves.old ≤ moves.new }
+{
+    let mut root: Sensed<Sense> = Sensed::none(way.alloc);
+    let mut slices = Items::new(way.alloc);
+    let mut keys = Path::root();
+    let values = Values::none();
+    let mut met = open(way, iters, &keys, lo, &values, &mut root, moves)?;
+    while met.key < hi {
+        let slice = slice_at(way, iters, &mut keys, met.key, moves, sealing)?;
+        let shared = SharedSlice::new(way.alloc, slice)?;
+        slices.push(shared)?;
+        met = next_key(way, iters, &keys, met, &mut root, moves)?;
+    }
+    let root = root.into_senses();
+    Ok(Gathered { root, slices })
 }
 
 /// Gathers the slices of the keys from `lo` to below `hi`.
@@ -161,36 +181,9 @@ pub(crate) fn gather_range<I: Indexes, L>(
     ensures cost { moves.new ≤ moves.old + bound body.now plan.now (I.state indexes.now) }
     ensures moves { moves.old ≤ moves.new }
 {
-    let mut keys = Items::new(alloc);
-    let mut noted = Noting::new(alloc);
-    let mut iters = roots_of(alloc, indexes, plan)?;
-    let look_ups = look_ups_of(alloc, indexes, body)?;
-    let mut root: Sensed<Sense> = Sensed::none(alloc);
-    let mut slices = Items::new(alloc);
-    let level = &plan.levels.as_slice()[0];
-    let mut joined = open_from(
-        alloc, indexes, &iters, plan, level, &keys, &mut noted, &mut root, moves, lo,
-    )?;
-    while joined.key < hi {
-        let slice = slice_at(
-            alloc, indexes, &mut iters, &joined, &look_ups, body, plan, level, terms, &mut keys,
-            &mut noted, moves, sealing,
-        )?;
-        let shared = SharedSlice::new(alloc, slice)?;
-        slices.push(shared)?;
-        next_key(
-            indexes,
-            &mut joined,
-            plan,
-            level,
-            &keys,
-            &mut noted,
-            &mut root,
-            moves,
-        )?;
-    }
-    let root = root.into_senses();
-    Ok(Gathered { root, slices })
+    let way = Way::new(alloc, indexes, body, plan, terms.as_slice(), false)?;
+    let mut iters = way.iters()?;
+    gather_keys(&way, &mut iters, lo, hi, moves, sealing)
 }
 
 /// The slices of a range that all keys are in, and its root gaps, put in order where that is asked for.

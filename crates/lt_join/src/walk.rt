@@ -1,270 +1,274 @@
 //! The walk over the levels of a plan.
-ghost use Rattle.std.specs.Prelude.{◌≡◌, ◌+◌, ◌<◌, ◌≤◌, ◌-◌, ◌^◌, [], true, false, length, map, take, drop, IfOk, OnOk};
-ghost use Rattle.std.specs.List.{AllByRecursion, AllZip};
-ghost use Rattle.lt_face.specs.Limits.{most_columns};
+ghost use Rattle.std.specs.Prelude.{◌≡◌, ◌+◌, ◌<◌, ◌≤◌, ◌-◌, ◌^◌, ◌∷◌, ◌++◌, [], ℕ, List, None, true, false, length, take, drop, slice_get, Some, IfOk, OnOk};
+ghost use Rattle.std.specs.List.{AllByRecursion};
+ghost use Rattle.lt_face.specs.Limits.{most_variables};
+ghost use Rattle.lt_model.specs.Cells.{is_cell};
+ghost use Rattle.lt_model.specs.Fits.{IsTermOf};
+ghost use Rattle.lt_query.specs.declared.plans.Level.{Level as LevelView};
+ghost use Rattle.lt_query.specs.Holding.{atoms_at_level};
+ghost use Rattle.lt_query.specs.Plan.{IsDetermined, term_at};
 ghost use Rattle.lt_sense.specs.Sense.{IsTight};
-ghost use Rattle.lt_join.specs.Explored.{with_key};
-ghost use Rattle.lt_query.specs.Plan.{IsPlanOf};
-ghost use Rattle.lt_join.specs.Cost.{cost_from, GainsFewer};
-ghost use Rattle.lt_join.specs.Walked.{at, Grows, HitsAbove, FoundGrows, IsRight, IsReached, IsExploredBelow, AreFoundUnder};
-ghost use Rattle.lt_join.specs.Holders.{IsPrepared, IsWalkable, IsTrieOf, IsOpen, IsLookUpOf, atoms_at};
+ghost use Rattle.lt_join.specs.Cost.{cost_from};
+ghost use Rattle.lt_join.specs.Explored.{Fits};
+ghost use Rattle.lt_join.specs.Holders.{atoms_at};
+ghost use Rattle.lt_join.specs.Known.{IsKnown};
+ghost use Rattle.lt_join.specs.Level.{AreAtomsAt};
+ghost use Rattle.lt_join.specs.Values.{values_in};
+ghost use Rattle.lt_join.specs.Walked.{at, AreFoundUnder, FoundGrows, Grows, HitsAbove, IsExploredBelow, IsReached, IsRight};
+ghost use Rattle.lt_join.specs.Way.{HasWalked};
 
 use crate::Found;
-use crate::leaf::leaf_answer;
-use crate::leaper::Leaper;
-use crate::level::{Joined, holds, next_key, open_level};
-use crate::looking_up::{LookUp, lacks_rows};
+use crate::atom_iter::AtomIter;
+use crate::leaf::at_leaf;
+use crate::level::{next_key, open};
+use crate::path::Path;
+use crate::values::Values;
+use crate::way::Way;
 use lt_face::indexes::Indexes;
 use lt_face::items::Items;
 use lt_face::key::{END, Key};
 use lt_face::memory::NoMemory;
 use lt_face::moves::Moves;
-use lt_face::row::Row;
-use lt_query::{Body, Guide, Level, Plan, Term};
-use lt_sense::{Noting, Sensed, Senses};
-use lt_trie::TrieIter;
+use lt_query::{Level, Term};
+use lt_sense::{KeysAt, Sensed, Senses};
 use std::alloc::Global;
 
-/// Brings the iterators of the atoms that sit at the level to its key. The others stay.
-pub(crate) fn enter<'a, I: Indexes>(
-    _tables: &'a I,
-    iters: &mut Vec<TrieIter<'a, I::Rows>>,
-    joined: &Joined<'a, I::Rows>,
-    plan: &Plan,
-    _level: &Level,
-    keys: &Items<Key>,
-)
-    requires walkable { AllByRecursion IsWalkable plan.now.guides }
-    requires iters { AllZip (IsTrieOf (I.state _tables.now) (length keys.now) (at keys.now)) plan.now.guides iters.old.items }
-    requires is_open { IsOpen plan.now (I.state _tables.now) keys.now _level.now joined.now.leap joined.now.key }
-    requires at_key { joined.now.key < 2 ^ 128 - 1 }
-    ensures { AllZip (IsTrieOf (I.state _tables.now) (length keys.now + 1) (with_key (at keys.now) (length keys.now) joined.now.key)) plan.now.guides iters.new.items }
-{
-    let depth = keys.len();
-    let guides = plan.guides.as_slice();
-    let mut leaper = 0;
-    for i in 0..guides.len() {
-        if holds(&guides[i], depth) {
-            match joined.leap.iter(leaper) {
-                Leaper::Walks(walk) => iters[i].enter(&walk.trie),
-                Leaper::Single(_) => {}
-            }
-            leaper += 1;
+/// What a walk has found, and what the keys of the levels so far give the variables.
+#[derive(Drop)]
+pub struct Walk<S: Senses> {
+    pub values: Values,
+    pub found: Found<S>,
+}
+
+impl<S: Senses> Walk<S> {
+    /// At the root, with nothing found.
+    pub(crate) fn new(alloc: Global) -> Walk<S>
+        ensures values { values_in result.values.cells ≡ (λ _. None) }
+        ensures sense { result.found.sense ≡ record { gaps = []; hits = [] } }
+        ensures rows { result.found.rows ≡ [] }
+    {
+        Walk {
+            values: Values::none(),
+            found: Found {
+                sense: Sensed::none(alloc),
+                rows: Items::new(alloc),
+            },
         }
     }
 }
 
-/// Brings the iterators of the atoms that sit at the level back up from its key. The others stay.
-pub(crate) fn leave<'a, I: Indexes>(
-    _tables: &'a I,
-    iters: &mut Vec<TrieIter<'a, I::Rows>>,
-    plan: &Plan,
-    keys: &Items<Key>,
-    _key: Key,
-)
-    requires walkable { AllByRecursion IsWalkable plan.now.guides }
-    requires iters { AllZip (IsTrieOf (I.state _tables.now) (length keys.now + 1) (with_key (at keys.now) (length keys.now) _key)) plan.now.guides iters.old.items }
-    ensures { AllZip (IsTrieOf (I.state _tables.now) (length keys.now) (at keys.now)) plan.now.guides iters.new.items }
-{
-    let depth = keys.len();
-    let guides = plan.guides.as_slice();
-    for i in 0..guides.len() {
-        if holds(&guides[i], depth) {
-            iters[i].up();
-        }
-    }
+/// The keys of the levels so far: of each the cell of its term.
+#[derive(Drop)]
+struct LevelKeys<'b> {
+    levels: &'b [Level],
+    values: &'b Values,
 }
 
-/// The row of an atom under the keys.
-fn row_of(alloc: Global, guide: &Guide, keys: &Items<Key>) -> Row
-    requires narrow { length guide.now.places ≤ most_columns }
-    requires places { AllByRecursion (λ l. l < length keys.now) guide.now.places }
-    ensures { result ≡ map (at keys.now) guide.now.places }
-{
-    let mut row = Row::from_cells(alloc, &[]);
-    for place in guide.places.as_slice() {
-        row.push(keys.as_slice()[*place]);
+impl<'b> KeysAt for LevelKeys<'b> {
+    ghost use Rattle.std.specs.Prelude.{length};
+    ghost use Rattle.lt_model.specs.Answers.{cell_of};
+    ghost use Rattle.lt_query.specs.Plan.{term_at};
+    ghost use Rattle.lt_join.specs.Values.{assigned, values_in};
+
+    ghost key = { λ keys l. cell_of (assigned (values_in keys.values.now.cells)) (term_at keys.levels.now l) };
+
+    ghost count = { λ keys. length keys.levels.now };
+
+    #[inline]
+    fn key_at(&self, level: usize) -> Key {
+        self.values.cell(self.levels[level].term)
     }
-    row
 }
 
 /// Makes hits of the rows of the atoms that end at the last key.
-pub(crate) fn add_hits<'a, I: Indexes, S: Senses>(
-    alloc: Global,
-    _tables: &'a I,
-    iters: &[TrieIter<'a, I::Rows>],
-    plan: &Plan,
-    keys: &Items<Key>,
+#[inline]
+fn add_hits<'a, I: Indexes, S: Senses>(
+    way: &Way<'a, I>,
+    iters: &[AtomIter<'a, I::Rows>],
+    keys: &Path,
+    values: &Values,
     sense: &mut Sensed<S>,
 ) -> Result<(), NoMemory>
     requires some { 0 < length keys.now }
-    requires walkable { AllByRecursion IsWalkable plan.now.guides }
-    requires iters { AllZip (IsTrieOf (I.state _tables.now) (length keys.now) (at keys.now)) plan.now.guides iters.now }
-    requires hits { HitsAbove sense.old plan.now.guides (take (length keys.now - 1) keys.now) }
-    requires tight { IsTight sense.old (I.state _tables.now) }
+    requires within { length keys.now ≤ length way.now.plan.levels }
+    requires known { IsKnown way.now.plan.levels keys.now (values_in values.now.cells) }
+    requires iters { AreAtomsAt way.now.plan way.now.state keys.now iters.now }
+    requires hits { HitsAbove sense.old way.now.plan.guides (take (length keys.now - 1) keys.now) }
+    requires tight { IsTight sense.old way.now.state }
     ensures grows { OnOk result (Grows sense.old sense.new) }
-    ensures tight { OnOk result (IsTight sense.new (I.state _tables.now)) }
-    ensures hits { OnOk result (HitsAbove sense.new plan.now.guides keys.now) }
+    ensures tight { OnOk result (IsTight sense.new way.now.state) }
+    ensures hits { OnOk result (HitsAbove sense.new way.now.plan.guides keys.now) }
     ensures gaps { OnOk result (sense.new.gaps ≡ sense.old.gaps) }
-    ensures few { OnOk result (length sense.new.hits ≤ length sense.old.hits + length (atoms_at plan.now.guides (length keys.now - 1))) }
+    ensures few { OnOk result (length sense.new.hits ≤ length sense.old.hits + length (atoms_at way.now.plan.guides (length keys.now - 1))) }
 {
-    let last = keys.len() - 1;
-    let guides = plan.guides.as_slice();
-    for i in 0..iters.len() {
-        let guide = &guides[i];
-        let level = iters[i].level() as usize;
-        if level == guide.columns.len() && holds(guide, last) {
-            let row = row_of(alloc, guide, keys);
-            sense.add_hit(guide.relation, &row)?;
+    let cells = LevelKeys {
+        levels: way.plan.levels.as_slice(),
+        values,
+    };
+    for place in way.plan.guides.at_level(keys.len() - 1) {
+        let iter = &iters[*place];
+        if iter.is_last() {
+            let guide = iter.guide();
+            sense.add_hit_at(way.alloc, guide.relation, guide.places.as_slice(), &cells)?;
         }
     }
     Ok(())
 }
 
-/// The atoms' iterators at their roots.
-pub(crate) fn roots_of<'a, I: Indexes>(
-    alloc: Global,
-    tables: &'a I,
-    plan: &Plan,
-) -> Result<Vec<TrieIter<'a, I::Rows>>, NoMemory>
-    requires { AllByRecursion (λ guide. I.has_index tables.now guide.relation guide.columns ≡ true) plan.now.guides }
-    ensures { IfOk result (λ roots. AllZip (IsTrieOf (I.state tables.now) 0 (at [])) plan.now.guides roots.items) }
+/// Gives the term of a level this key.
+#[inline]
+fn give_key(values: &mut Values, levels: &[Level], keys: &Path, key: Key)
+    requires within { length keys.now < length levels.now }
+    requires variables { AllByRecursion (λ level. IsTermOf most_variables level.term) levels.now }
+    requires determined { (level : LevelView) → slice_get levels.now (length keys.now) ≡ Some level → IsDetermined levels.now (length keys.now) level level.term }
+    requires known { IsKnown levels.now keys.now (values_in values.old.cells) }
+    requires fits { (level : LevelView) → slice_get levels.now (length keys.now) ≡ Some level → Fits level (at keys.now) key }
+    ensures { IsKnown levels.now (keys.now ++ key ∷ []) (values_in values.new.cells) }
 {
-    let mut roots = Vec::new(alloc);
-    for guide in plan.guides.as_slice() {
-        let rows = tables.index(guide.relation, &guide.columns).unwrap();
-        roots.push(TrieIter::new(alloc, rows))?;
+    let level = &levels[keys.len()];
+    match level.term {
+        Term::Var(v) => values.set(v, key),
+        Term::Cell(_) => {}
     }
-    Ok(roots)
 }
 
-/// Adds the answer that the keys of all levels give, where they give one, and answers whether the walk stops there.
-fn at_leaf<'a, I: Indexes, S: Senses, L>(
-    alloc: Global,
-    tables: &'a I,
-    look_ups: &[LookUp<'a, I::Rows>],
-    body: &Body,
-    plan: &Plan,
-    terms: &Items<Term>,
-    keys: &Items<Key>,
-    found: &mut Found<S>,
-    moves: &mut Moves<L>,
-    first: bool,
-) -> Result<bool, NoMemory>
-    requires of_body { IsPlanOf body.now plan.now }
-    requires prepared { IsPrepared body.now plan.now terms.now }
-    requires full { length keys.now ≡ length plan.now.levels }
-    requires look_ups { AllZip (IsLookUpOf (I.state tables.now)) body.now.absents look_ups.now }
-    requires reached { IsReached plan.now found.old.sense keys.now }
-    requires right { IsRight body.now terms.now (I.state tables.now) found.old }
-    // also where memory is refused
-    ensures cost { moves.new ≤ moves.old + length body.now.absents }
-    ensures moves { moves.old ≤ moves.new }
-    ensures gains { IfOk result (λ _. GainsFewer found.old.sense found.new.sense moves.old moves.new) }
-    ensures grows { IfOk result (λ _. FoundGrows found.old found.new) }
-    ensures right { IfOk result (λ _. IsRight body.now terms.now (I.state tables.now) found.new) }
-    ensures under { IfOk result (λ _. AreFoundUnder terms.now body.now plan.now (I.state tables.now) keys.now found.old found.new) }
-    ensures explored { IfOk result (λ _. IsExploredBelow body.now plan.now terms.now found.new keys.now) }
-    ensures stopped { IfOk result (λ stopped. stopped ≡ true → 0 < length found.new.rows) }
-    ensures asked { IfOk result (λ stopped. stopped ≡ true → first ≡ true) }
-    ensures unfound { IfOk result (λ stopped. first ≡ true → stopped ≡ false → found.new.rows ≡ found.old.rows) }
+/// Goes below the keys to this key, at which the iterators stand already: the rows of the atoms that end there become hits.
+#[inline]
+fn enter<'a, I: Indexes, S: Senses>(
+    way: &Way<'a, I>,
+    iters: &[AtomIter<'a, I::Rows>],
+    keys: &mut Path,
+    key: Key,
+    walk: &mut Walk<S>,
+) -> Result<(), NoMemory>
+    requires deeper { length keys.old < length way.now.plan.levels }
+    requires iters { AreAtomsAt way.now.plan way.now.state (keys.old ++ key ∷ []) iters.now }
+    requires known { IsKnown way.now.plan.levels keys.old (values_in walk.old.values.cells) }
+    requires reached { IsReached way.now.plan walk.old.found.sense keys.old }
+    requires cell { is_cell key ≡ true }
+    requires fits { (level : LevelView) → slice_get way.now.plan.levels (length keys.old) ≡ Some level → Fits level (at keys.old) key }
+    requires tight { IsTight walk.old.found.sense way.now.state }
+    ensures keys { OnOk result (keys.new ≡ keys.old ++ key ∷ []) }
+    ensures known { OnOk result (IsKnown way.now.plan.levels (keys.old ++ key ∷ []) (values_in walk.new.values.cells)) }
+    ensures reached { OnOk result (IsReached way.now.plan walk.new.found.sense (keys.old ++ key ∷ [])) }
+    ensures tight { OnOk result (IsTight walk.new.found.sense way.now.state) }
+    ensures grows { OnOk result (Grows walk.old.found.sense walk.new.found.sense) }
+    ensures gaps { OnOk result (walk.new.found.sense.gaps ≡ walk.old.found.sense.gaps) }
+    ensures few { OnOk result (length walk.new.found.sense.hits ≤ length walk.old.found.sense.hits + length (atoms_at way.now.plan.guides (length keys.old))) }
+    ensures rows { walk.new.found.rows ≡ walk.old.found.rows }
 {
-    let Some(row) = leaf_answer(alloc, body, plan, terms, keys) else {
-        return Ok(false);
-    };
-    let lacks = lacks_rows(
-        alloc,
-        tables,
-        look_ups,
-        body,
-        plan,
-        keys,
-        &mut found.sense,
-        moves,
-    )?;
-    if !lacks {
-        return Ok(false);
-    }
-    found.rows.push(row)?;
-    Ok(first)
+    give_key(&mut walk.values, way.plan.levels.as_slice(), keys, key);
+    keys.push(key);
+    add_hits(way, iters, keys, &walk.values, &mut walk.found.sense)?;
+    Ok(())
 }
 
 /// Explores the levels below the keys. Where the first answer suffices, it stops there.
 pub(crate) fn descend<'a, I: Indexes, S: Senses, L>(
-    alloc: Global,
-    tables: &'a I,
-    iters: &mut Vec<TrieIter<'a, I::Rows>>,
-    look_ups: &[LookUp<'a, I::Rows>],
-    body: &Body,
-    plan: &Plan,
-    terms: &Items<Term>,
-    keys: &mut Items<Key>,
-    noted: &mut Noting<S::Noted>,
-    found: &mut Found<S>,
+    way: &Way<'a, I>,
+    iters: &mut [AtomIter<'a, I::Rows>],
+    keys: &mut Path,
+    walk: &mut Walk<S>,
     moves: &mut Moves<L>,
-    first: bool,
 ) -> Result<bool, NoMemory>
-    requires of_body { IsPlanOf body.now plan.now }
-    requires prepared { IsPrepared body.now plan.now terms.now }
-    requires iters { AllZip (IsTrieOf (I.state tables.now) (length keys.old) (at keys.old)) plan.now.guides iters.old.items }
-    requires look_ups { AllZip (IsLookUpOf (I.state tables.now)) body.now.absents look_ups.now }
-    requires reached { IsReached plan.now found.old.sense keys.old }
-    requires right { IsRight body.now terms.now (I.state tables.now) found.old }
-    // also where memory is refused
-    ensures cost { moves.new ≤ moves.old + cost_from (length body.now.absents) (I.state tables.now) plan.now.guides (drop (length keys.old) plan.now.levels) (length keys.old) (at keys.old) }
-    ensures moves { moves.old ≤ moves.new }
-    ensures gains { IfOk result (λ _. GainsFewer found.old.sense found.new.sense moves.old moves.new) }
+    requires iters { AreAtomsAt way.now.plan way.now.state keys.old iters.old }
+    requires known { IsKnown way.now.plan.levels keys.old (values_in walk.old.values.cells) }
+    requires reached { IsReached way.now.plan walk.old.found.sense keys.old }
+    requires right { IsRight way.now.body way.now.terms way.now.state walk.old.found }
+    ensures walked { IfOk result (HasWalked way.now keys.old walk.old.found walk.new.found moves.old moves.new) }
     ensures back { IfOk result (λ _. keys.new ≡ keys.old) }
-    ensures iters { IfOk result (λ _. AllZip (IsTrieOf (I.state tables.now) (length keys.old) (at keys.old)) plan.now.guides iters.new.items) }
-    ensures grows { IfOk result (λ _. FoundGrows found.old found.new) }
-    ensures right { IfOk result (λ _. IsRight body.now terms.now (I.state tables.now) found.new) }
-    ensures under { IfOk result (λ _. AreFoundUnder terms.now body.now plan.now (I.state tables.now) keys.old found.old found.new) }
-    // it stops only at an answer, and only where the first suffices
-    ensures explored { IfOk result (λ stopped. stopped ≡ false → IsExploredBelow body.now plan.now terms.now found.new keys.old) }
-    ensures stopped { IfOk result (λ stopped. stopped ≡ true → 0 < length found.new.rows) }
-    ensures asked { IfOk result (λ stopped. stopped ≡ true → first ≡ true) }
-    ensures unfound { IfOk result (λ stopped. first ≡ true → stopped ≡ false → found.new.rows ≡ found.old.rows) }
+    ensures known { IfOk result (λ _. IsKnown way.now.plan.levels keys.old (values_in walk.new.values.cells)) }
+    // where it stops, the iterators stay where they are
+    ensures iters { IfOk result (λ stopped. stopped ≡ false → iters.new ≡ iters.old) }
+    // also where memory is refused
+    ensures cost { moves.new ≤ moves.old + cost_from (length way.now.body.absents) way.now.state way.now.plan.guides (drop (length keys.old) way.now.plan.levels) (length keys.old) (at keys.old) }
+    ensures moves { moves.old ≤ moves.new }
 {
-    let depth = keys.len();
-    if depth == plan.levels.len() {
-        return at_leaf(
-            alloc, tables, look_ups, body, plan, terms, keys, found, moves, first,
-        );
+    if keys.len() == way.plan.levels.len() {
+        return at_leaf(way, keys, &walk.values, &mut walk.found, moves);
     }
-    let level = &plan.levels.as_slice()[depth];
-    let mut joined = open_level(
-        alloc,
-        tables,
+    let mut met = open(
+        way,
         iters,
-        plan,
-        level,
         keys,
-        noted,
-        &mut found.sense,
+        0,
+        &walk.values,
+        &mut walk.found.sense,
         moves,
     )?;
-    while joined.key < END {
-        enter(tables, iters, &joined, plan, level, keys);
-        keys.push(joined.key)?;
-        add_hits(alloc, tables, iters, plan, keys, &mut found.sense)?;
-        let stopped = descend(
-            alloc, tables, iters, look_ups, body, plan, terms, keys, noted, found, moves, first,
-        )?;
+    while met.key < END {
+        enter(way, iters, keys, met.key, walk)?;
+        let stopped = descend(way, iters, keys, walk, moves)?;
         keys.pop();
-        leave(tables, iters, plan, keys, joined.key);
         if stopped {
             return Ok(true);
         }
-        next_key(
-            tables,
-            &mut joined,
-            plan,
-            level,
-            keys,
-            noted,
-            &mut found.sense,
-            moves,
-        )?;
+        met = next_key(way, iters, keys, met, &mut walk.found.sense, moves)?;
     }
     Ok(false)
+}
+
+/// Explores what lies under the key at which the first level stands.
+pub(crate) fn explore_key<'a, I: Indexes, S: Senses, L>(
+    way: &Way<'a, I>,
+    iters: &mut [AtomIter<'a, I::Rows>],
+    keys: &mut Path,
+    key: Key,
+    walk: &mut Walk<S>,
+    moves: &mut Moves<L>,
+) -> Result<(), NoMemory>
+    requires at_root { keys.old ≡ [] }
+    requires all { way.now.first ≡ false }
+    requires has_levels { 0 < length way.now.plan.levels }
+    requires iters { AreAtomsAt way.now.plan way.now.state (key ∷ []) iters.old }
+    requires reached { IsReached way.now.plan walk.old.found.sense [] }
+    requires cell { is_cell key ≡ true }
+    requires fits { (level : LevelView) → slice_get way.now.plan.levels 0 ≡ Some level → Fits level (at []) key }
+    requires known { IsKnown way.now.plan.levels [] (values_in walk.old.values.cells) }
+    requires right { IsRight way.now.body way.now.terms way.now.state walk.old.found }
+    ensures back { IfOk result (λ _. keys.new ≡ []) }
+    ensures iters { IfOk result (λ _. iters.new ≡ iters.old) }
+    ensures known { IfOk result (λ _. IsKnown way.now.plan.levels [] (values_in walk.new.values.cells)) }
+    ensures grows { IfOk result (λ _. FoundGrows walk.old.found walk.new.found) }
+    ensures right { IfOk result (λ _. IsRight way.now.body way.now.terms way.now.state walk.new.found) }
+    ensures under { IfOk result (λ _. AreFoundUnder way.now.terms way.now.body way.now.plan way.now.state (key ∷ []) walk.old.found walk.new.found) }
+    ensures explored { IfOk result (λ _. IsExploredBelow way.now.body way.now.plan way.now.terms walk.new.found (key ∷ [])) }
+    ensures gaps { IfOk result (λ _. length walk.new.found.sense.gaps + moves.old ≤ length walk.old.found.sense.gaps + moves.new) }
+    ensures hits { IfOk result (λ _. length walk.new.found.sense.hits + moves.old ≤ length walk.old.found.sense.hits + moves.new + length (atoms_at way.now.plan.guides 0)) }
+    // also where memory is refused
+    ensures cost { moves.new ≤ moves.old + cost_from (length way.now.body.absents) way.now.state way.now.plan.guides (drop 1 way.now.plan.levels) 1 (at (key ∷ [])) }
+    ensures moves { moves.old ≤ moves.new }
+{
+    enter(way, iters, keys, key, walk)?;
+    descend(way, iters, keys, walk, moves)?;
+    keys.pop();
+    Ok(())
+}
+
+/// Explores all levels. The iterators of one or two atoms lie beside the walk, and take no memory.
+pub(crate) fn walk_all<'a, I: Indexes, S: Senses, L>(
+    way: &Way<'a, I>,
+    walk: &mut Walk<S>,
+    moves: &mut Moves<L>,
+) -> Result<bool, NoMemory>
+    requires known { IsKnown way.now.plan.levels [] (values_in walk.old.values.cells) }
+    requires reached { IsReached way.now.plan walk.old.found.sense [] }
+    requires right { IsRight way.now.body way.now.terms way.now.state walk.old.found }
+    ensures walked { IfOk result (HasWalked way.now [] walk.old.found walk.new.found moves.old moves.new) }
+    // also where memory is refused
+    ensures cost { moves.new ≤ moves.old + cost_from (length way.now.body.absents) way.now.state way.now.plan.guides way.now.plan.levels 0 (at []) }
+    ensures moves { moves.old ≤ moves.new }
+{
+    let guides = way.plan.guides.as_slice();
+    let mut keys = Path::root();
+    if guides.len() == 1 {
+        let mut iters = [way.iter(&guides[0])];
+        return descend(way, &mut iters, &mut keys, walk, moves);
+    }
+    if guides.len() == 2 {
+        let mut iters = [way.iter(&guides[0]), way.iter(&guides[1])];
+        return descend(way, &mut iters, &mut keys, walk, moves);
+    }
+    let mut iters = way.iters()?;
+    descend(way, &mut iters, &mut keys, walk, moves)
 }

@@ -2,7 +2,7 @@ use Rattle.std.proofs.Common.{◌≡◌, ◌<◌, List, ℕ, take, length, ap, �
 use Rattle.lt_face.specs.State.{IsIndexOf}
 use Rattle.lt_query.specs.Lists.{below}
 use Rattle.lt_join.specs.Holders.{IsLookUpOf}
-use Rattle.lt_join.proofs.Opening.{take_more, AllZip-more}
+use Rattle.lt_join.proofs.KnownLists.{take_more, AllZip-more}
 use Rattle.lt_join.proofs.looking_up.look_ups_of.Goals as goal
 
 pub loop-atom-preserved : goal.loop-atom-preserved

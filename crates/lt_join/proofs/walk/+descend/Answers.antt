@@ -1,246 +1,269 @@
-use Rattle.std.proofs.Common.{◌≡◌, ℕ, ◌+◌, ◌-◌, ◌<◌, ◌≤◌, List, length, Some, slice_get, [], ◌∷◌, ◌++◌, sym, refl, ◌∙◌, ap, arith, subst, drop, inl}
-use Rattle.lt_join.specs.Walked.{IsReached, IsExploredBelow, HitsAbove, at}
-use Rattle.lt_join.specs.Cost.{cost_from, LevelGains}
-use Rattle.std.specs.List.{AllZip}
-use Rattle.lt_join.specs.Holders.{IsOpen, IsTrieOf, IsUsable, IsJoined, left_of, atoms_at}
-use Rattle.lt_join.proofs.Costs.{IsPaid-begun, IsPaid-more, cost-all, cost-stopped, cost-opened, cost_leaf, IsCredited-begun, IsCredited-more, GainsFewer-below}
-use Rattle.lt_join.proofs.Steps.{IsUnderWay-begun, IsUnderWay-more, IsExploredBelow-all, IsReached-child, length_push, slice_get_is, popped, witnesses_grow, FoundGrows-chain, under_more}
-use Rattle.lt_join.proofs.Entering.{left_iters}
-use Rattle.lt_join.proofs.Usable.{walkable_all, usable_at, next_iters, hits_before}
+use Rattle.std.proofs.Common.{◌≡◌, ℕ, ◌+◌, ◌-◌, ◌^◌, ◌<◌, ◌≤◌, List, length, drop, Some, slice_get, [], ◌∷◌, ◌++◌, sym, refl, ◌∙◌, ap, arith, subst}
+use Rattle.lt_query.specs.declared.plans.Level.{Level}
+use Rattle.lt_join.specs.Cost.{cost_from}
+use Rattle.lt_join.specs.Explored.{Fits}
+use Rattle.lt_join.specs.Holders.{IsUsable, atoms_at}
+use Rattle.lt_join.specs.Known.{IsKnown}
+use Rattle.lt_join.specs.Level.{AreAtomsAt}
+use Rattle.lt_join.specs.Values.{values_in}
+use Rattle.lt_join.specs.Walked.{at, IsReached}
+use Rattle.lt_join.specs.Way.{WayView, IsWay, HasWalked}
+use Rattle.lt_join.proofs.Entered.{entered}
+use Rattle.lt_join.proofs.Going.{HasEntered, usable_level, entered_right, explored_key, going_begun, going_more, going_cell, going_fits, goes_on, moves_on, stands_still, low_cell, not_full, walked_all, walked_stopped, going_cost, stopped_cost, opened_cost}
+use Rattle.lt_join.proofs.Known.{IsKnown-above}
+use Rattle.lt_join.proofs.Steps.{IsReached-grows, length_push, popped}
+use Rattle.lt_join.proofs.Usable.{walkable_all}
 use Rattle.lt_join.proofs.walk.+descend.Goals as goal
 
-pub open_level-requires-clause-walkable : goal.open_level-requires-clause-walkable
-open_level-requires-clause-walkable g t c = walkable_all c.args.body.now c.args.plan.now c.requires.of_body
+pub open-requires-clause-usable : goal.open-requires-clause-usable
+open-requires-clause-usable g t c =
+    let way : IsWay c.args.way.now = subst IsWay c.way.view_is c.way.invariant.0 in
+    let deeper : length c.args.keys.now < length c.args.way.now.plan.levels = not_full c.args.keys.now c.args.way.now.plan.levels c.len.result c.len-2.result c.requires.reached.within c.len.ensures (c.len-2.ensures ∙ ap (λ (w : WayView). length w.plan.levels) c.way.view_is) c.if-len.false in
+    usable_level c.args.way.now c.args.walk.now.found.sense c.args.keys.now way c.requires.reached deeper
 
-pub enter-requires-clause-walkable : goal.enter-requires-clause-walkable
-enter-requires-clause-walkable g t c = walkable_all c.args.body.now c.args.plan.now c.requires.of_body
-
-pub add_hits-requires-clause-walkable : goal.add_hits-requires-clause-walkable
-add_hits-requires-clause-walkable g t c = walkable_all c.args.body.now c.args.plan.now c.requires.of_body
-
-pub leave-requires-clause-walkable : goal.leave-requires-clause-walkable
-leave-requires-clause-walkable g t c = walkable_all c.args.body.now c.args.plan.now c.requires.of_body
-
-pub leave-requires-clause-iters : goal.leave-requires-clause-iters
-leave-requires-clause-iters g t c =
-    let pushed : c.push.new.self ≡ c.args.keys.now ++ c.loop-joined.joined.key ∷ [] = c.in_ok-push.ensures.ok ∙ ap (λ ks. ks ++ c.loop-joined.joined.key ∷ []) c.loop-joined.invariant.way.same in
-    let back : c.pop.new.self ≡ c.args.keys.now = popped c.args.keys.now c.loop-joined.joined.key c.descend.new.keys c.pop.new.self (c.in_ok-stopped.ensures.back ∙ pushed) c.pop.ensures in
-    left_iters (g.I.Indexes.state c.args.tables.now) c.args.plan.now.guides c.args.keys.now c.pop.new.self c.push.new.self c.loop-joined.joined.key c.descend.new.iters.items back pushed c.in_ok-stopped.ensures.iters
-
-pub open_level-requires-clause-usable : goal.open_level-requires-clause-usable
-open_level-requires-clause-usable g t c =
-    let apart : length c.args.keys.now ≡ length c.args.plan.now.levels → ⊥ = λ e. c.if-depth-len.false (c.len-depth.ensures ∙ e ∙ sym c.len.ensures) in
-    let deeper : length c.args.keys.now < length c.args.plan.now.levels = omega (arith, c.requires.reached.within) in
-    let here : slice_get c.args.plan.now.levels (length c.args.keys.now) ≡ Some c.index-as_slice-depth.result =
-    slice_get_is c.args.plan.now.levels (length c.args.keys.now) c.index-as_slice-depth.result deeper (rw (c.as_slice.ensures, c.len-depth.ensures) at c.index-as_slice-depth.is) in
-    usable_at c.args.body.now c.args.plan.now c.args.terms.now c.args.found.now.sense c.args.keys.now c.index-as_slice-depth.result c.requires.of_body c.requires.prepared c.requires.reached here deeper
-
-pub loop-joined-init : goal.loop-joined-init
-loop-joined-init g t c = record {
-  way = IsUnderWay-begun c.args.body.now c.args.plan.now c.args.terms.now (g.I.Indexes.state c.args.tables.now) c.args.found.now c.args.keys.now c.index-as_slice-depth.result 0 c.open_level.new.sense c.in_ok-joined.joined.key c.requires.right c.in_ok-joined.ensures.stands.stands;
-  paid = IsPaid-begun (length c.args.body.now.absents) c.args.plan.now (g.I.Indexes.state c.args.tables.now) c.args.keys.now c.index-as_slice-depth.result c.args.moves.now c.open_level.new.moves (left_of c.in_ok-joined.joined.leap) c.in_ok-joined.joined.key c.in_ok-joined.ensures.stands.cost;
-  credited = IsCredited-begun (length (atoms_at c.args.plan.now.guides (length c.args.keys.now))) c.args.found.now.sense c.open_level.new.sense c.args.moves.now c.open_level.new.moves c.in_ok-joined.joined.key c.in_ok-joined.ensures.gains;
-  under = λ row there. inl there;
-  unfound = λ h. refl;
-  rises = c.open_level.ensures.moves;
-  is_open = c.in_ok-joined.ensures.stands.is_open;
-  iters = c.requires.iters;
-}
-
-pub add_hits-requires-clause-iters : goal.add_hits-requires-clause-iters
-add_hits-requires-clause-iters g t c =
-    let pushed : c.push.new.self ≡ c.args.keys.now ++ c.loop-joined.joined.key ∷ [] = c.in_ok-push.ensures.ok ∙ ap (λ ks. ks ++ c.loop-joined.joined.key ∷ []) c.loop-joined.invariant.way.same in
-    next_iters (g.I.Indexes.state c.args.tables.now) c.args.plan.now.guides c.args.keys.now c.loop-joined.keys c.push.new.self c.loop-joined.joined.key c.enter.new.iters.items c.deref-in-loop-joined.result.now c.loop-joined.invariant.way.same pushed c.deref-in-loop-joined.ensures.value c.enter.ensures
-
-pub add_hits-requires-clause-hits : goal.add_hits-requires-clause-hits
-add_hits-requires-clause-hits g t c =
-    let pushed : c.push.new.self ≡ c.args.keys.now ++ c.loop-joined.joined.key ∷ [] = c.in_ok-push.ensures.ok ∙ ap (λ ks. ks ++ c.loop-joined.joined.key ∷ []) c.loop-joined.invariant.way.same in
-    hits_before c.args.found.now.sense c.loop-joined.found.sense c.loop-joined.invariant.way.grows.sense c.args.plan.now.guides c.args.keys.now c.push.new.self c.loop-joined.joined.key pushed c.requires.reached.hits
-
-pub next_key-requires-clause-is_open : goal.next_key-requires-clause-is_open
-next_key-requires-clause-is_open g t c =
-    let pushed : c.push.new.self ≡ c.args.keys.now ++ c.loop-joined.joined.key ∷ [] = c.in_ok-push.ensures.ok ∙ ap (λ ks. ks ++ c.loop-joined.joined.key ∷ []) c.loop-joined.invariant.way.same in
-    let back : c.pop.new.self ≡ c.args.keys.now = popped c.args.keys.now c.loop-joined.joined.key c.descend.new.keys c.pop.new.self (c.in_ok-stopped.ensures.back ∙ pushed) c.pop.ensures in
-    subst (λ (ks : List ℕ). IsOpen c.args.plan.now (g.I.Indexes.state c.args.tables.now) ks c.index-as_slice-depth.result c.loop-joined.joined.leap c.loop-joined.joined.key) (sym back) c.loop-joined.invariant.is_open
-
-pub next_key-requires-clause-usable : goal.next_key-requires-clause-usable
-next_key-requires-clause-usable g t c =
-    let pushed : c.push.new.self ≡ c.args.keys.now ++ c.loop-joined.joined.key ∷ [] = c.in_ok-push.ensures.ok ∙ ap (λ ks. ks ++ c.loop-joined.joined.key ∷ []) c.loop-joined.invariant.way.same in
-    let back : c.pop.new.self ≡ c.args.keys.now = popped c.args.keys.now c.loop-joined.joined.key c.descend.new.keys c.pop.new.self (c.in_ok-stopped.ensures.back ∙ pushed) c.pop.ensures in
-    let apart : length c.args.keys.now ≡ length c.args.plan.now.levels → ⊥ = λ e. c.if-depth-len.false (c.len-depth.ensures ∙ e ∙ sym c.len.ensures) in
-    let deeper : length c.args.keys.now < length c.args.plan.now.levels = omega (arith, c.requires.reached.within) in
-    let here : slice_get c.args.plan.now.levels (length c.args.keys.now) ≡ Some c.index-as_slice-depth.result =
-    slice_get_is c.args.plan.now.levels (length c.args.keys.now) c.index-as_slice-depth.result deeper (rw (c.as_slice.ensures, c.len-depth.ensures) at c.index-as_slice-depth.is) in
-    subst (IsUsable c.args.plan.now.guides c.index-as_slice-depth.result) (sym back) (usable_at c.args.body.now c.args.plan.now c.args.terms.now c.args.found.now.sense c.args.keys.now c.index-as_slice-depth.result c.requires.of_body c.requires.prepared c.requires.reached here deeper)
-
-pub loop-joined-preserved : goal.loop-joined-preserved
-loop-joined-preserved g t c =
-    let inv = c.loop-joined.invariant in
-    let pushed : c.push.new.self ≡ c.args.keys.now ++ c.loop-joined.joined.key ∷ [] = c.in_ok-push.ensures.ok ∙ ap (λ ks. ks ++ c.loop-joined.joined.key ∷ []) inv.way.same in
-    let back : c.pop.new.self ≡ c.args.keys.now = popped c.args.keys.now c.loop-joined.joined.key c.descend.new.keys c.pop.new.self (c.in_ok-stopped.ensures.back ∙ pushed) c.pop.ensures in
-    let next = subst (λ (ks : List ℕ). IsJoined c.args.plan.now (g.I.Indexes.state c.args.tables.now) c.descend.new.found.sense c.next_key.new.sense ks c.index-as_slice-depth.result (c.loop-joined.joined.key + 1) (c.descend.new.moves + left_of c.loop-joined.joined.leap) c.next_key.new.moves c.next_key.new.joined.leap c.next_key.new.joined.key) back c.in_ok-next_key.ensures.stands in
-    let last : length c.push.new.self - 1 ≡ length c.args.keys.now = (let n = ap length pushed ∙ length_push c.args.keys.now c.loop-joined.joined.key in omega arith) in
-    let few = subst (λ n. length c.add_hits.new.sense.hits ≤ length c.loop-joined.found.sense.hits + length (atoms_at c.args.plan.now.guides n)) last c.in_ok-add_hits.ensures.few in
-    let gains = subst (λ (ks : List ℕ). LevelGains (length (atoms_at c.args.plan.now.guides (length ks))) c.descend.new.found.sense c.next_key.new.sense c.descend.new.moves c.next_key.new.moves c.next_key.new.joined.key) back c.in_ok-next_key.ensures.gains in
+pub loop-met-init : goal.loop-met-init
+loop-met-init g t c =
+    let way : IsWay c.args.way.now = subst IsWay c.way.view_is c.way.invariant.0 in
+    let deeper : length c.args.keys.now < length c.args.way.now.plan.levels = not_full c.args.keys.now c.args.way.now.plan.levels c.len.result c.len-2.result c.requires.reached.within c.len.ensures (c.len-2.ensures ∙ ap (λ (w : WayView). length w.plan.levels) c.way.view_is) c.if-len.false in
     record {
-      way = IsUnderWay-more c.args.body.now c.args.plan.now c.args.terms.now (g.I.Indexes.state c.args.tables.now) c.args.found.now c.loop-joined.found (record { sense = c.add_hits.new.sense; rows = c.loop-joined.found.rows }) c.descend.new.found c.args.keys.now c.loop-joined.keys c.pop.new.self c.index-as_slice-depth.result 0 c.loop-joined.joined.key c.next_key.new.sense c.next_key.new.joined.key
-          inv.way (record { sense = c.in_ok-add_hits.ensures.grows; rows = λ row h. h }) c.in_ok-stopped.ensures.grows c.in_ok-stopped.ensures.right
-          (subst (IsExploredBelow c.args.body.now c.args.plan.now c.args.terms.now c.descend.new.found) pushed (c.in_ok-stopped.ensures.explored c.if-stopped.false)) back next.stands;
-      paid = IsPaid-more (length c.args.body.now.absents) c.args.plan.now (g.I.Indexes.state c.args.tables.now) c.args.keys.now c.loop-joined.keys c.index-as_slice-depth.result c.args.moves.now c.loop-joined.moves (left_of c.loop-joined.joined.leap) c.loop-joined.joined.key c.descend.new.moves c.next_key.new.moves (left_of c.next_key.new.joined.leap) c.next_key.new.joined.key (omega arith) c.in_ok-next_key.ensures.rises inv.paid
-          (subst (λ ks. c.descend.new.moves ≤ c.loop-joined.moves + cost_from (length c.args.body.now.absents) (g.I.Indexes.state c.args.tables.now) c.args.plan.now.guides (drop (length ks) c.args.plan.now.levels) (length ks) (at ks)) pushed c.descend.ensures.cost) next.cost;
-      credited = IsCredited-more (length (atoms_at c.args.plan.now.guides (length c.args.keys.now))) c.args.found.now.sense c.loop-joined.found.sense c.add_hits.new.sense c.descend.new.found.sense c.next_key.new.sense c.args.moves.now c.loop-joined.moves c.descend.new.moves c.next_key.new.moves c.loop-joined.joined.key c.next_key.new.joined.key
-          inv.credited (omega arith) c.in_ok-add_hits.ensures.gaps few c.in_ok-stopped.ensures.gains gains;
-      under = under_more c.args.terms.now c.args.body.now c.args.plan.now (g.I.Indexes.state c.args.tables.now) c.args.keys.now c.push.new.self c.loop-joined.joined.key c.args.found.now c.loop-joined.found c.descend.new.found pushed inv.under c.in_ok-stopped.ensures.under;
-      unfound = λ h. c.in_ok-stopped.ensures.unfound h c.if-stopped.false ∙ inv.unfound h;
-      rises = omega (arith, inv.rises, c.descend.ensures.moves, c.next_key.ensures.moves);
-      is_open = next.is_open;
-      iters = subst (λ (ks : List ℕ). AllZip (IsTrieOf (g.I.Indexes.state c.args.tables.now) (length ks) (at ks)) c.args.plan.now.guides c.leave.new.iters.items) back c.leave.ensures;
+      same = refl;
+      known = c.requires.known;
+      going = going_begun c.args.way.now c.args.walk.now.found c.open.new.sense c.args.keys.now c.args.iters.now c.open.new.iters 0 c.args.moves.now c.open.new.moves c.in_ok-met.met.key c.in_ok-met.met.turn deeper c.requires.right c.in_ok-met.ensures.gone;
     }
 
-pub returns-clause-explored : goal.returns-clause-explored
-returns-clause-explored g t c =
-    let apart : length c.args.keys.now ≡ length c.args.plan.now.levels → ⊥ = λ e. c.if-depth-len.false (c.len-depth.ensures ∙ e ∙ sym c.len.ensures) in
-    let deeper : length c.args.keys.now < length c.args.plan.now.levels = omega (arith, c.requires.reached.within) in
-    let here : slice_get c.args.plan.now.levels (length c.args.keys.now) ≡ Some c.index-as_slice-depth.result =
-    slice_get_is c.args.plan.now.levels (length c.args.keys.now) c.index-as_slice-depth.result deeper (rw (c.as_slice.ensures, c.len-depth.ensures) at c.index-as_slice-depth.is) in
-    λ stays. IsExploredBelow-all c.args.body.now c.args.plan.now c.args.terms.now (g.I.Indexes.state c.args.tables.now) c.args.found.now c.loop-joined.found c.args.keys.now c.loop-joined.keys c.index-as_slice-depth.result c.loop-joined.joined.key c.loop-joined.invariant.way here (omega arith)
+pub enter-requires-clause-deeper : goal.enter-requires-clause-deeper
+enter-requires-clause-deeper g t c =
+    let way : IsWay c.args.way.now = subst IsWay c.way.view_is c.way.invariant.0 in
+    let deeper : length c.args.keys.now < length c.args.way.now.plan.levels = not_full c.args.keys.now c.args.way.now.plan.levels c.len.result c.len-2.result c.requires.reached.within c.len.ensures (c.len-2.ensures ∙ ap (λ (w : WayView). length w.plan.levels) c.way.view_is) c.if-len.false in
+    subst (λ (ks : List ℕ). length ks < length c.args.way.now.plan.levels) (sym c.loop-met.invariant.same) deeper
 
-pub returns-clause-cost : goal.returns-clause-cost
-returns-clause-cost g t c =
-    let apart : length c.args.keys.now ≡ length c.args.plan.now.levels → ⊥ = λ e. c.if-depth-len.false (c.len-depth.ensures ∙ e ∙ sym c.len.ensures) in
-    let deeper : length c.args.keys.now < length c.args.plan.now.levels = omega (arith, c.requires.reached.within) in
-    let here : slice_get c.args.plan.now.levels (length c.args.keys.now) ≡ Some c.index-as_slice-depth.result =
-    slice_get_is c.args.plan.now.levels (length c.args.keys.now) c.index-as_slice-depth.result deeper (rw (c.as_slice.ensures, c.len-depth.ensures) at c.index-as_slice-depth.is) in
-    cost-all (length c.args.body.now.absents) c.args.plan.now (g.I.Indexes.state c.args.tables.now) c.args.keys.now c.index-as_slice-depth.result c.args.moves.now c.loop-joined.moves (left_of c.loop-joined.joined.leap) c.loop-joined.joined.key here c.loop-joined.invariant.paid
+pub enter-requires-clause-iters : goal.enter-requires-clause-iters
+enter-requires-clause-iters g t c =
+    let way : IsWay c.args.way.now = subst IsWay c.way.view_is c.way.invariant.0 in
+    let deeper : length c.args.keys.now < length c.args.way.now.plan.levels = not_full c.args.keys.now c.args.way.now.plan.levels c.len.result c.len-2.result c.requires.reached.within c.len.ensures (c.len-2.ensures ∙ ap (λ (w : WayView). length w.plan.levels) c.way.view_is) c.if-len.false in
+    let inv = c.loop-met.invariant in
+    let at_key : c.loop-met.met.key < 2 ^ 128 - 1 = omega arith in
+    subst (λ (ks : List ℕ). AreAtomsAt c.args.way.now.plan c.args.way.now.state (ks ++ c.loop-met.met.key ∷ []) c.loop-met.iters) (sym inv.same)
+    (entered c.args.way.now.plan c.args.way.now.state c.args.keys.now (walkable_all c.args.way.now.body c.args.way.now.plan way.of_body) c.args.iters.now c.loop-met.iters c.loop-met.met.key c.loop-met.met.turn (inv.going.stands at_key))
 
-pub returns-then-stopped-clause-cost : goal.returns-then-stopped-clause-cost
-returns-then-stopped-clause-cost g t c =
-    let pushed : c.push.new.self ≡ c.args.keys.now ++ c.loop-joined.joined.key ∷ [] = c.in_ok-push.ensures.ok ∙ ap (λ ks. ks ++ c.loop-joined.joined.key ∷ []) c.loop-joined.invariant.way.same in
-    let apart : length c.args.keys.now ≡ length c.args.plan.now.levels → ⊥ = λ e. c.if-depth-len.false (c.len-depth.ensures ∙ e ∙ sym c.len.ensures) in
-    let deeper : length c.args.keys.now < length c.args.plan.now.levels = omega (arith, c.requires.reached.within) in
-    let here : slice_get c.args.plan.now.levels (length c.args.keys.now) ≡ Some c.index-as_slice-depth.result =
-    slice_get_is c.args.plan.now.levels (length c.args.keys.now) c.index-as_slice-depth.result deeper (rw (c.as_slice.ensures, c.len-depth.ensures) at c.index-as_slice-depth.is) in
-    let below = subst (λ ks. c.descend.new.moves ≤ c.loop-joined.moves + cost_from (length c.args.body.now.absents) (g.I.Indexes.state c.args.tables.now) c.args.plan.now.guides (drop (length ks) c.args.plan.now.levels) (length ks) (at ks)) pushed c.descend.ensures.cost in
-    cost-stopped (length c.args.body.now.absents) c.args.plan.now (g.I.Indexes.state c.args.tables.now) c.args.keys.now c.index-as_slice-depth.result c.args.moves.now c.loop-joined.moves (left_of c.loop-joined.joined.leap) c.loop-joined.joined.key c.descend.new.moves here (omega arith) c.loop-joined.invariant.paid (omega (arith, below))
+pub enter-requires-clause-known : goal.enter-requires-clause-known
+enter-requires-clause-known g t c =
+    subst (λ (ks : List ℕ). IsKnown c.args.way.now.plan.levels ks (values_in c.loop-met.walk.values.cells)) (sym c.loop-met.invariant.same) c.loop-met.invariant.known
 
-pub returns-in_err-stopped-clause-cost : goal.returns-in_err-stopped-clause-cost
-returns-in_err-stopped-clause-cost g t c =
-    let pushed : c.push.new.self ≡ c.args.keys.now ++ c.loop-joined.joined.key ∷ [] = c.in_ok-push.ensures.ok ∙ ap (λ ks. ks ++ c.loop-joined.joined.key ∷ []) c.loop-joined.invariant.way.same in
-    let apart : length c.args.keys.now ≡ length c.args.plan.now.levels → ⊥ = λ e. c.if-depth-len.false (c.len-depth.ensures ∙ e ∙ sym c.len.ensures) in
-    let deeper : length c.args.keys.now < length c.args.plan.now.levels = omega (arith, c.requires.reached.within) in
-    let here : slice_get c.args.plan.now.levels (length c.args.keys.now) ≡ Some c.index-as_slice-depth.result =
-    slice_get_is c.args.plan.now.levels (length c.args.keys.now) c.index-as_slice-depth.result deeper (rw (c.as_slice.ensures, c.len-depth.ensures) at c.index-as_slice-depth.is) in
-    let below = subst (λ ks. c.descend.new.moves ≤ c.loop-joined.moves + cost_from (length c.args.body.now.absents) (g.I.Indexes.state c.args.tables.now) c.args.plan.now.guides (drop (length ks) c.args.plan.now.levels) (length ks) (at ks)) pushed c.descend.ensures.cost in
-    cost-stopped (length c.args.body.now.absents) c.args.plan.now (g.I.Indexes.state c.args.tables.now) c.args.keys.now c.index-as_slice-depth.result c.args.moves.now c.loop-joined.moves (left_of c.loop-joined.joined.leap) c.loop-joined.joined.key c.descend.new.moves here (omega arith) c.loop-joined.invariant.paid (omega (arith, below))
+pub enter-requires-clause-reached : goal.enter-requires-clause-reached
+enter-requires-clause-reached g t c =
+    let inv = c.loop-met.invariant in
+    subst (IsReached c.args.way.now.plan c.loop-met.walk.found.sense) (sym inv.same) (IsReached-grows c.args.way.now.plan c.args.walk.now.found.sense c.loop-met.walk.found.sense inv.going.done.grows.sense c.args.keys.now c.requires.reached)
 
-pub returns-in_err-next_key-clause-cost : goal.returns-in_err-next_key-clause-cost
-returns-in_err-next_key-clause-cost g t c =
-    let pushed : c.push.new.self ≡ c.args.keys.now ++ c.loop-joined.joined.key ∷ [] = c.in_ok-push.ensures.ok ∙ ap (λ ks. ks ++ c.loop-joined.joined.key ∷ []) c.loop-joined.invariant.way.same in
-    let apart : length c.args.keys.now ≡ length c.args.plan.now.levels → ⊥ = λ e. c.if-depth-len.false (c.len-depth.ensures ∙ e ∙ sym c.len.ensures) in
-    let deeper : length c.args.keys.now < length c.args.plan.now.levels = omega (arith, c.requires.reached.within) in
-    let here : slice_get c.args.plan.now.levels (length c.args.keys.now) ≡ Some c.index-as_slice-depth.result =
-    slice_get_is c.args.plan.now.levels (length c.args.keys.now) c.index-as_slice-depth.result deeper (rw (c.as_slice.ensures, c.len-depth.ensures) at c.index-as_slice-depth.is) in
-    let below = subst (λ ks. c.descend.new.moves ≤ c.loop-joined.moves + cost_from (length c.args.body.now.absents) (g.I.Indexes.state c.args.tables.now) c.args.plan.now.guides (drop (length ks) c.args.plan.now.levels) (length ks) (at ks)) pushed c.descend.ensures.cost in
-    cost-stopped (length c.args.body.now.absents) c.args.plan.now (g.I.Indexes.state c.args.tables.now) c.args.keys.now c.index-as_slice-depth.result c.args.moves.now c.loop-joined.moves (left_of c.loop-joined.joined.leap) c.loop-joined.joined.key c.next_key.new.moves here (omega arith) c.loop-joined.invariant.paid (omega (arith, below, c.next_key.ensures.within))
+pub enter-requires-clause-cell : goal.enter-requires-clause-cell
+enter-requires-clause-cell g t c =
+    let inv = c.loop-met.invariant in
+    let at_key : c.loop-met.met.key < 2 ^ 128 - 1 = omega arith in
+    going_cell c.args.way.now c.args.walk.now.found c.loop-met.walk.found c.args.keys.now c.args.iters.now c.loop-met.iters 0 c.args.moves.now c.loop-met.moves c.loop-met.met.key c.loop-met.met.turn inv.going at_key
 
-pub returns-in_err-push-clause-cost : goal.returns-in_err-push-clause-cost
-returns-in_err-push-clause-cost g t c =
-    let apart : length c.args.keys.now ≡ length c.args.plan.now.levels → ⊥ = λ e. c.if-depth-len.false (c.len-depth.ensures ∙ e ∙ sym c.len.ensures) in
-    let deeper : length c.args.keys.now < length c.args.plan.now.levels = omega (arith, c.requires.reached.within) in
-    let here : slice_get c.args.plan.now.levels (length c.args.keys.now) ≡ Some c.index-as_slice-depth.result =
-    slice_get_is c.args.plan.now.levels (length c.args.keys.now) c.index-as_slice-depth.result deeper (rw (c.as_slice.ensures, c.len-depth.ensures) at c.index-as_slice-depth.is) in
-    cost-all (length c.args.body.now.absents) c.args.plan.now (g.I.Indexes.state c.args.tables.now) c.args.keys.now c.index-as_slice-depth.result c.args.moves.now c.loop-joined.moves (left_of c.loop-joined.joined.leap) c.loop-joined.joined.key here c.loop-joined.invariant.paid
+pub enter-requires-clause-fits : goal.enter-requires-clause-fits
+enter-requires-clause-fits g t c =
+    let inv = c.loop-met.invariant in
+    let at_key : c.loop-met.met.key < 2 ^ 128 - 1 = omega arith in
+    subst (λ (ks : List ℕ). (level : Level) → slice_get c.args.way.now.plan.levels (length ks) ≡ Some level → Fits level (at ks) c.loop-met.met.key) (sym inv.same)
+    (going_fits c.args.way.now c.args.walk.now.found c.loop-met.walk.found c.args.keys.now c.args.iters.now c.loop-met.iters 0 c.args.moves.now c.loop-met.moves c.loop-met.met.key c.loop-met.met.turn inv.going at_key)
 
-pub returns-in_err-add_hits-clause-cost : goal.returns-in_err-add_hits-clause-cost
-returns-in_err-add_hits-clause-cost g t c =
-    let apart : length c.args.keys.now ≡ length c.args.plan.now.levels → ⊥ = λ e. c.if-depth-len.false (c.len-depth.ensures ∙ e ∙ sym c.len.ensures) in
-    let deeper : length c.args.keys.now < length c.args.plan.now.levels = omega (arith, c.requires.reached.within) in
-    let here : slice_get c.args.plan.now.levels (length c.args.keys.now) ≡ Some c.index-as_slice-depth.result =
-    slice_get_is c.args.plan.now.levels (length c.args.keys.now) c.index-as_slice-depth.result deeper (rw (c.as_slice.ensures, c.len-depth.ensures) at c.index-as_slice-depth.is) in
-    cost-all (length c.args.body.now.absents) c.args.plan.now (g.I.Indexes.state c.args.tables.now) c.args.keys.now c.index-as_slice-depth.result c.args.moves.now c.loop-joined.moves (left_of c.loop-joined.joined.leap) c.loop-joined.joined.key here c.loop-joined.invariant.paid
-
-pub returns-in_err-joined-clause-cost : goal.returns-in_err-joined-clause-cost
-returns-in_err-joined-clause-cost g t c =
-    let apart : length c.args.keys.now ≡ length c.args.plan.now.levels → ⊥ = λ e. c.if-depth-len.false (c.len-depth.ensures ∙ e ∙ sym c.len.ensures) in
-    let deeper : length c.args.keys.now < length c.args.plan.now.levels = omega (arith, c.requires.reached.within) in
-    let here : slice_get c.args.plan.now.levels (length c.args.keys.now) ≡ Some c.index-as_slice-depth.result =
-    slice_get_is c.args.plan.now.levels (length c.args.keys.now) c.index-as_slice-depth.result deeper (rw (c.as_slice.ensures, c.len-depth.ensures) at c.index-as_slice-depth.is) in
-    cost-opened (length c.args.body.now.absents) c.args.plan.now (g.I.Indexes.state c.args.tables.now) c.args.keys.now c.index-as_slice-depth.result c.args.moves.now c.open_level.new.moves here c.open_level.ensures.within
-
-pub returns-then-stopped-clause-grows : goal.returns-then-stopped-clause-grows
-returns-then-stopped-clause-grows g t c =
-    FoundGrows-chain c.args.found.now c.loop-joined.found c.descend.new.found c.loop-joined.invariant.way.grows
-    (FoundGrows-chain c.loop-joined.found (record { sense = c.add_hits.new.sense; rows = c.loop-joined.found.rows }) c.descend.new.found (record { sense = c.in_ok-add_hits.ensures.grows; rows = λ row h. h }) c.in_ok-stopped.ensures.grows)
+pub enter-requires-clause-tight : goal.enter-requires-clause-tight
+enter-requires-clause-tight g t c =
+    c.loop-met.invariant.going.done.right.tight
 
 pub descend-requires : goal.descend-requires
 descend-requires g t c =
-    let pushed : c.push.new.self ≡ c.args.keys.now ++ c.loop-joined.joined.key ∷ [] = c.in_ok-push.ensures.ok ∙ ap (λ ks. ks ++ c.loop-joined.joined.key ∷ []) c.loop-joined.invariant.way.same in
-    let apart : length c.args.keys.now ≡ length c.args.plan.now.levels → ⊥ = λ e. c.if-depth-len.false (c.len-depth.ensures ∙ e ∙ sym c.len.ensures) in
-    let deeper : length c.args.keys.now < length c.args.plan.now.levels = omega (arith, c.requires.reached.within) in
-    let here : slice_get c.args.plan.now.levels (length c.args.keys.now) ≡ Some c.index-as_slice-depth.result =
-    slice_get_is c.args.plan.now.levels (length c.args.keys.now) c.index-as_slice-depth.result deeper (rw (c.as_slice.ensures, c.len-depth.ensures) at c.index-as_slice-depth.is) in
-    let longer : length c.push.new.self ≡ length c.args.keys.now + 1 = ap length pushed ∙ length_push c.args.keys.now c.loop-joined.joined.key in
-    let iters = next_iters (g.I.Indexes.state c.args.tables.now) c.args.plan.now.guides c.args.keys.now c.loop-joined.keys c.push.new.self c.loop-joined.joined.key c.enter.new.iters.items c.enter.new.iters.items c.loop-joined.invariant.way.same pushed refl c.enter.ensures in
-    let key = c.loop-joined.invariant.way.at_key (omega arith) in λ κs lives. (
-      omega (arith, longer, deeper),
-      (
-        lives.0,
-        (
-          lives.1.0,
-          (
-            lives.1.1.0,
-            (
-              lives.1.1.1.0,
-              (
-                lives.1.1.1.1,
-                (
-                  c.requires.of_body,
-                  (
-                    c.requires.prepared,
-                    (
-                      iters,
-                      (
-                        c.requires.look_ups,
-                        (
-                          subst (IsReached c.args.plan.now c.add_hits.new.sense) (sym pushed) (IsReached-child c.args.body.now c.args.plan.now c.args.found.now.sense c.add_hits.new.sense c.args.keys.now c.loop-joined.joined.key c.index-as_slice-depth.result c.requires.of_body c.requires.reached here deeper key.0 key.1 (subst (HitsAbove c.add_hits.new.sense c.args.plan.now.guides) pushed c.in_ok-add_hits.ensures.hits)),
-                          record { tight = c.in_ok-add_hits.ensures.tight; answers = witnesses_grow c.loop-joined.found.sense c.add_hits.new.sense c.in_ok-add_hits.ensures.grows c.args.terms.now c.args.body.now (g.I.Indexes.state c.args.tables.now) c.loop-joined.found.rows c.loop-joined.invariant.way.right.answers },
-                        ),
-                      ),
-                    ),
-                  ),
-                ),
-              ),
-            ),
-          ),
-        ),
-      ),
-    )
+    let way : IsWay c.args.way.now = subst IsWay c.way.view_is c.way.invariant.0 in
+    let deeper : length c.args.keys.now < length c.args.way.now.plan.levels = not_full c.args.keys.now c.args.way.now.plan.levels c.len.result c.len-2.result c.requires.reached.within c.len.ensures (c.len-2.ensures ∙ ap (λ (w : WayView). length w.plan.levels) c.way.view_is) c.if-len.false in
+    let inv = c.loop-met.invariant in
+    let at_key : c.loop-met.met.key < 2 ^ 128 - 1 = omega arith in
+    let pushed : c.enter.new.keys ≡ c.args.keys.now ++ c.loop-met.met.key ∷ [] = c.in_ok-enter.ensures.keys ∙ ap (λ (ks : List ℕ). ks ++ c.loop-met.met.key ∷ []) inv.same in
+    let deep : HasEntered c.args.way.now c.args.keys.now c.loop-met.walk.found c.enter.new.walk.found = record {
+      grows = c.in_ok-enter.ensures.grows;
+      tight = c.in_ok-enter.ensures.tight;
+      gaps = c.in_ok-enter.ensures.gaps;
+      few = subst (λ (ks : List ℕ). length c.enter.new.walk.found.sense.hits ≤ length c.loop-met.walk.found.sense.hits + length (atoms_at c.args.way.now.plan.guides (length ks))) inv.same c.in_ok-enter.ensures.few;
+      rows = c.in_ok-enter.ensures.rows;
+    } in
+    let longer : length c.enter.new.keys ≡ length c.args.keys.now + 1 = ap length pushed ∙ length_push c.args.keys.now c.loop-met.met.key in
+    let iters = subst (λ (ks : List ℕ). AreAtomsAt c.args.way.now.plan c.args.way.now.state ks c.loop-met.iters) (sym pushed)
+    (entered c.args.way.now.plan c.args.way.now.state c.args.keys.now (walkable_all c.args.way.now.body c.args.way.now.plan way.of_body) c.args.iters.now c.loop-met.iters c.loop-met.met.key c.loop-met.met.turn (inv.going.stands at_key)) in
+    let known = subst (λ (ks : List ℕ). IsKnown c.args.way.now.plan.levels ks (values_in c.enter.new.walk.values.cells)) (sym c.in_ok-enter.ensures.keys) c.in_ok-enter.ensures.known in
+    let reached = subst (IsReached c.args.way.now.plan c.enter.new.walk.found.sense) (sym c.in_ok-enter.ensures.keys) c.in_ok-enter.ensures.reached in
+    let right = entered_right c.args.way.now c.args.keys.now c.loop-met.walk.found c.enter.new.walk.found deep inv.going.done.right in
+    λ κs lives. (omega (arith, longer, deeper), (lives.0, (lives.1.0, (lives.1.1.0, (lives.1.1.1, (iters, (known, (reached, right))))))))
 
-pub returns-clause-gains : goal.returns-clause-gains
-returns-clause-gains g t c = c.loop-joined.invariant.credited.gains
+pub pop-requires : goal.pop-requires
+pop-requires g t c =
+    let inv = c.loop-met.invariant in
+    let at_key : c.loop-met.met.key < 2 ^ 128 - 1 = omega arith in
+    let pushed : c.enter.new.keys ≡ c.args.keys.now ++ c.loop-met.met.key ∷ [] = c.in_ok-enter.ensures.keys ∙ ap (λ (ks : List ℕ). ks ++ c.loop-met.met.key ∷ []) inv.same in
+    let long = ap length (c.in_ok-stopped.ensures.back ∙ pushed) ∙ length_push c.args.keys.now c.loop-met.met.key in
+    omega (arith, long)
 
-pub returns-then-stopped-clause-gains : goal.returns-then-stopped-clause-gains
-returns-then-stopped-clause-gains g t c =
-    let pushed : c.push.new.self ≡ c.args.keys.now ++ c.loop-joined.joined.key ∷ [] = c.in_ok-push.ensures.ok ∙ ap (λ ks. ks ++ c.loop-joined.joined.key ∷ []) c.loop-joined.invariant.way.same in
-    let last : length c.push.new.self - 1 ≡ length c.args.keys.now = (let n = ap length pushed ∙ length_push c.args.keys.now c.loop-joined.joined.key in omega arith) in
-    let few = subst (λ n. length c.add_hits.new.sense.hits ≤ length c.loop-joined.found.sense.hits + length (atoms_at c.args.plan.now.guides n)) last c.in_ok-add_hits.ensures.few in
-    GainsFewer-below (length (atoms_at c.args.plan.now.guides (length c.args.keys.now))) c.args.found.now.sense c.loop-joined.found.sense c.add_hits.new.sense c.descend.new.found.sense c.args.moves.now c.loop-joined.moves c.descend.new.moves c.loop-joined.joined.key
-    c.loop-joined.invariant.credited (omega arith) c.in_ok-add_hits.ensures.gaps few c.in_ok-stopped.ensures.gains
+pub next_key-requires-clause-usable : goal.next_key-requires-clause-usable
+next_key-requires-clause-usable g t c =
+    let way : IsWay c.args.way.now = subst IsWay c.way.view_is c.way.invariant.0 in
+    let deeper : length c.args.keys.now < length c.args.way.now.plan.levels = not_full c.args.keys.now c.args.way.now.plan.levels c.len.result c.len-2.result c.requires.reached.within c.len.ensures (c.len-2.ensures ∙ ap (λ (w : WayView). length w.plan.levels) c.way.view_is) c.if-len.false in
+    let inv = c.loop-met.invariant in
+    let at_key : c.loop-met.met.key < 2 ^ 128 - 1 = omega arith in
+    let pushed : c.enter.new.keys ≡ c.args.keys.now ++ c.loop-met.met.key ∷ [] = c.in_ok-enter.ensures.keys ∙ ap (λ (ks : List ℕ). ks ++ c.loop-met.met.key ∷ []) inv.same in
+    let back : c.pop.new.self ≡ c.args.keys.now = popped c.args.keys.now c.loop-met.met.key c.descend.new.keys c.pop.new.self (c.in_ok-stopped.ensures.back ∙ pushed) c.pop.ensures in
+    subst (λ (ks : List ℕ). (level : Level) × (slice_get c.args.way.now.plan.levels (length ks) ≡ Some level) × IsUsable c.args.way.now.plan.guides level ks) (sym back)
+    (usable_level c.args.way.now c.args.walk.now.found.sense c.args.keys.now way c.requires.reached deeper)
 
-pub returns-then-stopped-clause-iters : goal.returns-then-stopped-clause-iters
-returns-then-stopped-clause-iters g t c =
-    let pushed : c.push.new.self ≡ c.args.keys.now ++ c.loop-joined.joined.key ∷ [] = c.in_ok-push.ensures.ok ∙ ap (λ ks. ks ++ c.loop-joined.joined.key ∷ []) c.loop-joined.invariant.way.same in
-    let back : c.pop.new.self ≡ c.args.keys.now = popped c.args.keys.now c.loop-joined.joined.key c.descend.new.keys c.pop.new.self (c.in_ok-stopped.ensures.back ∙ pushed) c.pop.ensures in
-    subst (λ (ks : List ℕ). AllZip (IsTrieOf (g.I.Indexes.state c.args.tables.now) (length ks) (at ks)) c.args.plan.now.guides c.leave.new.iters.items) back c.leave.ensures
+pub next_key-requires-clause-at : goal.next_key-requires-clause-at
+next_key-requires-clause-at g t c =
+    let inv = c.loop-met.invariant in
+    let at_key : c.loop-met.met.key < 2 ^ 128 - 1 = omega arith in
+    let pushed : c.enter.new.keys ≡ c.args.keys.now ++ c.loop-met.met.key ∷ [] = c.in_ok-enter.ensures.keys ∙ ap (λ (ks : List ℕ). ks ++ c.loop-met.met.key ∷ []) inv.same in
+    let back : c.pop.new.self ≡ c.args.keys.now = popped c.args.keys.now c.loop-met.met.key c.descend.new.keys c.pop.new.self (c.in_ok-stopped.ensures.back ∙ pushed) c.pop.ensures in
+    let stay : c.descend.new.iters ≡ c.loop-met.iters = c.in_ok-stopped.ensures.iters c.if-stopped.false in
+    (c.args.iters.now, stands_still c.args.way.now c.loop-met.met.key c.loop-met.met.turn c.pop.new.self c.args.keys.now c.descend.new.iters c.args.iters.now c.loop-met.iters back stay (inv.going.stands at_key))
+
+pub next_key-requires-clause-low : goal.next_key-requires-clause-low
+next_key-requires-clause-low g t c =
+    let inv = c.loop-met.invariant in
+    let at_key : c.loop-met.met.key < 2 ^ 128 - 1 = omega arith in
+    low_cell c.loop-met.met.key (going_cell c.args.way.now c.args.walk.now.found c.loop-met.walk.found c.args.keys.now c.args.iters.now c.loop-met.iters 0 c.args.moves.now c.loop-met.moves c.loop-met.met.key c.loop-met.met.turn inv.going at_key)
+
+pub next_key-requires-clause-tight : goal.next_key-requires-clause-tight
+next_key-requires-clause-tight g t c =
+    c.in_ok-stopped.ensures.walked.right.tight
+
+pub loop-met-preserved : goal.loop-met-preserved
+loop-met-preserved g t c =
+    let inv = c.loop-met.invariant in
+    let at_key : c.loop-met.met.key < 2 ^ 128 - 1 = omega arith in
+    let pushed : c.enter.new.keys ≡ c.args.keys.now ++ c.loop-met.met.key ∷ [] = c.in_ok-enter.ensures.keys ∙ ap (λ (ks : List ℕ). ks ++ c.loop-met.met.key ∷ []) inv.same in
+    let deep : HasEntered c.args.way.now c.args.keys.now c.loop-met.walk.found c.enter.new.walk.found = record {
+      grows = c.in_ok-enter.ensures.grows;
+      tight = c.in_ok-enter.ensures.tight;
+      gaps = c.in_ok-enter.ensures.gaps;
+      few = subst (λ (ks : List ℕ). length c.enter.new.walk.found.sense.hits ≤ length c.loop-met.walk.found.sense.hits + length (atoms_at c.args.way.now.plan.guides (length ks))) inv.same c.in_ok-enter.ensures.few;
+      rows = c.in_ok-enter.ensures.rows;
+    } in
+    let walked = subst (λ (ks : List ℕ). HasWalked c.args.way.now ks c.enter.new.walk.found c.descend.new.walk.found c.loop-met.moves c.descend.new.moves c.in_ok-stopped.stopped) pushed c.in_ok-stopped.ensures.walked in
+    let back : c.pop.new.self ≡ c.args.keys.now = popped c.args.keys.now c.loop-met.met.key c.descend.new.keys c.pop.new.self (c.in_ok-stopped.ensures.back ∙ pushed) c.pop.ensures in
+    let stay : c.descend.new.iters ≡ c.loop-met.iters = c.in_ok-stopped.ensures.iters c.if-stopped.false in
+    let below = subst (λ (ks : List ℕ). c.descend.new.moves ≤ c.loop-met.moves + cost_from (length c.args.way.now.body.absents) c.args.way.now.state c.args.way.now.plan.guides (drop (length ks) c.args.way.now.plan.levels) (length ks) (at ks)) pushed c.descend.ensures.cost in
+    let explored = explored_key c.args.way.now c.args.keys.now c.loop-met.met.key c.loop-met.walk.found c.enter.new.walk.found c.descend.new.walk.found c.loop-met.moves c.descend.new.moves c.in_ok-stopped.stopped c.if-stopped.false deep walked in
+    record {
+      same = back;
+      known = IsKnown-above c.args.way.now.plan.levels c.args.keys.now c.loop-met.met.key (values_in c.descend.new.walk.values.cells)
+          (subst (λ (ks : List ℕ). IsKnown c.args.way.now.plan.levels ks (values_in c.descend.new.walk.values.cells)) pushed c.in_ok-stopped.ensures.known);
+      going = going_more c.args.way.now c.args.walk.now.found c.loop-met.walk.found c.descend.new.walk.found c.next_key.new.sense c.args.keys.now c.args.iters.now c.loop-met.iters c.next_key.new.iters 0 c.args.moves.now c.loop-met.moves c.descend.new.moves c.next_key.new.moves c.loop-met.met.key c.loop-met.met.turn c.in_ok-met-2.met.key c.in_ok-met-2.met.turn
+          inv.going at_key explored below c.descend.ensures.moves
+          (goes_on c.args.way.now c.descend.new.walk.found.sense c.next_key.new.sense c.next_key.new.iters c.loop-met.met.key c.loop-met.met.turn c.descend.new.moves c.next_key.new.moves c.in_ok-met-2.met.key c.in_ok-met-2.met.turn c.pop.new.self c.args.keys.now c.descend.new.iters c.args.iters.now c.loop-met.iters back stay c.in_ok-met-2.ensures.gone (inv.going.stands at_key));
+    }
+
+pub loop-met-smaller : goal.loop-met-smaller
+loop-met-smaller g t c =
+    let inv = c.loop-met.invariant in
+    let at_key : c.loop-met.met.key < 2 ^ 128 - 1 = omega arith in
+    let pushed : c.enter.new.keys ≡ c.args.keys.now ++ c.loop-met.met.key ∷ [] = c.in_ok-enter.ensures.keys ∙ ap (λ (ks : List ℕ). ks ++ c.loop-met.met.key ∷ []) inv.same in
+    let back : c.pop.new.self ≡ c.args.keys.now = popped c.args.keys.now c.loop-met.met.key c.descend.new.keys c.pop.new.self (c.in_ok-stopped.ensures.back ∙ pushed) c.pop.ensures in
+    let stay : c.descend.new.iters ≡ c.loop-met.iters = c.in_ok-stopped.ensures.iters c.if-stopped.false in
+    let went = goes_on c.args.way.now c.descend.new.walk.found.sense c.next_key.new.sense c.next_key.new.iters c.loop-met.met.key c.loop-met.met.turn c.descend.new.moves c.next_key.new.moves c.in_ok-met-2.met.key c.in_ok-met-2.met.turn c.pop.new.self c.args.keys.now c.descend.new.iters c.args.iters.now c.loop-met.iters back stay c.in_ok-met-2.ensures.gone (inv.going.stands at_key) inv.going.level inv.going.here (inv.going.done.at_key at_key).1 in
+    let reaches = went.reaches in
+    omega (arith, reaches)
+
+pub returns-clause-walked : goal.returns-clause-walked
+returns-clause-walked g t c =
+    let inv = c.loop-met.invariant in
+    walked_all c.args.way.now c.args.walk.now.found c.loop-met.walk.found c.args.keys.now c.args.iters.now c.loop-met.iters 0 c.args.moves.now c.loop-met.moves c.loop-met.met.key c.loop-met.met.turn inv.going refl (omega arith)
+
+pub returns-clause-known : goal.returns-clause-known
+returns-clause-known g t c =
+    c.loop-met.invariant.known
 
 pub returns-clause-iters : goal.returns-clause-iters
-returns-clause-iters g t c = c.loop-joined.invariant.iters
+returns-clause-iters g t c =
+    λ goes. c.loop-met.invariant.going.ended (omega arith)
 
-pub returns-then-stopped-clause-under : goal.returns-then-stopped-clause-under
-returns-then-stopped-clause-under g t c =
-    let pushed : c.push.new.self ≡ c.args.keys.now ++ c.loop-joined.joined.key ∷ [] = c.in_ok-push.ensures.ok ∙ ap (λ ks. ks ++ c.loop-joined.joined.key ∷ []) c.loop-joined.invariant.way.same in
-    under_more c.args.terms.now c.args.body.now c.args.plan.now (g.I.Indexes.state c.args.tables.now) c.args.keys.now c.push.new.self c.loop-joined.joined.key c.args.found.now c.loop-joined.found c.descend.new.found pushed c.loop-joined.invariant.under c.in_ok-stopped.ensures.under
+pub returns-clause-back : goal.returns-clause-back
+returns-clause-back g t c =
+    c.loop-met.invariant.same
 
-pub returns-then-depth-len-clause-cost : goal.returns-then-depth-len-clause-cost
-returns-then-depth-len-clause-cost g t c =
-    cost_leaf (length c.args.body.now.absents) c.args.plan.now (g.I.Indexes.state c.args.tables.now) c.args.keys.now c.args.moves.now c.at_leaf.new.moves (sym c.len-depth.ensures ∙ c.if-depth-len.true ∙ c.len.ensures) c.at_leaf.ensures.cost
+pub returns-clause-cost : goal.returns-clause-cost
+returns-clause-cost g t c =
+    let inv = c.loop-met.invariant in
+    going_cost c.args.way.now c.args.walk.now.found c.loop-met.walk.found c.args.keys.now c.args.iters.now c.loop-met.iters 0 c.args.moves.now c.loop-met.moves c.loop-met.met.key c.loop-met.met.turn inv.going
+
+pub returns-clause-moves : goal.returns-clause-moves
+returns-clause-moves g t c =
+    c.loop-met.invariant.going.rises
+
+pub returns-then-stopped-clause-walked : goal.returns-then-stopped-clause-walked
+returns-then-stopped-clause-walked g t c =
+    let inv = c.loop-met.invariant in
+    let at_key : c.loop-met.met.key < 2 ^ 128 - 1 = omega arith in
+    let pushed : c.enter.new.keys ≡ c.args.keys.now ++ c.loop-met.met.key ∷ [] = c.in_ok-enter.ensures.keys ∙ ap (λ (ks : List ℕ). ks ++ c.loop-met.met.key ∷ []) inv.same in
+    let deep : HasEntered c.args.way.now c.args.keys.now c.loop-met.walk.found c.enter.new.walk.found = record {
+      grows = c.in_ok-enter.ensures.grows;
+      tight = c.in_ok-enter.ensures.tight;
+      gaps = c.in_ok-enter.ensures.gaps;
+      few = subst (λ (ks : List ℕ). length c.enter.new.walk.found.sense.hits ≤ length c.loop-met.walk.found.sense.hits + length (atoms_at c.args.way.now.plan.guides (length ks))) inv.same c.in_ok-enter.ensures.few;
+      rows = c.in_ok-enter.ensures.rows;
+    } in
+    let walked = subst (λ (ks : List ℕ). HasWalked c.args.way.now ks c.enter.new.walk.found c.descend.new.walk.found c.loop-met.moves c.descend.new.moves c.in_ok-stopped.stopped) pushed c.in_ok-stopped.ensures.walked in
+    walked_stopped c.args.way.now c.args.walk.now.found c.loop-met.walk.found c.args.keys.now c.args.iters.now c.loop-met.iters 0 c.args.moves.now c.loop-met.moves c.loop-met.met.key c.loop-met.met.turn inv.going c.enter.new.walk.found c.descend.new.walk.found c.descend.new.moves c.in_ok-stopped.stopped c.if-stopped.true at_key deep walked
+
+pub returns-then-stopped-clause-known : goal.returns-then-stopped-clause-known
+returns-then-stopped-clause-known g t c =
+    let inv = c.loop-met.invariant in
+    let at_key : c.loop-met.met.key < 2 ^ 128 - 1 = omega arith in
+    let pushed : c.enter.new.keys ≡ c.args.keys.now ++ c.loop-met.met.key ∷ [] = c.in_ok-enter.ensures.keys ∙ ap (λ (ks : List ℕ). ks ++ c.loop-met.met.key ∷ []) inv.same in
+    IsKnown-above c.args.way.now.plan.levels c.args.keys.now c.loop-met.met.key (values_in c.descend.new.walk.values.cells)
+    (subst (λ (ks : List ℕ). IsKnown c.args.way.now.plan.levels ks (values_in c.descend.new.walk.values.cells)) pushed c.in_ok-stopped.ensures.known)
+
+pub returns-then-stopped-clause-back : goal.returns-then-stopped-clause-back
+returns-then-stopped-clause-back g t c =
+    let inv = c.loop-met.invariant in
+    let at_key : c.loop-met.met.key < 2 ^ 128 - 1 = omega arith in
+    let pushed : c.enter.new.keys ≡ c.args.keys.now ++ c.loop-met.met.key ∷ [] = c.in_ok-enter.ensures.keys ∙ ap (λ (ks : List ℕ). ks ++ c.loop-met.met.key ∷ []) inv.same in
+    let back : c.pop.new.self ≡ c.args.keys.now = popped c.args.keys.now c.loop-met.met.key c.descend.new.keys c.pop.new.self (c.in_ok-stopped.ensures.back ∙ pushed) c.pop.ensures in
+    back
+
+pub returns-then-stopped-clause-moves : goal.returns-then-stopped-clause-moves
+returns-then-stopped-clause-moves g t c =
+    omega (arith, c.loop-met.invariant.going.rises, c.descend.ensures.moves)
+
+pub returns-in_err-met-clause-cost : goal.returns-in_err-met-clause-cost
+returns-in_err-met-clause-cost g t c =
+    let way : IsWay c.args.way.now = subst IsWay c.way.view_is c.way.invariant.0 in
+    let deeper : length c.args.keys.now < length c.args.way.now.plan.levels = not_full c.args.keys.now c.args.way.now.plan.levels c.len.result c.len-2.result c.requires.reached.within c.len.ensures (c.len-2.ensures ∙ ap (λ (w : WayView). length w.plan.levels) c.way.view_is) c.if-len.false in
+    opened_cost c.args.way.now c.args.keys.now c.args.moves.now c.open.new.moves deeper c.open.ensures.within
+
+pub returns-in_err-enter-clause-cost : goal.returns-in_err-enter-clause-cost
+returns-in_err-enter-clause-cost g t c =
+    let inv = c.loop-met.invariant in
+    going_cost c.args.way.now c.args.walk.now.found c.loop-met.walk.found c.args.keys.now c.args.iters.now c.loop-met.iters 0 c.args.moves.now c.loop-met.moves c.loop-met.met.key c.loop-met.met.turn inv.going
+
+pub returns-then-stopped-clause-cost : goal.returns-then-stopped-clause-cost
+returns-then-stopped-clause-cost g t c =
+    let inv = c.loop-met.invariant in
+    let at_key : c.loop-met.met.key < 2 ^ 128 - 1 = omega arith in
+    let pushed : c.enter.new.keys ≡ c.args.keys.now ++ c.loop-met.met.key ∷ [] = c.in_ok-enter.ensures.keys ∙ ap (λ (ks : List ℕ). ks ++ c.loop-met.met.key ∷ []) inv.same in
+    let below = subst (λ (ks : List ℕ). c.descend.new.moves ≤ c.loop-met.moves + cost_from (length c.args.way.now.body.absents) c.args.way.now.state c.args.way.now.plan.guides (drop (length ks) c.args.way.now.plan.levels) (length ks) (at ks)) pushed c.descend.ensures.cost in
+    stopped_cost c.args.way.now c.args.walk.now.found c.loop-met.walk.found c.args.keys.now c.args.iters.now c.loop-met.iters 0 c.args.moves.now c.loop-met.moves c.loop-met.met.key c.loop-met.met.turn inv.going c.descend.new.moves c.descend.new.moves at_key below (λ level here. omega arith)
+
+pub returns-in_err-stopped-clause-cost : goal.returns-in_err-stopped-clause-cost
+returns-in_err-stopped-clause-cost g t c =
+    let inv = c.loop-met.invariant in
+    let at_key : c.loop-met.met.key < 2 ^ 128 - 1 = omega arith in
+    let pushed : c.enter.new.keys ≡ c.args.keys.now ++ c.loop-met.met.key ∷ [] = c.in_ok-enter.ensures.keys ∙ ap (λ (ks : List ℕ). ks ++ c.loop-met.met.key ∷ []) inv.same in
+    let below = subst (λ (ks : List ℕ). c.descend.new.moves ≤ c.loop-met.moves + cost_from (length c.args.way.now.body.absents) c.args.way.now.state c.args.way.now.plan.guides (drop (length ks) c.args.way.now.plan.levels) (length ks) (at ks)) pushed c.descend.ensures.cost in
+    stopped_cost c.args.way.now c.args.walk.now.found c.loop-met.walk.found c.args.keys.now c.args.iters.now c.loop-met.iters 0 c.args.moves.now c.loop-met.moves c.loop-met.met.key c.loop-met.met.turn inv.going c.descend.new.moves c.descend.new.moves at_key below (λ level here. omega arith)
+
+pub returns-in_err-met-2-clause-cost : goal.returns-in_err-met-2-clause-cost
+returns-in_err-met-2-clause-cost g t c =
+    let inv = c.loop-met.invariant in
+    let at_key : c.loop-met.met.key < 2 ^ 128 - 1 = omega arith in
+    let pushed : c.enter.new.keys ≡ c.args.keys.now ++ c.loop-met.met.key ∷ [] = c.in_ok-enter.ensures.keys ∙ ap (λ (ks : List ℕ). ks ++ c.loop-met.met.key ∷ []) inv.same in
+    let back : c.pop.new.self ≡ c.args.keys.now = popped c.args.keys.now c.loop-met.met.key c.descend.new.keys c.pop.new.self (c.in_ok-stopped.ensures.back ∙ pushed) c.pop.ensures in
+    let stay : c.descend.new.iters ≡ c.loop-met.iters = c.in_ok-stopped.ensures.iters c.if-stopped.false in
+    let below = subst (λ (ks : List ℕ). c.descend.new.moves ≤ c.loop-met.moves + cost_from (length c.args.way.now.body.absents) c.args.way.now.state c.args.way.now.plan.guides (drop (length ks) c.args.way.now.plan.levels) (length ks) (at ks)) pushed c.descend.ensures.cost in
+    stopped_cost c.args.way.now c.args.walk.now.found c.loop-met.walk.found c.args.keys.now c.args.iters.now c.loop-met.iters 0 c.args.moves.now c.loop-met.moves c.loop-met.met.key c.loop-met.met.turn inv.going c.descend.new.moves c.next_key.new.moves at_key below
+    (moves_on c.args.way.now c.loop-met.met.key c.loop-met.met.turn c.descend.new.moves c.next_key.new.moves c.pop.new.self c.args.keys.now c.descend.new.iters c.loop-met.iters back stay c.next_key.ensures.within)

@@ -1,25 +1,18 @@
-use Rattle.std.proofs.Common.{◌≡◌, ◌-◌, ◌^◌, ◌≤◌, length, true}
-use Rattle.std.specs.List.{AllZip}
-use Rattle.lt_join.specs.Walked.{at, AreFoundUnder}
-use Rattle.lt_join.specs.Holders.{IsOpen, IsTrieOf, left_of, atoms_at}
-use Rattle.lt_join.proofs.Steps.{IsUnderWay}
-use Rattle.lt_join.proofs.Costs.{IsPaid, IsCredited}
+use Rattle.std.proofs.Common.{◌≡◌, ◌-◌, ◌^◌, length}
+use Rattle.lt_join.specs.Known.{IsKnown}
+use Rattle.lt_join.specs.Values.{values_in}
+use Rattle.lt_join.proofs.Going.{IsGoing}
 use Rattle.lt_join.proofs.walk.+descend.Given as goal
 
 abbrev pub decreases-descend : goal.decreases-descend
-decreases-descend g l = length l.plan.now.levels - length l.keys.now
+decreases-descend g l = length l.way.now.plan.levels - length l.keys.now
 
-abbrev pub invariant-loop-joined : goal.invariant-loop-joined
-invariant-loop-joined g l = record {
-  way : IsUnderWay l.fn.body l.fn.plan l.fn.terms (g.I.Indexes.state l.fn.tables) l.fn.found l.fn.keys l.level 0 l.found l.keys l.joined.key;
-  paid : IsPaid (length l.fn.body.absents) l.fn.plan (g.I.Indexes.state l.fn.tables) l.fn.keys l.level l.fn.moves l.moves (left_of l.joined.leap) l.joined.key;
-  credited : IsCredited (length (atoms_at l.fn.plan.guides (length l.fn.keys))) l.fn.found.sense l.found.sense l.fn.moves l.moves l.joined.key;
-  under : AreFoundUnder l.fn.terms l.fn.body l.fn.plan (g.I.Indexes.state l.fn.tables) l.fn.keys l.fn.found l.found;
-  unfound : l.fn.first ≡ true → l.found.rows ≡ l.fn.found.rows;
-  rises : l.fn.moves ≤ l.moves;
-  is_open : IsOpen l.fn.plan (g.I.Indexes.state l.fn.tables) l.fn.keys l.level l.joined.leap l.joined.key;
-  iters : AllZip (IsTrieOf (g.I.Indexes.state l.fn.tables) (length l.fn.keys) (at l.fn.keys)) l.fn.plan.guides l.iters.items;
+abbrev pub invariant-loop-met : goal.invariant-loop-met
+invariant-loop-met g l = record {
+  same : l.keys ≡ l.fn.keys;
+  known : IsKnown l.fn.way.plan.levels l.fn.keys (values_in l.walk.values.cells);
+  going : IsGoing l.fn.way l.fn.walk.found l.walk.found l.fn.keys l.fn.iters l.iters 0 l.fn.moves l.moves l.met.key l.met.turn;
 }
 
-abbrev pub decreases-loop-joined : goal.decreases-loop-joined
-decreases-loop-joined g l = 2 ^ 128 - l.joined.key
+abbrev pub decreases-loop-met : goal.decreases-loop-met
+decreases-loop-met g l = 2 ^ 128 - l.met.key

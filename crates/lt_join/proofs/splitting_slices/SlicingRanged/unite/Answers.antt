@@ -2,7 +2,7 @@ use Rattle.std.proofs.Common.{◌≡◌, ◌++◌, ◌∙◌, ap₂, subst, sym}
 use Rattle.std.specs.List.{AllByRecursion}
 use Rattle.lt_sense.specs.Ordered.{IsSealed}
 use Rattle.lt_join.specs.declared.slicing.Slice.{Slice}
-use Rattle.lt_join.proofs.LevelLists.{all_append}
+use Rattle.lt_join.proofs.Lists.{all_append}
 use Rattle.lt_join.proofs.RangeLaws.{slices_both, united_both}
 use Rattle.lt_join.proofs.splitting_slices.SlicingRanged.unite.Goals as goal
 

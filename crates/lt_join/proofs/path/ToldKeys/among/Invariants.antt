@@ -1,0 +1,4 @@
+use Rattle.lt_join.proofs.path.ToldKeys.among.Given as goal
+
+abbrev pub ghost-of : goal.ghost-of
+ghost-of g a = g.all
