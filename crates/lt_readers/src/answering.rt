@@ -9,7 +9,7 @@ ghost use Rattle.lt_program.specs.Run.{AreReplied};
 use lt_base::Database;
 use lt_face::memory::NoMemory;
 use lt_face::moves::Moves;
-use lt_program::{Reply, indexed, run};
+use lt_program::{Reply, indexed, run_alone};
 use lt_query::Planned;
 use std::sync::Arc;
 use std::thread::Threads;
@@ -30,6 +30,6 @@ pub fn answered<R: Threads + Sync>(
 {
     let db = indexed(rt, db, prog)?;
     let mut moves = Moves::<Asked>::new();
-    let tally = run(prog, &db, &mut moves)?;
-    Ok((db, tally.into_reply()))
+    let ran = run_alone(prog, &db, &mut moves)?;
+    Ok((db, ran.reply))
 }

@@ -1,4 +1,4 @@
-//! Readers beside a poster: queries are answered on the database that was posted last, while a batch runs.
+//! Readers beside a poster: queries are answered while a batch runs, on a posted database that is never older than one their reader has seen.
 #![tactic(auto)]
 
 mod answering;

@@ -3,7 +3,7 @@ use crate::front::Front;
 
 mod telling;
 
-/// What was posted until it was made, with a share of the database that was posted last.
+/// What was posted until it was made, with a share of the posted database that it was made on.
 #[derive(Drop)]
 pub struct Told {
     pub(crate) front: Front,
