@@ -8,8 +8,8 @@ ghost use Rattle.lt_face.specs.Keys.{IsKeyList, least_from};
 
 use crate::agree::{holds, same};
 use list_iter::ListIter;
-use lt_face::{CELL_LIMIT, END, Gap, Key, KeyIter, Moves, NoMemory, NoNotes, Notes};
-use lt_leap::Leap;
+use lt_face::{CELL_LIMIT, END, Gap, Key, KeyIter, Moves, NoMemory};
+use lt_leap::{Leap, NoNotes, Notes};
 use std::alloc::Global;
 use told::Told;
 

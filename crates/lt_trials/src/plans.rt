@@ -140,6 +140,10 @@ fn pinned_ones_first_and_tied_ones_behind_their_originals(rt: HostRuntime) -> Re
         (1, &[2, 0, 3, 1], &[1, 3, 0, 2]),
     ];
     same_guides(&rt, plan.guides.as_slice(), &guides);
+    let holders: [&[usize]; 5] = [&[0, 1], &[1], &[1], &[0, 1], &[]];
+    for level in 0..holders.len() {
+        same(&rt, plan.guides.at_level(level), holders[level]);
+    }
     Ok(())
 }
 

@@ -2,7 +2,8 @@
 ghost use Rattle.std.specs.Prelude.{◌≤◌, length, IfOk};
 
 use crate::agree::{holds, same};
-use lt_face::{CELL_LIMIT, END, Gap, Items, Key, Moves, NoMemory, NoNotes, Notes, Perm, Row};
+use lt_face::{CELL_LIMIT, END, Gap, Items, Key, Moves, NoMemory, Perm, Row};
+use lt_leap::{NoNotes, Notes};
 use std::alloc::{AllocError, Global};
 
 /// The row of these cells.

@@ -3,7 +3,7 @@ ghost use Rattle.std.specs.Prelude.{◌≤◌, length};
 
 use crate::agree::{holds, same};
 use crate::rows::{columns, row};
-use lt_face::{END, Gap, Items, Key, Moves, NoMemory, Row};
+use lt_face::{END, Items, Key, Moves, NoMemory, Row};
 use lt_sense::{Changes, Sense, Spot};
 use std::alloc::Global;
 
@@ -61,32 +61,6 @@ fn with_gap(
 
 fn covers(sense: &Sense, relation: u32, row: &Row) -> bool {
     sense.covers(relation, row)
-}
-
-/// A sense of those gaps that iterator 1 noted.
-fn of_the_second(alloc: Global) -> Result<Sense, NoMemory> {
-    let own_order = columns(alloc, &[0])?;
-    let none = row(alloc, &[]);
-    let noted = [
-        (1, Gap { lo: 2, hi: 4 }),
-        (0, Gap { lo: 4, hi: 6 }),
-        (1, Gap { lo: 6, hi: 8 }),
-        (1, Gap { lo: 9, hi: 9 }),
-    ];
-    let mut sense = Sense::new(alloc);
-    sense.add_gaps(3, &own_order, &none, 1, &noted)?;
-    Ok(sense)
-}
-
-#[test]
-fn one_iterators_gaps_are_gathered(rt: HostRuntime) -> Result<(), NoMemory> {
-    let sense = of_the_second(rt.alloc())?;
-    same(&rt, sense.gap_count(), 2);
-    for (cell, covered) in [(2, true), (4, false), (7, true), (9, false)] {
-        let is_covered = covers(&sense, 3, &row(rt.alloc(), &[cell]));
-        same(&rt, (cell, is_covered), (cell, covered));
-    }
-    Ok(())
 }
 
 #[test]

@@ -1,12 +1,10 @@
 //! A trie iterator moves over sets of a few rows.
-mod scan;
-
 ghost use Rattle.std.specs.Prelude.{◌≡◌, [], ◌∷◌, IfOk};
 
 use crate::agree::{holds, same};
-use lt_face::{END, Gap, KeyIter, Moves, NoMemory, Row};
+use lt_face::{END, Gap, Items, KeyIter, Moves, NoMemory, Row, RowSet};
+use lt_flat::FlatRows;
 use lt_trie::TrieIter;
-use scan::Scan;
 use std::alloc::Global;
 
 fn gap(lo: u128, hi: u128) -> Gap
@@ -16,13 +14,14 @@ fn gap(lo: u128, hi: u128) -> Gap
 }
 
 /// The rows (1, 7) and (2, 7).
-fn two_rows(alloc: Global) -> Result<Scan, NoMemory>
-    ensures { IfOk result (λ set. set ≡ (1 ∷ 7 ∷ []) ∷ (2 ∷ 7 ∷ []) ∷ []) }
+fn two_rows(alloc: Global) -> Result<FlatRows, NoMemory>
+    ensures width { IfOk result (λ set. set.width ≡ 2) }
+    ensures rows { IfOk result (λ set. set.rows ≡ (1 ∷ 7 ∷ []) ∷ (2 ∷ 7 ∷ []) ∷ []) }
 {
     let first = Row::from_cells(alloc, &[1, 7]);
     let second = Row::from_cells(alloc, &[2, 7]);
     let rows = vec![in alloc; first, second]?;
-    Ok(Scan::new(rows))
+    FlatRows::from_sorted(2, Items::from_vec(rows))
 }
 
 #[test]
@@ -36,7 +35,7 @@ fn goes_down_and_up(rt: HostRuntime) -> Result<(), NoMemory> {
     same(&rt, trie.key(), 1);
     same(&rt, trie.open_level(&mut moves), gap(0, 7));
     same(&rt, trie.key(), 7);
-    same(&rt, trie.prefix().cells(), [1].as_slice());
+    same(&rt, trie.prefix(), [1].as_slice());
     same(&rt, trie.level(), 2);
     trie.up();
     same(&rt, trie.key(), 1);
@@ -44,20 +43,15 @@ fn goes_down_and_up(rt: HostRuntime) -> Result<(), NoMemory> {
 }
 
 #[test]
-fn enters_where_a_copy_was_opened(rt: HostRuntime) -> Result<(), NoMemory> {
+fn opens_at_a_bound(rt: HostRuntime) -> Result<(), NoMemory> {
     let set = two_rows(rt.alloc())?;
     let mut moves: Moves<()> = Moves::new();
     let mut trie = TrieIter::new(rt.alloc(), &set);
-    let mut opened = trie.copy();
-    opened.open_level(&mut moves);
-    trie.enter(&opened);
-    same(&rt, (trie.key(), trie.level()), (1, 1));
-    let mut below = trie.copy();
-    below.open_level(&mut moves);
-    trie.enter(&below);
-    same(&rt, (trie.key(), trie.level()), (7, 2));
+    same(&rt, trie.open_at(2, &mut moves), gap(2, 2));
+    same(&rt, (trie.key(), trie.level()), (2, 1));
+    same(&rt, trie.open_at(8, &mut moves), gap(8, END));
     trie.up();
-    same(&rt, (trie.key(), trie.level()), (1, 1));
+    same(&rt, (trie.key(), trie.level()), (2, 1));
     Ok(())
 }
 
@@ -88,12 +82,13 @@ fn a_copy_stays_where_it_was_made(rt: HostRuntime) -> Result<(), NoMemory> {
 }
 
 #[test]
-fn opens_an_empty_set_at_its_end(rt: HostRuntime) {
-    let set = Scan::new(Vec::new(rt.alloc()));
+fn opens_an_empty_set_at_its_end(rt: HostRuntime) -> Result<(), NoMemory> {
+    let set = FlatRows::empty(rt.alloc(), 2)?;
     let mut moves: Moves<()> = Moves::new();
     let mut trie = TrieIter::new(rt.alloc(), &set);
     same(&rt, trie.open_level(&mut moves), gap(0, END));
     holds(&rt, trie.at_end());
     trie.up();
     same(&rt, trie.level(), 0);
+    Ok(())
 }

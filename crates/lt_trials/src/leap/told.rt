@@ -1,7 +1,8 @@
 //! Notes that keep the gaps that they are given, as many as they have room for.
 ghost use Rattle.std.specs.Prelude.{◌≡◌, [], Some};
 
-use lt_face::{Gap, NoMemory, Notes};
+use lt_face::{Gap, NoMemory};
+use lt_leap::Notes;
 use std::alloc::Global;
 
 /// Gaps, each with its iterator.
