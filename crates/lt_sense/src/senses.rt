@@ -59,6 +59,11 @@ pub trait Senses: Drop {
         requires there { AllByRecursion (λ l. l < K.count keys.now) places.now }
         ensures kept { OnOk result ((seen self.new).hits ≡ (seen self.old).hits ++ record { relation = relation; row = map (K.key keys.now) places.now } ∷ []) }
         ensures gaps { (seen self.new).gaps ≡ (seen self.old).gaps };
+
+    /// Takes all that another was given, at the end.
+    fn all_of(&mut self, other: &Self) -> Result<(), NoMemory>
+        ensures gaps { OnOk result ((seen self.new).gaps ≡ (seen self.old).gaps ++ (seen other.now).gaps) }
+        ensures hits { OnOk result ((seen self.new).hits ≡ (seen self.old).hits ++ (seen other.now).hits) };
 }
 
 impl Senses for Sense {
@@ -103,6 +108,10 @@ impl Senses for Sense {
         let row = row_of(alloc, places, keys);
         self.add_hit(relation, &row)?;
         Ok(())
+    }
+
+    fn all_of(&mut self, other: &Sense) -> Result<(), NoMemory> {
+        self.add_all(other)
     }
 }
 
@@ -149,6 +158,11 @@ impl Senses for NoSense {
         keys: &K,
     ) -> Result<(), NoMemory> {
         *self = NoSense::with_hit_at(self, relation, places, keys);
+        Ok(())
+    }
+
+    fn all_of(&mut self, other: &NoSense) -> Result<(), NoMemory> {
+        *self = NoSense::with_all(self, other);
         Ok(())
     }
 }
@@ -227,6 +241,14 @@ impl<S: Senses> Sensed<S> {
         ensures gaps { self.new.gaps ≡ self.old.gaps }
     {
         self.senses.hit_at(alloc, relation, places, keys)
+    }
+
+    /// Adds all that another has sensed, at the end.
+    pub fn add_all(&mut self, other: &Sensed<S>) -> Result<(), NoMemory>
+        ensures gaps { OnOk result (self.new.gaps ≡ self.old.gaps ++ other.now.gaps) }
+        ensures hits { OnOk result (self.new.hits ≡ self.old.hits ++ other.now.hits) }
+    {
+        self.senses.all_of(&other.senses)
     }
 
     /// What took it all.
