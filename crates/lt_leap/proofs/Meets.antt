@@ -1,5 +1,5 @@
 -- What a join round the places of a list keeps from turn to turn, and what it gives in the end.
-use Rattle.std.proofs.Common.{◌≡◌, ◌≢◌, ℕ, ◌+◌, ◌-◌, ◌<◌, ◌≤◌, ◌^◌, List, length, get_or, map, Some, None, Result, Ok, Err, IfOk, refl, sym, ap, subst, ◌∙◌, inl, arith, ◌⊎◌, slice_get, length-set}
+use Rattle.std.proofs.Common.{◌≡◌, ◌≢◌, ℕ, ◌+◌, ◌-◌, ◌<◌, ◌≤◌, ◌^◌, List, length, get_or, map, Some, None, Result, Ok, Err, IfOk, refl, sym, ap, subst, ◌∙◌, inl, arith, slice_get, length-set}
 use Rattle.std.specs.List.{AllByRecursion}
 use Rattle.std.proofs.lemmas.List.{length-map}
 use Rattle.lt_face.specs.declared.key.Gap.{Gap}
@@ -13,7 +13,7 @@ use Rattle.lt_leap.specs.Search.{NonePassed}
 use Rattle.lt_leap.proofs.AtPlaces.{here_in, each_within, all_each}
 use Rattle.lt_leap.proofs.EachMoved.{each-moved}
 use Rattle.lt_leap.proofs.Rounds.{turned-long, turned-last}
-use Rattle.lt_leap.proofs.Searched.{Searching, searching-none, searching-turned, left_turned, low_greatest, to_last, searched, all_at, key_in}
+use Rattle.lt_leap.proofs.Searched.{Searching, searching-none, searching-turned, left_turned, low_greatest, to_last, searched, none_below, all_at, key_in}
 use Rattle.lt_leap.proofs.Seeks.{Seeks, turn_within}
 use Rattle.lt_leap.proofs.Sought.{Went, went}
 use Rattle.lt_leap.proofs.Telling.{moves-none, moves-more, moves-first}
@@ -116,9 +116,13 @@ module _ {P I : Type 0} (takes : P → ℕ → I → Gap → P → Type 0) (iter
     found_at_end same = all_each (λ here. here ≡ greatest) (heres_at heres places)
         (all_at (lists_at lists places) (heres_at heres places) (turned (length places) turn) _ least greatest m.state.is_ring m.state.last_is m.state.least_is m.state.greatest_is same)
 
-    pub exact_at_end : (least ≡ greatest) ⊎ (greatest ≡ end_key) → (b : ℕ) → NonePassed (lists_at lists places) (heres_at heres₀ places) b
+    pub exact_at_end : least ≡ greatest → (b : ℕ) → NonePassed (lists_at lists places) (heres_at heres₀ places) b
         → b ≤ last_of (heres_at heres₀ places) (turned (length places) turn₀) → greatest ≡ least_from (common_keys (lists_at lists places)) b
-    exact_at_end how b none le = searched _ _ _ _ _ _ _ _ _ _ _ _ m.state how b none le
+    exact_at_end same b none le = searched _ _ _ _ _ _ _ _ _ _ _ _ m.state (inl same) b none le
+
+    pub none_at_end : (b : ℕ) → NonePassed (lists_at lists places) (heres_at heres₀ places) b
+        → b ≤ last_of (heres_at heres₀ places) (turned (length places) turn₀) → greatest ≤ least_from (common_keys (lists_at lists places)) b
+    none_at_end b none le = none_below _ _ _ _ _ _ _ _ _ _ _ _ m.state b none le
 
 -- the one whose turn it is seeks the greatest key
 pub going : {P I : Type 0} (takes : P → ℕ → I → Gap → P → Type 0) (iters : List I) (places heres₀ : List ℕ) (turn₀ : ℕ) (p₀ : P) (moves₀ : ℕ) (K : I → List ℕ) (H : I → ℕ) (S : I → I) (items old : List I) (turn : ℕ) (p : P) (moves least greatest : ℕ)

@@ -14,7 +14,7 @@ use Rattle.lt_leap.specs.Potential.{moves_left}
 use Rattle.lt_leap.specs.Moves.{IsMove, AreMade}
 use Rattle.lt_leap.specs.Search.{NonePassed, Notes, changed}
 use Rattle.lt_leap.proofs.Changed.{changed-same, changed-set}
-use Rattle.lt_leap.proofs.Exact.{place_has, least_at_most, none_between, each_from_all, all_from_each, least_common, end_common}
+use Rattle.lt_leap.proofs.Exact.{place_has, least_at_most, none_between, each_from_all, all_from_each, least_common, common_least}
 use Rattle.lt_leap.proofs.Gaps.{notes-none, notes-more}
 use Rattle.lt_leap.proofs.Leading.{made-none, made-more}
 use Rattle.lt_leap.proofs.Turned.{IsRing-turned, left_less, y_up, cases_eq, at_j, back}
@@ -224,12 +224,12 @@ pub exact-end : (lists : List (List ℕ)) (heres ring : List ℕ) (last least gr
     → (least ≡ greatest) ⊎ (greatest ≡ end_key) → NonePassed lists heres b → b ≤ greatest → greatest ≡ least_from (common_keys lists) b
 exact-end lists heres ring last least greatest b is at l g how none le =
     elim (cases_eq greatest end_key) [
-      | inl over ↦ over ∙ sym (end_common lists b (λ c common from.
+      | inl over ↦ over ∙ sym (common_least (λ y. y ≡ end_key) lists b refl (λ c common from.
           let some : 0 < length heres = (let e = is.as_long in let f = is.some in omega arith) in
           let l_in : get_or ring last 0 < length heres = is.in_range last (omega arith) in
           let past = none c common from (get_or ring last 0) l_in in
           let low = key_low (keys_at lists 0) c (is.keyed 0 some) (each_from_all (λ ks. has_key ks c) lists 0 common (let e = is.listed in omega arith)) in
-          omega arith))
+          absurd (omega arith)))
       | inr key ↦ elim how [
         | inr over ↦ absurd (key over)
         | inl same ↦
@@ -250,3 +250,13 @@ pub searched : (lists : List (List ℕ)) (heres₀ ring₀ : List ℕ) (moves₀
 searched lists heres₀ ring₀ moves₀ kept₀ last heres ring moves kept least greatest s how b none le =
     let was = s.exact b none le in
     exact-end lists heres ring last least greatest b s.is_ring s.last_is s.least_is s.greatest_is how was.0 was.1
+
+-- and wherever it ends, no common key from the bound on is below the greatest
+pub none_below : (lists : List (List ℕ)) (heres₀ ring₀ : List ℕ) (moves₀ : ℕ) (kept₀ : Option (List (ℕ × Gap))) (last : ℕ) (heres ring : List ℕ) (moves : ℕ) (kept : Option (List (ℕ × Gap))) (least greatest : ℕ)
+    → Searching lists heres₀ ring₀ moves₀ kept₀ last heres ring moves kept least greatest
+    → (b : ℕ) → NonePassed lists heres₀ b → b ≤ key_in heres₀ ring₀ last → greatest ≤ least_from (common_keys lists) b
+none_below lists heres₀ ring₀ moves₀ kept₀ last heres ring moves kept least greatest s b none le =
+    common_least (λ y. greatest ≤ y) lists b s.within (λ c common from.
+    let past = (s.exact b none le).0 c common from (get_or ring last 0) (s.is_ring.in_range last (let e = s.last_is in omega arith)) in
+    let g = s.greatest_is in
+    omega arith)

@@ -12,7 +12,7 @@ ghost use Rattle.lt_leap.specs.Potential.{moves_left};
 ghost use Rattle.lt_leap.specs.Ring.{IsRing};
 ghost use Rattle.lt_leap.specs.Search.{NonePassed};
 
-use lt_face::key::{END, Gap, Key};
+use lt_face::key::{Gap, Key};
 use lt_face::key_iter::KeyIter;
 use lt_face::memory::NoMemory;
 use lt_face::moves::Moves;
@@ -27,7 +27,7 @@ pub trait Passing<I: KeyIter> {
         ensures { OnOk result (takes self.old place (I.still iter.now) gap self.new) };
 }
 
-/// Where a join stands: at a key that all its iterators have, or at `END`; and whose turn is next.
+/// Where a join stands: at a key that all its iterators have, or at one from the end on that was asked for; and whose turn is next.
 #[derive(Clone, Copy, Drop)]
 pub struct Meeting {
     pub key: Key,
@@ -58,12 +58,13 @@ fn turn_before(turn: usize, count: usize) -> usize
     if turn == 0 { count - 1 } else { turn - 1 }
 }
 
-/// Goes on, from the turn on, until the iterators of these places stand at one key or one of them at its end: the least key that
-/// they have in common, or `END`. `greatest` is where the one whose turn was before stands: none stands above it.
+/// Goes on, from the turn on, until the iterators of these places stand at one key or one of them at `end` or above: the least key
+/// that they have in common, if that is below `end`; else one from `end` on, where they needn't stand together.
 pub fn meet<I: KeyIter, P: Passing<I>, L>(
     iters: &mut [I],
     places: &[usize],
     turn: usize,
+    end: Key,
     passing: &mut P,
     moves: &mut Moves<L>,
 ) -> Result<Meeting, NoMemory>
@@ -74,8 +75,12 @@ pub fn meet<I: KeyIter, P: Passing<I>, L>(
     ensures others { (i : ℕ) → (IsIn i places.now → ⊥) → slice_get iters.new i ≡ slice_get iters.old i }
     ensures exact { IfOk result (λ met. (b : ℕ) → NonePassed (lists_at (map I.keys iters.old) places.now) (heres_at (map I.here iters.old) places.now) b
         → b ≤ last_of (heres_at (map I.here iters.old) places.now) (turned (length places.now) turn)
-        → met.key ≡ least_from (common_keys (lists_at (map I.keys iters.old) places.now)) b) }
-    ensures found { IfOk result (λ met. met.key ≢ end_key → AllByRecursion (λ here. here ≡ met.key) (heres_at (map I.here iters.new) places.now)) }
+        → met.key < end → met.key ≡ least_from (common_keys (lists_at (map I.keys iters.old) places.now)) b) }
+    // no key that they have in common was passed below the end
+    ensures none { IfOk result (λ met. (b : ℕ) → NonePassed (lists_at (map I.keys iters.old) places.now) (heres_at (map I.here iters.old) places.now) b
+        → b ≤ last_of (heres_at (map I.here iters.old) places.now) (turned (length places.now) turn)
+        → end ≤ met.key → end ≤ least_from (common_keys (lists_at (map I.keys iters.old) places.now)) b) }
+    ensures found { IfOk result (λ met. met.key < end → AllByRecursion (λ here. here ≡ met.key) (heres_at (map I.here iters.new) places.now)) }
     ensures ring { IfOk result (λ met. IsRing (lists_at (map I.keys iters.old) places.now) (heres_at (map I.here iters.new) places.now) (turned (length places.now) met.turn)) }
     ensures made { IfOk result (λ met. AreToldMoves P.takes (map I.still iters.old) (map I.keys iters.old) places.now (map I.here iters.old) (map I.here iters.new) passing.old passing.new
         (last_of (heres_at (map I.here iters.old) places.now) (turned (length places.now) turn)) met.key moves.old moves.new) }
@@ -91,7 +96,7 @@ pub fn meet<I: KeyIter, P: Passing<I>, L>(
     let mut turn = turn;
     let mut greatest = iters[places[before]].key();
     let mut least = iters[places[turn]].key();
-    while least != greatest && greatest != END {
+    while least != greatest && greatest < end {
         let place = places[turn];
         let iter = &mut iters[place];
         let gap = iter.seek(greatest, moves);
@@ -107,12 +112,13 @@ pub fn meet<I: KeyIter, P: Passing<I>, L>(
 }
 
 /// The one whose turn it is seeks `to`, above which none stands, and all go on from there: to the least key at or above `to` that the
-/// iterators of these places have in common, or to `END`.
+/// iterators of these places have in common, if that is below `end`; else to one from `end` on.
 pub fn meet_from<I: KeyIter, P: Passing<I>, L>(
     iters: &mut [I],
     places: &[usize],
     turn: usize,
     to: Key,
+    end: Key,
     passing: &mut P,
     moves: &mut Moves<L>,
 ) -> Result<Meeting, NoMemory>
@@ -124,8 +130,9 @@ pub fn meet_from<I: KeyIter, P: Passing<I>, L>(
     ensures keys { map I.keys iters.new ≡ map I.keys iters.old }
     ensures still { map I.still iters.new ≡ map I.still iters.old }
     ensures others { (i : ℕ) → (IsIn i places.now → ⊥) → slice_get iters.new i ≡ slice_get iters.old i }
-    ensures exact { IfOk result (λ met. met.key ≡ least_from (common_keys (lists_at (map I.keys iters.old) places.now)) to) }
-    ensures found { IfOk result (λ met. met.key ≢ end_key → AllByRecursion (λ here. here ≡ met.key) (heres_at (map I.here iters.new) places.now)) }
+    ensures exact { IfOk result (λ met. met.key < end → met.key ≡ least_from (common_keys (lists_at (map I.keys iters.old) places.now)) to) }
+    ensures none { IfOk result (λ met. end ≤ met.key → end ≤ least_from (common_keys (lists_at (map I.keys iters.old) places.now)) to) }
+    ensures found { IfOk result (λ met. met.key < end → AllByRecursion (λ here. here ≡ met.key) (heres_at (map I.here iters.new) places.now)) }
     ensures ring { IfOk result (λ met. IsRing (lists_at (map I.keys iters.old) places.now) (heres_at (map I.here iters.new) places.now) (turned (length places.now) met.turn)) }
     ensures made { IfOk result (λ met. AreToldMoves P.takes (map I.still iters.old) (map I.keys iters.old) places.now (map I.here iters.old) (map I.here iters.new) passing.old passing.new
         to met.key moves.old moves.new) }
@@ -133,7 +140,7 @@ pub fn meet_from<I: KeyIter, P: Passing<I>, L>(
         → moves.new + moves_left (lists_at (map I.keys iters.old) places.now) (heres_at (map I.here iters.new) places.now) (turned (length places.now) met.turn) i
         ≤ moves.old + moves_left (lists_at (map I.keys iters.old) places.now) (heres_at (map I.here iters.old) places.now) (turned (length places.now) turn) i) }
     // where all stood below, each has moved
-    ensures each { IfOk result (λ met. met.key ≢ end_key → AllByRecursion (λ here. here < to) (heres_at (map I.here iters.old) places.now) → moves.old + length places.now ≤ moves.new) }
+    ensures each { IfOk result (λ met. met.key < end → AllByRecursion (λ here. here < to) (heres_at (map I.here iters.old) places.now) → moves.old + length places.now ≤ moves.new) }
     // also where memory is refused
     ensures within { first_of (heres_at (map I.here iters.old) places.now) (turned (length places.now) turn) < to → (i : ℕ) → i < length places.now
         → moves.new ≤ moves.old + moves_left (lists_at (map I.keys iters.old) places.now) (heres_at (map I.here iters.old) places.now) (turned (length places.now) turn) i }
@@ -147,6 +154,7 @@ pub fn meet_from<I: KeyIter, P: Passing<I>, L>(
         iters,
         places,
         turn_behind(turn, places.len()),
+        end,
         passing,
         moves,
     )

@@ -67,6 +67,14 @@ returns-clause-exact g c =
     r.places r.ring r.goes_on r.ahead r.bound e.keys e.still e.here e.lo e.hi c.turn_behind.ensures.next c.turn_behind.ensures.round in
     on_ok c.meet.result c.meet.ensures.exact (λ met is exact. (rw b.sought.keys at exact) c.args.to b.seeks.after.none b.seeks.after.up)
 
+pub returns-clause-none : goal.returns-clause-none
+returns-clause-none g c =
+    let r = c.requires in
+    let e = c.seek-gap.ensures in
+    let b = begun g.I.KeyIter.keys g.I.KeyIter.here g.I.KeyIter.still c.args.iters.now c.args.places.now c.args.turn c.args.to c.seek-gap.new.self c.index-iters-place.result c.seek-gap.result c.turn_behind.result
+    r.places r.ring r.goes_on r.ahead r.bound e.keys e.still e.here e.lo e.hi c.turn_behind.ensures.next c.turn_behind.ensures.round in
+    on_ok c.meet.result c.meet.ensures.none (λ met is none. (rw b.sought.keys at none) c.args.to b.seeks.after.none b.seeks.after.up)
+
 pub returns-clause-ring : goal.returns-clause-ring
 returns-clause-ring g c =
     let r = c.requires in
@@ -102,7 +110,7 @@ returns-clause-each g c =
     r.places r.ring r.goes_on r.ahead r.bound e.keys e.still e.here e.lo e.hi c.turn_behind.ensures.next c.turn_behind.ensures.round in
     on_ok c.meet.result c.meet.ensures.made (λ met is after goes below.
     let made = meets-first _ _ _ _ _ _ _ _ _ _ _ _ _ _ _ _ _ _ _ _ _ b.seeks b.sought.still b.sought.keys b.sought.at c.in_ok-pass.ensures e.moves after in
-    let exact = (of_ok _ c.meet.result met is (rw b.sought.keys at c.meet.ensures.exact)) c.args.to b.seeks.after.none b.seeks.after.up in
+    let exact = (of_ok _ c.meet.result met is (rw b.sought.keys at c.meet.ensures.exact)) c.args.to b.seeks.after.none b.seeks.after.up goes in
     let up = least_above (common_keys (lists_at (map g.I.KeyIter.keys c.args.iters.now) c.args.places.now)) c.args.to (omega (arith, r.bound)) in
     let moved = meets-each c.args.places.now _ _ _ made.moves c.args.to met.key r.places.distinct made.leads (omega arith) (of_ok _ c.meet.result met is c.meet.ensures.found goes) below in
     omega (arith, made.counted))
