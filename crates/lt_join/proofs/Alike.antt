@@ -79,11 +79,11 @@ passed_alike s t same l above k (guide ∷ guides) h =
       | inr r ↦ inr (passed_alike s t same l above k guides r)
     ]
 
-pub rooted_alike : (plan : Plan) (s t : Sense) (keys : List ℕ) → HaveSameCells s.gaps t.gaps → AreRooted plan s keys → AreRooted plan t keys
-rooted_alike plan s t keys same rooted level is k cell =
-    elim (rooted level is k cell) [
+pub rooted_alike : (body : Body) (plan : Plan) (s t : Sense) (keys : List ℕ) → HaveSameCells s.gaps t.gaps → AreRooted body plan s keys → AreRooted body plan t keys
+rooted_alike body plan s t keys same rooted k cell =
+    elim (rooted k cell) [
       | inl there ↦ inl there
-      | inr skipped ↦ elim skipped [ inl passed ↦ inr (inl (passed_alike s t same 0 _ k plan.guides passed)) | inr unfit ↦ inr (inr unfit) ]
+      | inr skipped ↦ elim skipped [ inl passed ↦ inr (inl (passed_alike s t same 0 _ k plan.guides passed)) | inr hopeless ↦ inr (inr hopeless) ]
     ]
 
 pub root_gaps_alike : (s t : Sense) → HaveSameCells s.gaps t.gaps → AreRootGaps s → AreRootGaps t

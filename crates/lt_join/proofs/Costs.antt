@@ -1,7 +1,7 @@
 -- A level's moves and its children's.
-use Rattle.std.specs.Prelude.{◌≡◌, ℕ, zero, suc, ◌+◌, ◌-◌, ◌^◌, ◌<◌, ◌≤◌, true, false, nat_lt, List, [], ◌∷◌, ◌++◌, length, slice_get, drop, Some, if◌then◌else◌}
+use Rattle.std.specs.Prelude.{◌≡◌, ℕ, ◌+◌, ◌-◌, ◌^◌, ◌<◌, ◌≤◌, true, false, nat_lt, List, [], ◌∷◌, ◌++◌, length, slice_get, drop, Some, if◌then◌else◌}
 use Rattle.std.specs.List.{sum_by}
-use Rattle.std.proofs.Common.{refl, sym, ap, ◌∙◌, subst, inl, inr, cond, arith}
+use Rattle.std.proofs.Common.{refl, ap, ◌∙◌, inl, inr, cond, arith}
 use Rattle.std.proofs.lemmas.Bool.{lt-ltb, ltb-true, le-ltb}
 use Rattle.std.proofs.lemmas.List.Sums.{sum_by-cons}
 use Rattle.lt_join.specs.Walked.{at, CostsAt}
@@ -100,17 +100,6 @@ cost-stopped absents plan state keys level begun now left key end here at_key pa
 -- a walk that stops where a level is opened
 pub cost-opened : (absents : ℕ) (plan : Plan) (state : State) (keys : List ℕ) (level : Level) (begun now : ℕ) → slice_get plan.levels (length keys) ≡ Some level → now ≤ begun + join_cost (iterators_at state plan.guides level (length keys) (at keys)) → now ≤ begun + cost_from absents state plan.guides (drop (length keys) plan.levels) (length keys) (at keys)
 cost-opened absents plan state keys level begun now here within = rw (drop_at plan.levels (length keys) level here) (omega arith)
-
-drop_len : {X : Type 0} (xs : List X) (n : ℕ) → n ≡ length xs → drop n xs ≡ []
-drop_len [] zero e = refl
-drop_len [] (suc n) e = refl
-drop_len (x ∷ xs) zero e = absurd (omega (arith, e))
-drop_len (x ∷ xs) (suc n) e = drop_len xs n (omega (arith, e))
-
--- below all levels the negated atoms are looked up
-pub cost_leaf : (absents : ℕ) (plan : Plan) (state : State) (keys : List ℕ) (begun now : ℕ) → length keys ≡ length plan.levels → now ≤ begun + absents → now ≤ begun + cost_from absents state plan.guides (drop (length keys) plan.levels) (length keys) (at keys)
-cost_leaf absents plan state keys begun now full within =
-    subst (λ (levels : List Level). now ≤ begun + cost_from absents state plan.guides levels (length keys) (at keys)) (sym (drop_len plan.levels (length keys) full)) within
 
 -- ---- what the sense gains
 

@@ -22,8 +22,8 @@ use Rattle.lt_join.specs.Holders.{IsWalkable, IsOpenedOf}
 use Rattle.lt_join.specs.Level.{IsAtomAt, AreAtomsAt, IsOpenedFrom, IsLevelAt}
 use Rattle.lt_join.specs.Walked.{at}
 use Rattle.lt_join.proofs.Deeper.{TrieOf-same, TrieOf-deeper}
+use Rattle.lt_join.proofs.KnownLists.{holds_same}
 use Rattle.lt_join.proofs.Steps.{at_push, length_push}
-use Rattle.lt_join.proofs.Usable.{holds_same}
 
 -- ---- one iterator
 

@@ -1,10 +1,11 @@
 -- The loop over the keys of a level: what it keeps, and what it leaves.
-use Rattle.std.specs.Prelude.{◌≡◌, ℕ, zero, suc, ◌+◌, ◌-◌, ◌^◌, ◌<◌, ◌≤◌, Bool, true, false, List, [], ◌∷◌, ◌++◌, length, nat_lt, slice_get, drop, Some}
+use Rattle.std.specs.Prelude.{◌≡◌, ℕ, zero, suc, ◌+◌, ◌-◌, ◌^◌, ◌<◌, ◌≤◌, ◌⊎◌, Bool, true, false, if◌then◌else◌, List, [], ◌∷◌, ◌++◌, length, nat_lt, slice_get, drop, Some}
 use Rattle.std.specs.List.{AllByRecursion}
 use Rattle.std.proofs.Common.{refl, sym, ap, ◌∙◌, subst, inl, inr, arith}
-use Rattle.std.proofs.lemmas.Bool.{and_parts, ltb-true, true≢false}
+use Rattle.std.proofs.lemmas.Bool.{and_parts, cases_Bool, ltb-true, true≢false}
 use Rattle.lt_face.specs.Lists.{IsIn}
 use Rattle.lt_face.specs.State.{Row, State}
+use Rattle.lt_leap.specs.Places.{ArePlaces}
 use Rattle.lt_leap.specs.Potential.{join_cost}
 use Rattle.lt_query.specs.declared.plans.Level.{Level}
 use Rattle.lt_query.specs.declared.plans.Plan.{Plan}
@@ -16,20 +17,24 @@ use Rattle.lt_model.specs.Cells.{is_cell}
 use Rattle.lt_query.specs.Answering.{AreTestsBound}
 use Rattle.lt_query.specs.Plan.{IsPlanOf}
 use Rattle.lt_query.specs.Holding.{atoms_at_level}
+use Rattle.lt_query.specs.Lists.{IsRising}
 use Rattle.lt_sense.specs.Kept.{Sense}
 use Rattle.lt_sense.specs.Sense.{IsTight}
 use Rattle.lt_join.specs.declared.Found.{Found}
 use Rattle.lt_join.specs.AtomIter.{AtomView}
 use Rattle.lt_join.specs.Cost.{cost_from, iterators_at}
 use Rattle.lt_join.specs.Certify.{Certifies, IsWitness}
-use Rattle.lt_join.specs.Explored.{Fits}
+use Rattle.lt_join.specs.Explored.{Fits, IsHopeless}
 use Rattle.lt_join.specs.Holders.{IsPrepared, IsUsable, atoms_at}
-use Rattle.lt_join.specs.Level.{HasGone, IsLevelAt, left_at}
-use Rattle.lt_join.specs.Walked.{at, AreFoundUnder, FoundGrows, Grows, IsExploredBelow, IsReached, IsRight}
-use Rattle.lt_join.specs.Way.{WayView, IsWay, HasWalked}
+use Rattle.lt_join.specs.Level.{AreOpened, HasGone, IsLevelAt, left_at}
+use Rattle.lt_join.specs.Walked.{at, AreFoundUnder, FoundGrows, Grows, IsReached, IsRight}
+pub use Rattle.lt_join.specs.Way.{HasExplored}
+use Rattle.lt_join.specs.Way.{WayView, IsWay, AreAllFound, EndsEarly, HasWalked}
 use Rattle.lt_join.proofs.Costs.{IsPaid, IsCredited, IsPaid-begun, IsPaid-more, IsCredited-begun, GainsFewer-below, credited_key, cost-all, cost-stopped, cost-opened}
+use Rattle.lt_join.proofs.LookingUp.{Grows-none, gains_none}
+use Rattle.lt_join.proofs.Opened.{level_places}
 use Rattle.lt_join.proofs.Prepared.{has_columns}
-use Rattle.lt_join.proofs.Steps.{IsUnderWay, IsUnderWay-begun, IsUnderWay-more, IsExploredBelow-all, IsReached-none, FoundGrows-chain, found_all, stays_false, under_more, witnesses_grow}
+use Rattle.lt_join.proofs.Steps.{IsUnderWay, IsUnderWay-begun, IsUnderWay-more, IsExploredBelow-all, IsReached-none, FoundGrows-chain, answers_found, at_push_below, explored_all, explored_hopeless, found_all, never_early, under_more, witnesses_grow}
 use Rattle.lt_join.proofs.Usable.{usable_at}
 
 -- a level below the keys of a plan
@@ -42,16 +47,6 @@ pub usable_level : (way : WayView) (sense : Sense) (keys : List ℕ) → IsWay w
 usable_level way sense keys is reached deeper =
     let f = level_there way.plan.levels (length keys) deeper in
     (f.0, f.1, usable_at way.body way.plan way.terms sense keys f.0 is.of_body is.prepared reached f.1 deeper)
-
--- what lies below a key of the level was walked
-pub record HasExplored {S : Type 0} (way : WayView) (keys : List ℕ) (key : ℕ) (old new : Found S) (began now : ℕ) : Type 0 where
-  pub grows : FoundGrows old new
-  pub right : IsRight way.body way.terms way.state new
-  pub under : AreFoundUnder way.terms way.body way.plan way.state (keys ++ key ∷ []) old new
-  pub explored : IsExploredBelow way.body way.plan way.terms new (keys ++ key ∷ [])
-  pub gaps : length new.sense.gaps + began ≤ length old.sense.gaps + now
-  pub hits : length new.sense.hits + began ≤ length old.sense.hits + now + length (atoms_at way.plan.guides (length keys))
-  pub unfound : way.first ≡ true → new.rows ≡ old.rows
 
 -- the key's hits are there, and nothing else is new
 pub record HasEntered {S : Type 0} (way : WayView) (keys : List ℕ) (old new : Found S) : Type 0 where
@@ -74,8 +69,8 @@ entered_right way keys old new e right = record {
 entered_under : {S : Type 0} → (way : WayView) (keys deeper : List ℕ) (old mid new : Found S) → HasEntered way keys old mid → AreFoundUnder way.terms way.body way.plan way.state deeper mid new → AreFoundUnder way.terms way.body way.plan way.state deeper old new
 entered_under way keys deeper old mid new e under row there = elim (under row there) [ inl before ↦ inl (subst (IsIn row) e.rows before) | inr fresh ↦ inr fresh ]
 
--- a walk that went through all below the key
-pub explored_key : {S : Type 0} → (way : WayView) (keys : List ℕ) (key : ℕ) (old mid new : Found S) (began now : ℕ) (stopped : Bool) → stopped ≡ false → HasEntered way keys old mid → HasWalked way (keys ++ key ∷ []) mid new began now stopped → HasExplored way keys key old new began now
+-- a walk that went through all below the key, or found all that is wanted there
+pub explored_key : {S : Type 0} → (way : WayView) (keys : List ℕ) (key : ℕ) (old mid new : Found S) (began now : ℕ) (stopped : Bool) → (way.first ≡ false) ⊎ (stopped ≡ false) → HasEntered way keys old mid → HasWalked way (keys ++ key ∷ []) mid new began now stopped → HasExplored way keys key old new began now
 explored_key way keys key old mid new began now stopped goes e w = record {
   grows = FoundGrows-chain old mid new (entered_grows way keys old mid e) w.grows;
   right = w.right;
@@ -86,11 +81,42 @@ explored_key way keys key old mid new began now stopped goes e w = record {
   unfound = λ first. w.unfound first ∙ e.rows;
 }
 
+-- a walk below a key that doesn't end the level's
+pub goes_below : (way : WayView) (depth : ℕ) (stopped : Bool) → IsWay way → (stopped ≡ false) ⊎ (depth < way.wanted) → (way.first ≡ false) ⊎ (stopped ≡ false)
+goes_below way depth stopped is goes =
+    elim goes [
+      | inl through ↦ inr through
+      | inr above ↦ elim (cases_Bool way.first) [ inl first ↦ (let none = is.at_first first in absurd (omega (arith, none, above))) | inr each ↦ inl each ]
+    ]
+
+-- it stops at an answer, of which the first doesn't suffice
+pub ends_early : (way : WayView) → way.first ≡ false → (way.first ≡ true) ⊎ EndsEarly way → EndsEarly way
+ends_early way each asked = elim asked [ inl first ↦ absurd (true≢false (sym first ∙ each)) | inr early ↦ early ]
+
+-- what was found below a key is all that is wanted below the keys
+pub found_above : (way : WayView) (keys : List ℕ) (key : ℕ) (rows : List Row) → way.wanted ≤ length keys → AreAllFound way rows way.wanted (at (keys ++ key ∷ [])) → AreAllFound way rows way.wanted (at keys)
+found_above way keys key rows within all a agree = all a (λ m lt. at_push_below keys key m (omega (arith, lt, within)) ∙ agree m lt)
+
+-- nothing holds below the keys
+pub walked_hopeless : {S : Type 0} → (way : WayView) (found : Found S) (keys : List ℕ) (now : ℕ) → length keys < length way.plan.levels → IsRight way.body way.terms way.state found → IsHopeless way.body way.plan.levels (length keys) (at keys) → HasWalked way keys found found now now false
+walked_hopeless way found keys now deeper right hopeless = record {
+  gains = gains_none found.sense now;
+  grows = record { sense = Grows-none found.sense; rows = λ row there. there };
+  right = right;
+  under = λ row there. inl there;
+  explored = λ _. explored_hopeless way found keys deeper hopeless;
+  met = λ e. absurd (true≢false (sym e));
+  asked = λ e. absurd (true≢false (sym e));
+  deep = λ e. absurd (true≢false (sym e));
+  all = λ e. absurd (true≢false (sym e));
+  unfound = λ first. refl;
+}
+
 -- the level stands at a key or at its end, and what lies below its keys before that was walked
 pub record IsGoing {S : Type 0} (way : WayView) (begun found : Found S) (keys : List ℕ) (above atoms : List AtomView) (from began now key turn : ℕ) : Type 0 where
   pub level : Level
   pub here : slice_get way.plan.levels (length keys) ≡ Some level
-  pub done : IsUnderWay way.body way.plan way.terms way.state begun keys level from found key
+  pub done : IsUnderWay way begun keys level from found key
   pub paid : IsPaid (length way.body.absents) way.plan way.state keys level began now (left_at level (atoms_at_level way.plan.guides (length keys)) atoms key turn) key
   pub credited : IsCredited (length (atoms_at way.plan.guides (length keys))) begun.sense found.sense began now key
   pub under : AreFoundUnder way.terms way.body way.plan way.state keys begun found
@@ -102,7 +128,7 @@ pub record IsGoing {S : Type 0} (way : WayView) (begun found : Found S) (keys : 
 
 -- the level was opened
 pub going_begun : {S : Type 0} → (way : WayView) (begun : Found S) (sense : Sense) (keys : List ℕ) (above atoms : List AtomView) (from began now key turn : ℕ) → length keys < length way.plan.levels → IsRight way.body way.terms way.state begun
-    → ((level : Level) → slice_get way.plan.levels (length keys) ≡ Some level → HasGone way.plan way.state begun.sense sense keys level (atoms_at_level way.plan.guides (length keys)) above atoms from (began + join_cost (iterators_at way.state way.plan.guides level (length keys) (at keys))) began now key turn)
+    → ((level : Level) → slice_get way.plan.levels (length keys) ≡ Some level → HasGone way.body way.plan way.state begun.sense sense keys level (atoms_at_level way.plan.guides (length keys)) above atoms from (began + join_cost (iterators_at way.state way.plan.guides level (length keys) (at keys))) began now key turn)
     → IsGoing way begun (record { sense = sense; rows = begun.rows }) keys above atoms from began now key turn
 going_begun way begun sense keys above atoms from began now key turn deeper right opened =
     let f = level_there way.plan.levels (length keys) deeper in
@@ -110,7 +136,7 @@ going_begun way begun sense keys above atoms from began now key turn deeper righ
     record {
       level = f.0;
       here = f.1;
-      done = IsUnderWay-begun way.body way.plan way.terms way.state begun keys f.0 from sense key right gone.stands;
+      done = IsUnderWay-begun way begun keys f.0 from sense key right gone.stands;
       paid = IsPaid-begun (length way.body.absents) way.plan way.state keys f.0 began now (left_at f.0 (atoms_at_level way.plan.guides (length keys)) atoms key turn) key gone.cost;
       credited = IsCredited-begun (length (atoms_at way.plan.guides (length keys))) begun.sense sense began now key gone.gains;
       under = λ row there. inl there;
@@ -126,7 +152,7 @@ pub going_more : {S : Type 0} → (way : WayView) (begun old new : Found S) (sen
     → IsGoing way begun old keys above atoms from began now key turn → key < 2 ^ 128 - 1 → HasExplored way keys key old new now after
     → after ≤ now + cost_from (length way.body.absents) way.state way.plan.guides (drop (length (keys ++ key ∷ [])) way.plan.levels) (length (keys ++ key ∷ [])) (at (keys ++ key ∷ []))
     → now ≤ after
-    → ((level : Level) → slice_get way.plan.levels (length keys) ≡ Some level → Fits level (at keys) key → HasGone way.plan way.state new.sense sense keys level (atoms_at_level way.plan.guides (length keys)) above next (key + 1) (after + left_at level (atoms_at_level way.plan.guides (length keys)) atoms key turn) after end key' turn')
+    → ((level : Level) → slice_get way.plan.levels (length keys) ≡ Some level → Fits level (at keys) key → HasGone way.body way.plan way.state new.sense sense keys level (atoms_at_level way.plan.guides (length keys)) above next (key + 1) (after + left_at level (atoms_at_level way.plan.guides (length keys)) atoms key turn) after end key' turn')
     → IsGoing way begun (record { sense = sense; rows = new.rows }) keys above next from began end key' turn'
 going_more way begun old new sense keys above atoms next from began now after end key turn key' turn' so at_key walked below waits went =
     let atoms_there = length (atoms_at way.plan.guides (length keys)) in
@@ -135,7 +161,7 @@ going_more way begun old new sense keys above atoms next from began now after en
     record {
       level = so.level;
       here = so.here;
-      done = IsUnderWay-more way.body way.plan way.terms way.state begun old old new keys so.level from key sense key' so.done none walked.grows walked.right walked.explored gone.stands;
+      done = IsUnderWay-more way begun old old new keys so.level from key sense key' so.done none walked.grows walked.right walked.explored gone.stands;
       paid = IsPaid-more (length way.body.absents) way.plan way.state keys keys so.level began now (left_at so.level (atoms_at_level way.plan.guides (length keys)) atoms key turn) key after end (left_at so.level (atoms_at_level way.plan.guides (length keys)) next key' turn') key' at_key (let a = gone.reaches in omega (arith, a)) so.paid below gone.cost;
       credited = credited_key atoms_there begun.sense old.sense new.sense sense began now after end key key' so.credited at_key walked.gaps walked.hits gone.gains;
       under = under_more way.terms way.body way.plan way.state keys (keys ++ key ∷ []) key begun old new refl so.under walked.under;
@@ -163,25 +189,30 @@ module _ {S : Type 0} (way : WayView) (begun found : Found S) (keys : List ℕ) 
     grows = so.done.grows;
     right = so.done.right;
     under = so.under;
-    explored = λ _. IsExploredBelow-all way.body way.plan way.terms way.state begun found keys so.level key
-        (subst (λ n. IsUnderWay way.body way.plan way.terms way.state begun keys so.level n found key) whole so.done) so.here end;
+    explored = λ _. IsExploredBelow-all way begun found keys so.level key (subst (λ n. IsUnderWay way begun keys so.level n found key) whole so.done) so.here end;
     met = λ e. absurd (true≢false (sym e));
     asked = λ e. absurd (true≢false (sym e));
+    deep = λ e. absurd (true≢false (sym e));
+    all = λ e. absurd (true≢false (sym e));
     unfound = so.unfound;
   }
 
-  -- or the walk stopped below one of its keys
-  pub walked_stopped : (mid new : Found S) (after : ℕ) (stopped : Bool) → stopped ≡ true → key < 2 ^ 128 - 1 → HasEntered way keys found mid → HasWalked way (keys ++ key ∷ []) mid new now after stopped → HasWalked way keys begun new began after true
-  walked_stopped mid new after stopped stops at_key e w = record {
-    gains = GainsFewer-below (length (atoms_at way.plan.guides (length keys))) begun.sense found.sense mid.sense new.sense began now after key so.credited at_key e.gaps e.few w.gains;
-    grows = FoundGrows-chain begun found new so.done.grows (FoundGrows-chain found mid new (entered_grows way keys found mid e) w.grows);
-    right = w.right;
-    under = under_more way.terms way.body way.plan way.state keys (keys ++ key ∷ []) key begun found new refl so.under (entered_under way keys (keys ++ key ∷ []) found mid new e w.under);
-    explored = λ f. absurd (true≢false f);
-    met = λ _. w.met stops;
-    asked = λ _. w.asked stops;
-    unfound = λ first. w.unfound first ∙ (e.rows ∙ so.unfound first);
-  }
+  -- or the walk stopped below one of its keys, and no other row lies below the level
+  pub walked_stopped : (mid new : Found S) (after : ℕ) (stopped : Bool) → length keys < length way.plan.levels → way.wanted ≤ length keys → stopped ≡ true → key < 2 ^ 128 - 1 → HasEntered way keys found mid → HasWalked way (keys ++ key ∷ []) mid new now after stopped → HasWalked way keys begun new began after true
+  walked_stopped mid new after stopped deeper within stops at_key e w =
+      let all : way.first ≡ false → AreAllFound way new.rows way.wanted (at keys) = λ each. found_above way keys key new.rows within (w.all stops each) in
+      record {
+        gains = GainsFewer-below (length (atoms_at way.plan.guides (length keys))) begun.sense found.sense mid.sense new.sense began now after key so.credited at_key e.gaps e.few w.gains;
+        grows = FoundGrows-chain begun found new so.done.grows (FoundGrows-chain found mid new (entered_grows way keys found mid e) w.grows);
+        right = w.right;
+        under = under_more way.terms way.body way.plan way.state keys (keys ++ key ∷ []) key begun found new refl so.under (entered_under way keys (keys ++ key ∷ []) found mid new e w.under);
+        explored = λ f. elim f [ inl each ↦ explored_all way new keys deeper within (ends_early way each (w.asked stops)) (all each) | inr goes ↦ absurd (true≢false goes) ];
+        met = λ _. w.met stops;
+        asked = λ _. w.asked stops;
+        deep = λ _. within;
+        all = λ _ each. all each;
+        unfound = λ first. w.unfound first ∙ (e.rows ∙ so.unfound first);
+      }
 
   -- the moves are within what the levels cost, also where memory is refused
   pub going_cost : now ≤ began + cost_from (length way.body.absents) way.state way.plan.guides (drop (length keys) way.plan.levels) (length keys) (at keys)
@@ -211,10 +242,15 @@ going_none way begun found keys above atoms from began now key turn no_sense no_
     (subst (λ (sense : Sense). IsGoing way (record { sense = sense; rows = begun.rows }) found keys above atoms from began now key turn) no_sense so)
 
 -- what a walk over all levels has found
-pub answered : {S : Type 0} → (way : WayView) (old new : Found S) (began now : ℕ) (stopped : Bool) → IsPlanOf way.body way.plan → AreTestsBound way.body → are_bound way.body way.terms ≡ true → way.first ≡ false → HasWalked way [] old new began now stopped
+pub answered_rows : {S : Type 0} → (way : WayView) (old new : Found S) (began now : ℕ) (stopped : Bool) → IsPlanOf way.body way.plan → AreTestsBound way.body → are_bound way.body way.terms ≡ true → way.first ≡ false → HasWalked way [] old new began now stopped
+    → ascending new.rows ≡ answers way.terms way.body way.state
+answered_rows way old new began now stopped of_body whole heads each walked = answers_found way new of_body whole heads walked.right (walked.explored (inl each))
+
+-- and, where all levels are wanted, what its sense certifies
+pub answered : {S : Type 0} → (way : WayView) (old new : Found S) (began now : ℕ) (stopped : Bool) → IsPlanOf way.body way.plan → AreTestsBound way.body → are_bound way.body way.terms ≡ true → way.first ≡ false → length way.plan.levels ≤ way.wanted → HasWalked way [] old new began now stopped
     → (ascending new.rows ≡ answers way.terms way.body way.state) × Certifies new.sense way.body way.state
-answered way old new began now stopped of_body whole heads all walked =
-    found_all way.body way.plan way.terms way.state new of_body whole heads walked.right (walked.explored (stays_false stopped (λ s. sym all ∙ walked.asked s)))
+answered way old new began now stopped of_body whole heads each late walked =
+    found_all way new (never_early way (inr late)) of_body whole heads walked.right (walked.explored (inl each))
 
 -- ---- the keys and iterators that came back
 
@@ -222,11 +258,11 @@ answered way old new began now stopped of_body whole heads all walked =
 abbrev pub GoesOn : WayView → Sense → Sense → List AtomView → ℕ → ℕ → ℕ → ℕ → ℕ → ℕ → List ℕ → List AtomView → Type 0
 GoesOn way s t next key turn after end key' turn' keys atoms =
     (level : Level) → slice_get way.plan.levels (length keys) ≡ Some level → (above : List AtomView) → IsLevelAt way.plan way.state keys (atoms_at_level way.plan.guides (length keys)) above atoms key turn → Fits level (at keys) key
-    → HasGone way.plan way.state s t keys level (atoms_at_level way.plan.guides (length keys)) above next (key + 1) (after + left_at level (atoms_at_level way.plan.guides (length keys)) atoms key turn) after end key' turn'
+    → HasGone way.body way.plan way.state s t keys level (atoms_at_level way.plan.guides (length keys)) above next (key + 1) (after + left_at level (atoms_at_level way.plan.guides (length keys)) atoms key turn) after end key' turn'
 
 pub goes_on : (way : WayView) (s t : Sense) (next : List AtomView) (key turn after end key' turn' : ℕ) (back keys : List ℕ) (stayed above atoms : List AtomView) → back ≡ keys → stayed ≡ atoms → GoesOn way s t next key turn after end key' turn' back stayed
     → IsLevelAt way.plan way.state keys (atoms_at_level way.plan.guides (length keys)) above atoms key turn → (level : Level) → slice_get way.plan.levels (length keys) ≡ Some level → Fits level (at keys) key
-    → HasGone way.plan way.state s t keys level (atoms_at_level way.plan.guides (length keys)) above next (key + 1) (after + left_at level (atoms_at_level way.plan.guides (length keys)) atoms key turn) after end key' turn'
+    → HasGone way.body way.plan way.state s t keys level (atoms_at_level way.plan.guides (length keys)) above next (key + 1) (after + left_at level (atoms_at_level way.plan.guides (length keys)) atoms key turn) after end key' turn'
 goes_on way s t next key turn after end key' turn' back keys stayed above atoms same stay went stands level here fits =
     let kept : GoesOn way s t next key turn after end key' turn' keys atoms =
     subst (λ (ats : List AtomView). GoesOn way s t next key turn after end key' turn' keys ats) stay
@@ -246,6 +282,20 @@ pub stands_still : (way : WayView) (key turn : ℕ) (back keys : List ℕ) (stay
 stands_still way key turn back keys stayed above atoms same stay h =
     subst (λ (ks : List ℕ). IsLevelAt way.plan way.state ks (atoms_at_level way.plan.guides (length ks)) above stayed key turn) (sym same)
     (subst (λ (ats : List AtomView). IsLevelAt way.plan way.state keys (atoms_at_level way.plan.guides (length keys)) above ats key turn) (sym stay) h)
+
+-- the level's iterators can be closed
+pub closing_places : (way : WayView) (inside : Plan) (keys places : List ℕ) (above atoms stayed : List AtomView) (key turn : ℕ) → inside ≡ way.plan → AllByRecursion (λ p. p < length inside.guides) places → IsRising places → stayed ≡ atoms
+    → IsLevelAt way.plan way.state keys (atoms_at_level way.plan.guides (length keys)) above atoms key turn → ArePlaces places (length stayed)
+closing_places way inside keys places above atoms stayed key turn same within up stay stands =
+    level_places inside way.plan way.state keys places (atoms_at_level way.plan.guides (length keys)) above stayed same stands.is_above within up
+    (subst (λ (ats : List AtomView). AreOpened (atoms_at_level way.plan.guides (length keys)) above ats) (sym stay) stands.opened)
+
+pub closing_opened : (way : WayView) (inside : Plan) (keys places : List ℕ) (above atoms stayed : List AtomView) (depth key turn : ℕ) → inside ≡ way.plan → places ≡ atoms_at_level inside.guides depth → depth ≡ length keys → stayed ≡ atoms
+    → IsLevelAt way.plan way.state keys (atoms_at_level way.plan.guides (length keys)) above atoms key turn → AreOpened places above stayed
+closing_opened way inside keys places above atoms stayed depth key turn same is deep stay stands =
+    let there : places ≡ atoms_at_level way.plan.guides (length keys) = is ∙ (ap (atoms_at_level inside.guides) deep ∙ ap (λ (p : Plan). atoms_at_level p.guides (length keys)) same) in
+    subst (λ (ps : List ℕ). AreOpened ps above stayed) (sym there)
+    (subst (λ (ats : List AtomView). AreOpened (atoms_at_level way.plan.guides (length keys)) above ats) (sym stay) stands.opened)
 
 -- a key that is a cell
 pub low_cell : (key : ℕ) → is_cell key ≡ true → key < 2 ^ 120
@@ -268,20 +318,26 @@ pub reached_none : (way : WayView) (sense : Sense) → IsWay way → IsReached w
 reached_none way sense is = IsReached-none way.plan sense (has_columns way.plan.guides is.prepared.runnable.widths)
 
 -- the same, by what the way is
-pub answered_by : {S : Type 0} → (way : WayView) (state : State) (body : Body) (plan : Plan) (terms : List Term) (old new : Found S) (began now : ℕ) (stopped : Bool) → way ≡ record { state = state; body = body; plan = plan; terms = terms; first = false }
+pub answered_by : {S : Type 0} → (way : WayView) (state : State) (body : Body) (plan : Plan) (terms : List Term) (old new : Found S) (began now : ℕ) (stopped : Bool) → way ≡ record { state = state; body = body; plan = plan; terms = terms; first = false; wanted = length plan.levels }
     → IsPlanOf body plan → AreTestsBound body → are_bound body terms ≡ true → HasWalked way [] old new began now stopped → (ascending new.rows ≡ answers terms body state) × Certifies new.sense body state
 answered_by way state body plan terms old new began now stopped is of_body whole heads walked =
-    let exact : WayView = record { state = state; body = body; plan = plan; terms = terms; first = false } in
-    answered exact old new began now stopped of_body whole heads refl (subst (λ (w : WayView). HasWalked w [] old new began now stopped) is walked)
+    let exact : WayView = record { state = state; body = body; plan = plan; terms = terms; first = false; wanted = length plan.levels } in
+    answered exact old new began now stopped of_body whole heads refl (omega arith) (subst (λ (w : WayView). HasWalked w [] old new began now stopped) is walked)
 
-pub is_way : (way : WayView) (state : State) (body : Body) (plan : Plan) (terms : List Term) (first : Bool) → way ≡ record { state = state; body = body; plan = plan; terms = terms; first = first } → IsPlanOf body plan → IsPrepared body plan terms → IsWay way
-is_way way state body plan terms first is of_body prepared = subst IsWay (sym is) (record { of_body = of_body; prepared = prepared })
+pub is_way : (way : WayView) (state : State) (body : Body) (plan : Plan) (terms : List Term) (first : Bool) → way ≡ record { state = state; body = body; plan = plan; terms = terms; first = first; wanted = if first then 0 else length plan.levels } → IsPlanOf body plan → IsPrepared body plan terms → IsWay way
+is_way way state body plan terms first is of_body prepared =
+    subst IsWay (sym is) (record {
+      of_body = of_body;
+      prepared = prepared;
+      at_first = λ e. ap (λ (b : Bool). if b then 0 else length plan.levels) e;
+      decided = λ early. (let all = ap (λ (b : Bool). if b then 0 else length plan.levels) early.0 in absurd (omega (arith, all, early.1)));
+    })
 
 -- where a level that was opened stands
 abbrev pub Opens : WayView → Sense → Sense → List AtomView → List AtomView → ℕ → ℕ → ℕ → ℕ → ℕ → List ℕ → Type 0
 Opens way s t above atoms from began now key turn keys =
     (level : Level) → slice_get way.plan.levels (length keys) ≡ Some level
-    → HasGone way.plan way.state s t keys level (atoms_at_level way.plan.guides (length keys)) above atoms from (began + join_cost (iterators_at way.state way.plan.guides level (length keys) (at keys))) began now key turn
+    → HasGone way.body way.plan way.state s t keys level (atoms_at_level way.plan.guides (length keys)) above atoms from (began + join_cost (iterators_at way.state way.plan.guides level (length keys) (at keys))) began now key turn
 
 pub opens_at_root : (way : WayView) (s t : Sense) (above atoms : List AtomView) (from began now key turn : ℕ) (keys : List ℕ) → keys ≡ [] → Opens way s t above atoms from began now key turn keys → Opens way s t above atoms from began now key turn []
 opens_at_root way s t above atoms from began now key turn keys same h = subst (λ (ks : List ℕ). Opens way s t above atoms from began now key turn ks) same h

@@ -33,7 +33,7 @@ pub record IsGathering (way : WayView) (root : Sense) (slices : List Slice) (abo
 
 -- the level was opened
 pub gathering_begun : (way : WayView) (none root : Sense) (slices : List Slice) (above atoms : List AtomView) (lo hi began now key turn : ℕ) → 0 < length way.plan.levels → none ≡ record { gaps = []; hits = [] } → slices ≡ []
-    → ((level : Level) → slice_get way.plan.levels 0 ≡ Some level → HasGone way.plan way.state none root [] level (atoms_at_level way.plan.guides 0) above atoms lo (began + join_cost (iterators_at way.state way.plan.guides level 0 (at []))) began now key turn)
+    → ((level : Level) → slice_get way.plan.levels 0 ≡ Some level → HasGone way.body way.plan way.state none root [] level (atoms_at_level way.plan.guides 0) above atoms lo (began + join_cost (iterators_at way.state way.plan.guides level 0 (at []))) began now key turn)
     → IsGathering way root slices above atoms lo hi began now key turn
 gathering_begun way none root slices above atoms lo hi began now key turn some empty no_slices opened =
     let f = level_there way.plan.levels 0 some in
@@ -54,7 +54,7 @@ pub gathering_more : (way : WayView) (root root' : Sense) (slices more : List Sl
     → more ≡ slices ++ slice ∷ [] → slice.key ≡ key → IsSliceOf way.terms way.body (term_at way.plan.levels 0) way.state slice
     → length slice.sense.gaps + now ≤ after → length slice.sense.hits + now ≤ after + length (atoms_at way.plan.guides 0)
     → after ≤ now + cost_from (length way.body.absents) way.state way.plan.guides (drop 1 way.plan.levels) 1 (at (key ∷ [])) → now ≤ after
-    → ((level : Level) → slice_get way.plan.levels 0 ≡ Some level → Fits level (at []) key → HasGone way.plan way.state root root' [] level (atoms_at_level way.plan.guides 0) above next (key + 1) (after + left_at level (atoms_at_level way.plan.guides 0) atoms key turn) after end key' turn')
+    → ((level : Level) → slice_get way.plan.levels 0 ≡ Some level → Fits level (at []) key → HasGone way.body way.plan way.state root root' [] level (atoms_at_level way.plan.guides 0) above next (key + 1) (after + left_at level (atoms_at_level way.plan.guides 0) atoms key turn) after end key' turn')
     → IsGathering way root' more above next lo hi began end key' turn'
 gathering_more way root root' slices more slice above atoms next lo hi began now after end key turn key' turn' so at_key low is of_key is_slice gaps hits below waits went =
     let gone = went so.level so.here (so.sliced.at_key at_key).1 in

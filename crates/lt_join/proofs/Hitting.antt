@@ -23,7 +23,6 @@ use Rattle.lt_join.specs.Holders.{IsWalkable, IsTrieOf, path_of}
 use Rattle.lt_join.proofs.Repair.{All_at}
 use Rattle.lt_join.proofs.Steps.{Grows-chain}
 use Rattle.lt_join.proofs.KnownLists.{All_more, all_guides, all_get, guide_is}
-use Rattle.lt_join.proofs.LookingUp.{Grows-none}
 
 -- ---- a full row
 
@@ -120,9 +119,6 @@ pub record AreHit (state : State) (keys : List ℕ) (old new : Sense) (guides : 
   pub hits : AllByRecursion (λ i. IsHitAbove new keys (guide_at guides i)) places
   pub gaps : new.gaps ≡ old.gaps
   pub few : length new.hits ≤ length old.hits + length places
-
-pub hit_none : (state : State) (keys : List ℕ) (guides : List Guide) (s : Sense) → IsTight s state → AreHit state keys s s guides []
-hit_none state keys guides s tight = record { grows = Grows-none s; tight = tight; hits = tt; gaps = refl; few = omega arith }
 
 hits_kept : (s t : Sense) (keys : List ℕ) → Grows s t → (guides : List Guide) (places : List ℕ) → AllByRecursion (λ i. IsHitAbove s keys (guide_at guides i)) places → AllByRecursion (λ i. IsHitAbove t keys (guide_at guides i)) places
 hits_kept s t keys grows guides [] h = tt

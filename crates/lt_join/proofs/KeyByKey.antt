@@ -40,7 +40,7 @@ pub record AreSliced (body : Body) (plan : Plan) (terms : List Term) (state : St
   pub rising : IsRising (slice_keys slices)
   pub below : AllByRecursion (λ k. k < key) (slice_keys slices)
   pub between : AllByRecursion (IsBetween lo hi) (slice_keys slices)
-  pub done : (k : ℕ) → is_cell k ≡ true → lo ≤ k → k < key → IsIn k (slice_keys slices) ⊎ IsSkipped plan root [] level k
+  pub done : (k : ℕ) → is_cell k ≡ true → lo ≤ k → k < key → IsIn k (slice_keys slices) ⊎ IsSkipped body plan root [] k
   pub common : AllByRecursion (λ k. IsIn k (common_keys (iterators_at state plan.guides level 0 (at [])))) (slice_keys slices)
   pub tight : IsTight root state
   pub gaps : AreRootGaps root
@@ -66,7 +66,7 @@ rooted_more old new so under =
       | inr new_one ↦ new_one.1 ∙ ap (map (at [])) (before_none (levels_of new_one.0))
     ])
 
-pub AreSliced-begun : (body : Body) (plan : Plan) (terms : List Term) (state : State) (level : Level) (lo hi : ℕ) (old root : Sense) (slices : List Slice) (key : ℕ) → slices ≡ [] → old ≡ record { gaps = []; hits = [] } → root.hits ≡ old.hits → AreUnder [] old root → StandsAt plan state old root [] level lo key → AreSliced body plan terms state level lo hi root slices key
+pub AreSliced-begun : (body : Body) (plan : Plan) (terms : List Term) (state : State) (level : Level) (lo hi : ℕ) (old root : Sense) (slices : List Slice) (key : ℕ) → slices ≡ [] → old ≡ record { gaps = []; hits = [] } → root.hits ≡ old.hits → AreUnder [] old root → StandsAt body plan state old root [] level lo key → AreSliced body plan terms state level lo hi root slices key
 AreSliced-begun body plan terms state level lo hi old root slices key none empty same under stands = rw none (record {
   each = tt;
   rising = tt;
@@ -81,7 +81,7 @@ AreSliced-begun body plan terms state level lo hi old root slices key none empty
 })
 
 -- one more slice, and the level went on
-pub AreSliced-more : (body : Body) (plan : Plan) (terms : List Term) (state : State) (level : Level) (lo hi : ℕ) (root root' : Sense) (slices more : List Slice) (slice : Slice) (key key' : ℕ) → more ≡ slices ++ slice ∷ [] → slice.key ≡ key → IsBetween lo hi key → IsSliceOf terms body (term_at plan.levels 0) state slice → key < key' → root'.hits ≡ root.hits → AreUnder [] root root' → StandsAt plan state root root' [] level (key + 1) key' → IsIn key (common_keys (iterators_at state plan.guides level 0 (at []))) → AreSliced body plan terms state level lo hi root slices key → AreSliced body plan terms state level lo hi root' more key'
+pub AreSliced-more : (body : Body) (plan : Plan) (terms : List Term) (state : State) (level : Level) (lo hi : ℕ) (root root' : Sense) (slices more : List Slice) (slice : Slice) (key key' : ℕ) → more ≡ slices ++ slice ∷ [] → slice.key ≡ key → IsBetween lo hi key → IsSliceOf terms body (term_at plan.levels 0) state slice → key < key' → root'.hits ≡ root.hits → AreUnder [] root root' → StandsAt body plan state root root' [] level (key + 1) key' → IsIn key (common_keys (iterators_at state plan.guides level 0 (at []))) → AreSliced body plan terms state level lo hi root slices key → AreSliced body plan terms state level lo hi root' more key'
 AreSliced-more body plan terms state level lo hi root root' slices more slice key key' is of_key within is_slice rises same under stands is_common so =
     let keys : slice_keys (slices ++ slice ∷ []) ≡ slice_keys slices ++ key ∷ [] = map-append (λ (s : Slice). s.key) slices (slice ∷ []) ∙ ap (λ k. slice_keys slices ++ k ∷ []) of_key in
     rw is (record {
@@ -95,7 +95,7 @@ AreSliced-more body plan terms state level lo hi root root' slices more slice ke
             | inr r ↦ elim r [
               | inl earlier ↦ elim (so.done k cell le earlier) [
                 | inl there ↦ inl (rw keys (IsIn-append_left k (slice_keys slices) (key ∷ []) there))
-                | inr skipped ↦ inr (IsSkipped-grows plan root root' stands.grows [] level k skipped)
+                | inr skipped ↦ inr (IsSkipped-grows body plan root root' stands.grows [] k skipped)
               ]
               | inr after ↦ inr (stands.skipped k cell (omega arith) lt)
             ]
@@ -114,19 +114,13 @@ slices_within body plan terms state level lo hi root slices key first ended so =
   between = so.between;
   each = so.each;
   found = λ other is. subst (λ (lv : Level). AllByRecursion (λ k. IsIn k (common_keys (iterators_at state plan.guides lv 0 (at [])))) (slice_keys slices)) (some_is level other (sym first ∙ is)) so.common;
-  rooted = λ other is k cell within. (
-      let below = within.1 in
-      subst (λ (lv : Level). IsIn k (slice_keys slices) ⊎ IsSkipped plan root [] lv k) (some_is level other (sym first ∙ is)) (so.done k cell within.0 (omega arith))
-      );
+  rooted = λ k cell within. (let below = within.1 in so.done k cell within.0 (omega arith));
   tight = so.tight;
   root_hits = so.hits;
   root_gaps = so.gaps;
 }
 
 -- ---- what is kept, counted
-
-pub none_united : (root : Sense) (slices : List Slice) → slices ≡ [] → united root slices ≡ record { gaps = root.gaps ++ []; hits = root.hits ++ [] }
-none_united root slices e = rw e refl
 
 pub credited_begun : (atoms : ℕ) (old root : Sense) (slices : List Slice) (begun now key : ℕ) → slices ≡ [] → old ≡ record { gaps = []; hits = [] } → LevelGains atoms old root begun now key → IsCredited atoms (record { gaps = []; hits = [] }) (united root slices) begun now key
 credited_begun atoms old root slices begun now key none empty level =

@@ -24,7 +24,7 @@ use Rattle.lt_join.specs.Walked.{at}
 use Rattle.lt_join.specs.Way.{WayView, IsWay}
 use Rattle.lt_join.proofs.Hitting.{AreHit, hit_more, hit_skip, places_above}
 use Rattle.lt_join.proofs.Known.{known_row}
-use Rattle.lt_join.proofs.KnownLists.{zip_at, zip_long, take_more, take_all, all_get, get_same, guide_is, walkable_each, places_count}
+use Rattle.lt_join.proofs.KnownLists.{zip_at, zip_long, take_more, take_all, all_get, get_same, guide_is, walkable_all, places_count}
 
 module _ (way : WayView) (is_way : IsWay way) (keys : List ℕ) (iters : List AtomView) (items : List ℕ) (are_at : AreAtomsAt way.plan way.state keys iters) (items_are : items ≡ atoms_at_level way.plan.guides (length keys - 1)) where
   place_of_atom : (j : ℕ) → j < length items → get_or items j 0 < length way.plan.guides
@@ -41,7 +41,7 @@ module _ (way : WayView) (is_way : IsWay way) (keys : List ℕ) (iters : List At
   hits_few j le old new so =
       let n = ap (λ (xs : List ℕ). length xs) items_are in
       let all = ap (λ (xs : List ℕ). length xs) (take_all (atoms_at_level way.plan.guides (length keys - 1)) j (omega (arith, le, n))) in
-      let count = places_count way.plan.guides (length keys - 1) (walkable_each way.plan.levels way.body.atoms way.plan.guides is_way.of_body.guides) in
+      let count = places_count way.plan.guides (length keys - 1) (walkable_all way.body way.plan is_way.of_body) in
       omega (arith, so.few, all, count)
 
   pub hits_whole : (j : ℕ) → length items ≤ j → (old new : Sense) → AreHit way.state keys old new way.plan.guides (take j (atoms_at_level way.plan.guides (length keys - 1))) → AreHit way.state keys old new way.plan.guides (atoms_at_level way.plan.guides (length keys - 1))
@@ -56,7 +56,7 @@ module _ (way : WayView) (is_way : IsWay way) (keys : List ℕ) (iters : List At
 
     walks : IsWalkable (guide_at way.plan.guides (get_or items j 0))
     walks =
-        all_get IsWalkable way.plan.guides (get_or items j 0) (guide_at way.plan.guides (get_or items j 0)) (walkable_each way.plan.levels way.body.atoms way.plan.guides is_way.of_body.guides) (place_of_atom j lt) (guide_is way.plan.guides (get_or items j 0) (place_of_atom j lt))
+        all_get IsWalkable way.plan.guides (get_or items j 0) (guide_at way.plan.guides (get_or items j 0)) (walkable_all way.body way.plan is_way.of_body) (place_of_atom j lt) (guide_is way.plan.guides (get_or items j 0) (place_of_atom j lt))
 
     wide : IsWidth (length (guide_at way.plan.guides (get_or items j 0)).places)
     wide =

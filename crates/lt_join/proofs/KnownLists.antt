@@ -8,10 +8,12 @@ use Rattle.lt_face.specs.Lists.{IsIn}
 use Rattle.lt_face.specs.State.{permuted}
 use Rattle.lt_leap.specs.Common.{has_key}
 use Rattle.lt_model.specs.declared.normal.Atom.{Atom}
+use Rattle.lt_model.specs.declared.normal.Body.{Body}
 use Rattle.lt_query.specs.declared.plans.Guide.{Guide}
 use Rattle.lt_query.specs.declared.plans.Level.{Level}
+use Rattle.lt_query.specs.declared.plans.Plan.{Plan}
 use Rattle.lt_query.specs.Holding.{holds_level, guide_at, atoms_at_level}
-use Rattle.lt_query.specs.Plan.{levels_of, IsGuideOf}
+use Rattle.lt_query.specs.Plan.{levels_of, IsGuideOf, IsPlanOf}
 use Rattle.lt_query.proofs.LevelParts.{guides_there}
 use Rattle.lt_join.specs.Holders.{IsWalkable, atoms_at}
 
@@ -76,11 +78,14 @@ pub all_guides : (P : Guide → Type 0) (guides : List Guide) → ((i : ℕ) →
 all_guides P [] f = tt
 all_guides P (g ∷ guides) f = (f 0 (omega arith), all_guides P guides (λ i lt. f (suc i) (omega (arith, lt))))
 
-pub walkable_each : (levels : List Level) (atoms : List Atom) (guides : List Guide) → AllZip (IsGuideOf levels) atoms guides → AllByRecursion IsWalkable guides
+walkable_each : (levels : List Level) (atoms : List Atom) (guides : List Guide) → AllZip (IsGuideOf levels) atoms guides → AllByRecursion IsWalkable guides
 walkable_each levels [] [] h = tt
 walkable_each levels [] (guide ∷ guides) h = absurd h
 walkable_each levels (atom ∷ atoms) [] h = absurd h
 walkable_each levels (atom ∷ atoms) (guide ∷ guides) h = (record { columns = h.0.columns; each = h.0.each; as_long = h.0.as_long; rising = h.0.rising }, walkable_each levels atoms guides h.1)
+
+pub walkable_all : (body : Body) (plan : Plan) → IsPlanOf body plan → AllByRecursion IsWalkable plan.guides
+walkable_all body plan of_body = walkable_each plan.levels body.atoms plan.guides of_body.guides
 
 -- ---- which atoms hold a level
 

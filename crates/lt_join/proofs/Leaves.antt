@@ -26,7 +26,7 @@ use Rattle.lt_query.specs.declared.plans.Level.{Level}
 use Rattle.lt_query.specs.declared.plans.Guide.{Guide}
 use Rattle.lt_query.specs.declared.plans.Plan.{Plan}
 use Rattle.lt_query.specs.Plan.{Keys, term_at, keys_under, IsGuideOf, IsLevelOf, IsDetermined, AreLevelsFrom, IsPlanOf}
-use Rattle.lt_join.specs.Explored.{Fits, FitFrom, Explored, hit_of, AreHits}
+use Rattle.lt_join.specs.Explored.{AgreeBelow, Fits, FitFrom, IsHopeless, Explored, hit_of, AreHits}
 use Rattle.lt_query.proofs.Standing.{is_var-true, is_var_itself}
 use Rattle.lt_query.proofs.Given.{Agrees, given_all, cells_same, holds_same, IsIn-answers_of, IsAnswer-from_answers}
 use Rattle.lt_join.proofs.Repair.{All_at, not_missed, not_met, IsAscending-answers, Stands-from_met, Lacks-from_missed, hit_row_covered}
@@ -35,7 +35,8 @@ use Rattle.lt_model.specs.Answers.{ascending}
 use Rattle.lt_join.specs.declared.Found.{Found}
 use Rattle.lt_join.specs.Walked.{value_from, leaf_assignment, IsCollected, IsSettled}
 use Rattle.lt_join.proofs.Looked.{gaps_missed, hits_met, gaps_same, hits_same}
-use Rattle.lt_join.proofs.Walks.{AgreeBelow, followed, all_met}
+use Rattle.lt_join.specs.Way.{WayView, AreAllFound, IsLeftOut}
+use Rattle.lt_join.proofs.Walks.{followed, all_met}
 
 pub IsAnswer-from_witness : (sense : Sense) (terms : List Term) (body : Body) (state : State) (row : Row) → IsWitness sense terms body state row → IsAnswer terms body state row
 IsAnswer-from_witness sense terms body state row w = (w.0, w.1, Stands-from_met sense state w.0 body.atoms w.2, w.3, Lacks-from_missed sense state w.0 body.absents w.4)
@@ -221,55 +222,63 @@ module _ (body : Body) (plan : Plan) (of_body : IsPlanOf body plan) where
   IsWitness-at_leaf terms state sense tight keys fit hits held gapped =
       (leaf_assignment body plan.levels keys, held, met_at keys state sense tight fit body.atoms plan.guides of_body.guides hits, refl, gaps_missed sense state tight (leaf_assignment body plan.levels keys) body.absents gapped)
 
-  -- each answer of an assignment with the keys above these levels was collected
-  pub collected_below : {S : Type 0} → (terms : List Term) (state : State) (found : Found S) (levels : List Level) (l : ℕ) (keys : Keys) → AreTestsBound body → are_bound body terms ≡ true → IsTight found.sense state → Explored found.sense plan.guides (IsCollected body plan terms found) levels l keys → AreLevelsFrom body plan.levels l levels → l + length levels ≡ length plan.levels
-      → (a : Assignment) → holds a body ≡ true → Stands a body.atoms state → Lacks a body.absents state → AgreeBelow l keys (keys_under a plan.levels) → IsIn (cells_of a terms) found.rows
-  collected_below terms state found levels l keys whole heads tight explored are e a holds_body stands none agree =
-      elim (followed body plan found.sense state tight a holds_body of_body (IsCollected body plan terms found) levels l keys explored are agree e) [
-        | inl missed ↦ absurd (not_missed found.sense state a body.atoms stands missed)
-        | inr leaf ↦
-            let tests : list_all (passes a) body.tests ≡ true = (and_parts (list_all (λ row. list_all is_cell row) (rows_under a body.atoms)) (list_all (passes a) body.tests) holds_body).1 in
-            let same : (v : ℕ) → is_bound body v ≡ true → leaf_assignment body plan.levels leaf.0 v ≡ a v = leaf_same a leaf.0 tests leaf.2 in
-            let held : holds (leaf_assignment body plan.levels leaf.0) body ≡ true = holds_same body a (leaf_assignment body plan.levels leaf.0) whole same ∙ holds_body in
-            elim (leaf.1.answer held) [
-              | inl there ↦ subst (λ r. IsIn r found.rows) (cells_same (is_bound body) a (leaf_assignment body plan.levels leaf.0) same terms heads) there.0
-              | inr hit ↦ absurd (not_met found.sense state a body.absents none (hits_met found.sense state tight a body.absents (hits_same found.sense (is_bound body) a (leaf_assignment body plan.levels leaf.0) same body.absents whole.1 hit)))
-            ]
-      ]
-
   -- a walk over the levels below some keys certifies the assignments with these keys
-  pub certified_below : (sense : Sense) (state : State) (levels : List Level) (l : ℕ) (keys : Keys) → AreTestsBound body → IsTight sense state → Explored sense plan.guides (IsSettled body plan sense) levels l keys → AreLevelsFrom body plan.levels l levels → l + length levels ≡ length plan.levels
+  pub certified_below : (sense : Sense) (state : State) (levels : List Level) (l : ℕ) (keys : Keys) → AreTestsBound body → IsTight sense state → Explored sense plan.guides (IsHopeless body plan.levels) (IsSettled body plan sense) levels l keys → l + length levels ≡ length plan.levels
       → (a : Assignment) → holds a body ≡ true → AgreeBelow l keys (keys_under a plan.levels)
       → (AllByRecursion (IsMet sense state a) body.atoms × AllByRecursion (IsMissed sense state a) body.absents) ⊎ (AnyByRecursion (IsMissed sense state a) body.atoms ⊎ AnyByRecursion (IsMet sense state a) body.absents)
-  certified_below sense state levels l keys whole tight explored are e a holds_body agree =
-      elim (followed body plan sense state tight a holds_body of_body (IsSettled body plan sense) levels l keys explored are agree e) [
+  certified_below sense state levels l keys whole tight explored e a holds_body agree =
+      elim (followed body plan sense state tight a holds_body of_body (IsHopeless body plan.levels) (IsSettled body plan sense) levels l keys explored agree e) [
         | inl missed ↦ inr (inl missed)
-        | inr leaf ↦
-            let tests : list_all (passes a) body.tests ≡ true = (and_parts (list_all (λ row. list_all is_cell row) (rows_under a body.atoms)) (list_all (passes a) body.tests) holds_body).1 in
-            let same : (v : ℕ) → is_bound body v ≡ true → leaf_assignment body plan.levels leaf.0 v ≡ a v = leaf_same a leaf.0 tests leaf.2 in
-            let held : holds (leaf_assignment body plan.levels leaf.0) body ≡ true = holds_same body a (leaf_assignment body plan.levels leaf.0) whole same ∙ holds_body in
-            elim (leaf.1.looked held) [
-              | inl gapped ↦ inl (
-                all_met body plan sense state tight a holds_body leaf.0 leaf.2 body.atoms plan.guides of_body.guides leaf.1.hits,
-                gaps_missed sense state tight a body.absents (gaps_same sense (is_bound body) a (leaf_assignment body plan.levels leaf.0) same body.absents whole.1 gapped),
-              )
-              | inr hit ↦ inr (inr (hits_met sense state tight a body.absents (hits_same sense (is_bound body) a (leaf_assignment body plan.levels leaf.0) same body.absents whole.1 hit)))
-            ]
+        | inr went ↦ elim went [
+          | inl out ↦ absurd (out.2 a out.3 holds_body)
+          | inr leaf ↦
+              let tests : list_all (passes a) body.tests ≡ true = (and_parts (list_all (λ row. list_all is_cell row) (rows_under a body.atoms)) (list_all (passes a) body.tests) holds_body).1 in
+              let same : (v : ℕ) → is_bound body v ≡ true → leaf_assignment body plan.levels leaf.0 v ≡ a v = leaf_same a leaf.0 tests leaf.2 in
+              let held : holds (leaf_assignment body plan.levels leaf.0) body ≡ true = holds_same body a (leaf_assignment body plan.levels leaf.0) whole same ∙ holds_body in
+              elim (leaf.1.looked held) [
+                | inl gapped ↦ inl (
+                  all_met body plan sense state tight a holds_body leaf.0 leaf.2 body.atoms plan.guides of_body.guides leaf.1.hits,
+                  gaps_missed sense state tight a body.absents (gaps_same sense (is_bound body) a (leaf_assignment body plan.levels leaf.0) same body.absents whole.1 gapped),
+                )
+                | inr hit ↦ inr (inr (hits_met sense state tight a body.absents (hits_same sense (is_bound body) a (leaf_assignment body plan.levels leaf.0) same body.absents whole.1 hit)))
+              ]
+        ]
       ]
 
   -- a walk over all levels certifies the body
-  pub Certifies-from_explored : (sense : Sense) (state : State) (keys : Keys) → AreTestsBound body → IsTight sense state → Explored sense plan.guides (IsSettled body plan sense) plan.levels 0 keys → Certifies sense body state
+  pub Certifies-from_explored : (sense : Sense) (state : State) (keys : Keys) → AreTestsBound body → IsTight sense state → Explored sense plan.guides (IsHopeless body plan.levels) (IsSettled body plan sense) plan.levels 0 keys → Certifies sense body state
   Certifies-from_explored sense state keys whole tight explored a held =
-      certified_below sense state plan.levels 0 keys whole tight explored of_body.levels (omega arith) a held (λ m lt. absurd (omega arith))
+      certified_below sense state plan.levels 0 keys whole tight explored (omega arith) a held (λ m lt. absurd (omega arith))
 
-  -- each answer was collected
-  pub collected : {S : Type 0} → (terms : List Term) (state : State) (found : Found S) (keys : Keys) → AreTestsBound body → are_bound body terms ≡ true → IsTight found.sense state → Explored found.sense plan.guides (IsCollected body plan terms found) plan.levels 0 keys → (row : Row) → IsAnswer terms body state row → IsIn row found.rows
-  collected terms state found keys whole heads tight explored row answer =
-      subst (λ r. IsIn r found.rows) answer.3 (collected_below terms state found plan.levels 0 keys whole heads tight explored of_body.levels (omega arith) answer.0 answer.1 answer.2 answer.4 (λ m lt. absurd (omega arith)))
+-- ---- what was collected
 
-  -- what was collected, sorted and without repeats, is the answers
-  pub answers_are : {S : Type 0} → (terms : List Term) (state : State) (found : Found S) (keys : Keys) → AreTestsBound body → are_bound body terms ≡ true → IsTight found.sense state → Explored found.sense plan.guides (IsCollected body plan terms found) plan.levels 0 keys → ((row : Row) → IsIn row found.rows → IsAnswer terms body state row) → ascending found.rows ≡ answers terms body state
-  answers_are terms state found keys whole heads tight explored right =
-      ascending_same (ascending found.rows) (answers terms body state) (IsAscending-ascending found.rows) (IsAscending-answers terms body state)
-      (λ r h. IsIn-answers_of terms body state r whole heads (right r (IsIn-ascending_from r found.rows h)))
-      (λ r h. IsIn-ascending r found.rows (collected terms state found keys whole heads tight explored r (IsAnswer-from_answers terms body state r h)))
+module _ {S : Type 0} (way : WayView) (of_body : IsPlanOf way.body way.plan) (found : Found S) (whole : AreTestsBound way.body) (heads : are_bound way.body way.terms ≡ true) (tight : IsTight found.sense way.state) where
+  -- the row of each answer with the keys above these levels
+  pub collected_below : (levels : List Level) (l : ℕ) (keys : Keys) → Explored found.sense way.plan.guides (IsLeftOut way found) (IsCollected way.body way.plan way.terms found) levels l keys → l + length levels ≡ length way.plan.levels → AreAllFound way found.rows l keys
+  collected_below levels l keys explored e a agree held stands none =
+      elim (followed way.body way.plan found.sense way.state tight a held of_body (IsLeftOut way found) (IsCollected way.body way.plan way.terms found) levels l keys explored agree e) [
+        | inl missed ↦ absurd (not_missed found.sense way.state a way.body.atoms stands missed)
+        | inr went ↦ elim went [
+          | inl out ↦ elim out.2 [ inl hopeless ↦ absurd (hopeless a out.3 held) | inr early ↦ early.1 a out.3 held stands none ]
+          | inr leaf ↦
+              let tests : list_all (passes a) way.body.tests ≡ true = (and_parts (list_all (λ row. list_all is_cell row) (rows_under a way.body.atoms)) (list_all (passes a) way.body.tests) held).1 in
+              let same : (v : ℕ) → is_bound way.body v ≡ true → leaf_assignment way.body way.plan.levels leaf.0 v ≡ a v = leaf_same way.body way.plan of_body a leaf.0 tests leaf.2 in
+              let leaf_held : holds (leaf_assignment way.body way.plan.levels leaf.0) way.body ≡ true = holds_same way.body a (leaf_assignment way.body way.plan.levels leaf.0) whole same ∙ held in
+              elim (leaf.1.answer leaf_held) [
+                | inl there ↦ subst (λ r. IsIn r found.rows) (cells_same (is_bound way.body) a (leaf_assignment way.body way.plan.levels leaf.0) same way.terms heads) there.0
+                | inr hit ↦ absurd (not_met found.sense way.state a way.body.absents none (hits_met found.sense way.state tight a way.body.absents (hits_same found.sense (is_bound way.body) a (leaf_assignment way.body way.plan.levels leaf.0) same way.body.absents whole.1 hit)))
+              ]
+        ]
+      ]
+
+  -- the row of each answer
+  pub collected : (keys : Keys) → Explored found.sense way.plan.guides (IsLeftOut way found) (IsCollected way.body way.plan way.terms found) way.plan.levels 0 keys → (row : Row) → IsAnswer way.terms way.body way.state row → IsIn row found.rows
+  collected keys explored row answer =
+      subst (λ r. IsIn r found.rows) answer.3 (collected_below way.plan.levels 0 keys explored (omega arith) answer.0 (λ m lt. absurd (omega arith)) answer.1 answer.2 answer.4)
+
+  -- sorted and without repeats it is the answers
+  pub answers_are : (keys : Keys) → Explored found.sense way.plan.guides (IsLeftOut way found) (IsCollected way.body way.plan way.terms found) way.plan.levels 0 keys → ((row : Row) → IsIn row found.rows → IsAnswer way.terms way.body way.state row) → ascending found.rows ≡ answers way.terms way.body way.state
+  answers_are keys explored right =
+      ascending_same (ascending found.rows) (answers way.terms way.body way.state) (IsAscending-ascending found.rows) (IsAscending-answers way.terms way.body way.state)
+      (λ r h. IsIn-answers_of way.terms way.body way.state r whole heads (right r (IsIn-ascending_from r found.rows h)))
+      (λ r h. IsIn-ascending r found.rows (collected keys explored r (IsAnswer-from_answers way.terms way.body way.state r h)))

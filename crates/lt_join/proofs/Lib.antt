@@ -6,6 +6,8 @@ pub mod Repair
 mod Samples
 pub mod Steps
 pub mod Truth
+pub mod Answered
+pub mod Hopeless
 pub mod Walks
 pub mod Under
 pub mod LevelLists
@@ -55,3 +57,6 @@ pub mod Going
 pub mod Lists
 pub mod GoingByKey
 pub mod MetCalls
+pub mod Bounding
+pub mod Deciding
+pub mod LastRow

@@ -27,13 +27,14 @@ use Rattle.lt_join.specs.Holders.{IsPrepared}
 use Rattle.lt_join.specs.MendedPlan.{pinned_plan, MayPin, IsForbidden, first_admits, slice_cost, mending_cost}
 use Rattle.lt_join.specs.Sliced.{pinned, slice_keys, IsSliceOf}
 use Rattle.lt_join.proofs.Lists.{take_more}
+use Rattle.lt_join.proofs.Hopeless.{pins_fit}
 use Rattle.lt_join.proofs.Pinned.{holds_pinned}
 use Rattle.lt_join.proofs.PinnedPlan.{IsRunnable-pinned, variables_pinned}
 use Rattle.lt_join.proofs.Prepared.{IsPrepared-from}
 use Rattle.lt_join.proofs.Repair.{All_at}
 use Rattle.lt_join.proofs.SliceLaws.{first_is}
 use Rattle.lt_join.proofs.Steps.{slice_get_below}
-use Rattle.lt_join.proofs.Walks.{pins_fit, key_is_cell}
+use Rattle.lt_join.proofs.Walks.{key_is_cell}
 
 -- ---- the first level
 
@@ -71,7 +72,7 @@ none_at key body plan level of_body e other a held =
     let cell : cell_of a level.term ≡ key = ap (cell_of a) (term_first plan.levels level e) ∙ both.1 in
     elim other [
       | inl never ↦ true≢false (sym (subst (λ k. is_cell k ≡ true) both.1 (key_is_cell body plan nothing [] free a both.0 0 at.0 at.2 body.atoms plan.guides of_body.guides cells at.1)) ∙ never)
-      | inr pin ↦ all_any (λ pin. pin ≡ key) level.pins (pins_fit body plan nothing [] free a both.0 level.term level.pins key cell (level_first body plan level of_body e).pins) pin
+      | inr pin ↦ all_any (λ pin. pin ≡ key) level.pins (pins_fit body a both.0 level.term level.pins key cell (level_first body plan level of_body e).pins) pin
     ]
 
 no_rows : (rows : List Row) → ((row : Row) → IsIn row rows → ⊥) → [] ≡ rows

@@ -144,9 +144,9 @@ passed_cut keys root l above k (guide ∷ guides) h =
       | inr r ↦ elim (passed_cut keys root l above k guides r) [ inl key ↦ inl key | inr q ↦ inr (inr q) ]
     ]
 
-rooted_cut : (keys : List ℕ) (plan : Plan) (root : Sense) (old new : List Slice) → AreMended keys old new → AreRooted plan root (slice_keys old) → AreRooted plan (cut keys root) (slice_keys new)
-rooted_cut keys plan root old new mended rooted level is k cell =
-    elim (rooted level is k cell) [
+rooted_cut : (keys : List ℕ) (body : Body) (plan : Plan) (root : Sense) (old new : List Slice) → AreMended keys old new → AreRooted body plan root (slice_keys old) → AreRooted body plan (cut keys root) (slice_keys new)
+rooted_cut keys body plan root old new mended rooted k cell =
+    elim (rooted k cell) [
       | inl there ↦
           let s = IsIn-map_from (λ (slice : Slice). slice.key) k old there in
           elim (mended.kept s.0 s.1) [
@@ -155,7 +155,7 @@ rooted_cut keys plan root old new mended rooted level is k cell =
           ]
       | inr skipped ↦ elim skipped [
         | inl passed ↦ elim (passed_cut keys root 0 _ k plan.guides passed) [ inl key ↦ inl (mended.has k key) | inr p ↦ inr (inl p) ]
-        | inr unfit ↦ inr (inr unfit)
+        | inr hopeless ↦ inr (inr hopeless)
       ]
     ]
 
@@ -205,7 +205,7 @@ mended_are_slices keys terms body plan s t root old new were touched mended risi
               (All_at (IsSliceOf terms body (term_at plan.levels 0) s) old slice were.each stays)
         ]
       ]);
-  rooted = rooted_cut keys plan root old new mended were.rooted;
+  rooted = rooted_cut keys body plan root old new mended were.rooted;
   tight = tight_cut keys root old s t touched were.tight;
   root_hits = refl;
   root_gaps = root_gaps_cut keys root were.root_gaps;

@@ -1,13 +1,13 @@
 -- The iterators of the atoms that hold a level, opened there: their keys are those that the count of moves speaks of.
-use Rattle.std.specs.Prelude.{◌≡◌, ℕ, zero, suc, ◌+◌, ◌*◌, ◌<◌, ◌≤◌, ◌^◌, Bool, true, false, ◌==◌, List, [], ◌∷◌, ◌++◌, map, filter, length, slice_get, slice_index, slice_index_or, Some, nat_lt}
+use Rattle.std.specs.Prelude.{◌≡◌, ℕ, zero, suc, ◌+◌, ◌*◌, ◌<◌, ◌≤◌, ◌^◌, Bool, true, false, List, [], ◌∷◌, ◌++◌, map, filter, length, slice_get, slice_index_or, Some, nat_lt}
 use Rattle.std.specs.List.{AllByRecursion, AllZip}
 use Rattle.std.proofs.Common.{refl, sym, ap, ◌∙◌, subst, inl, inr, cond, arith, append-nil}
 use Rattle.std.proofs.Math.Nat.{mul-add}
-use Rattle.std.proofs.lemmas.Bool.{eqb-true, eq-eqb, or_cases, or_left, or_right, and_from, lt-ltb, ltb-false}
+use Rattle.std.proofs.lemmas.Bool.{and_from, lt-ltb, ltb-false}
 use Rattle.lt_face.specs.Keys.{IsKeyList}
 use Rattle.lt_face.specs.Lists.{IsIn}
 use Rattle.lt_face.specs.Rows.{IsRow}
-use Rattle.lt_face.specs.State.{State, permuted}
+use Rattle.lt_face.specs.State.{State}
 use Rattle.lt_trie.specs.Under.{keys_under}
 use Rattle.lt_trie.proofs.Cells.{keys_rise, cell_of}
 use Rattle.lt_model.specs.Cells.{is_cell}
@@ -29,6 +29,7 @@ use Rattle.lt_join.specs.Explored.{Fits, prefix_at}
 use Rattle.lt_join.specs.Holders.{IsWalkable, atoms_at}
 use Rattle.lt_join.specs.Level.{IsAtomAt, AreAtomsAt, AreOpened, is_lone, lists_of}
 use Rattle.lt_join.specs.Walked.{at}
+use Rattle.lt_join.proofs.KnownLists.{holds_same}
 use Rattle.lt_join.proofs.LevelLists.{length_map, length_append, all_append, SameKeys, same_in_all, in_common, cost-least}
 use Rattle.lt_join.proofs.Opened.{zip_as_long, rising_places, opened_at, holder_at, holder_opened}
 use Rattle.lt_join.proofs.Repair.{All_at}
@@ -82,43 +83,6 @@ filter_same p q (x ∷ xs) h =
     ap (λ b. cond b (x ∷ filter p xs) (filter p xs)) (h x (inl refl)) ∙ ap (λ ys. cond (q x) (x ∷ ys) ys) rest
 
 -- ---- which atoms hold a level
-
-at_place : (places columns : List ℕ) (l : ℕ) → has_key (permuted columns places) l ≡ true → AllByRecursion (λ c. c < length places) columns → has_key places l ≡ true
-at_place places [] l h within = cc
-at_place places (c ∷ columns) l h within =
-    elim (or_cases (slice_index places c == l) (has_key (permuted columns places) l) h) [
-      | inl e ↦ subst (λ k. has_key places k ≡ true) (eqb-true (slice_index places c) l e) (has_at places c within.0)
-      | inr r ↦ at_place places columns l r within.1
-    ]
-  where
-    has_at : (xs : List ℕ) (i : ℕ) → i < length xs → has_key xs (slice_index xs i) ≡ true
-    has_at [] i lt = absurd (omega arith)
-    has_at (x ∷ xs) zero lt = or_left (x == x) (has_key xs x) (eq-eqb x x refl)
-    has_at (x ∷ xs) (suc i) lt = or_right (x == slice_index xs i) (has_key xs (slice_index xs i)) (has_at xs i (omega arith))
-
-place_of : (xs : List ℕ) (l : ℕ) → has_key xs l ≡ true → (i : ℕ) × (i < length xs) × (slice_index xs i ≡ l)
-place_of [] l h = cc
-place_of (x ∷ xs) l h =
-    elim (or_cases (x == l) (has_key xs l) h) [ inl e ↦ (0, omega arith, eqb-true x l e) | inr r ↦ (let p = place_of xs l r in (suc p.0, (let q = p.1 in omega arith), p.2)) ]
-
-column_at : (places columns : List ℕ) (i l : ℕ) → IsIn i columns → slice_index places i ≡ l → has_key (permuted columns places) l ≡ true
-column_at places [] i l h e = absurd h
-column_at places (c ∷ columns) i l h e =
-    elim h [
-      | inl s ↦ or_left (slice_index places c == l) (has_key (permuted columns places) l) (eq-eqb (slice_index places c) l (ap (slice_index places) s ∙ e))
-      | inr r ↦ or_right (slice_index places c == l) (has_key (permuted columns places) l) (column_at places columns i l r e)
-    ]
-
-same_bool : (x y : Bool) → (x ≡ true → y ≡ true) → (y ≡ true → x ≡ true) → x ≡ y
-same_bool true y f g = sym (f refl)
-same_bool false true f g = g refl
-same_bool false false f g = refl
-
--- a level is one of the places exactly where it is a level of the columns in their order
-pub holds_same : (guide : Guide) (l : ℕ) → IsWalkable guide → has_key (levels_of guide) l ≡ has_key guide.places l
-holds_same guide l walkable =
-    same_bool (has_key (levels_of guide) l) (has_key guide.places l) (λ h. at_place guide.places guide.columns l h walkable.columns)
-    (λ h. let p = place_of guide.places l h in column_at guide.places guide.columns p.0 l (walkable.each p.0 p.1) p.2)
 
 pub atoms_same : (guides : List Guide) (l : ℕ) → AllByRecursion IsWalkable guides → map (guide_at guides) (atoms_at_level guides l) ≡ atoms_at guides l
 atoms_same guides l walkable =

@@ -7,6 +7,7 @@ use Rattle.lt_face.specs.Keys.{end_key, least_from, IsPlace}
 use Rattle.lt_face.specs.Lists.{IsIn}
 use Rattle.lt_face.specs.State.{State}
 use Rattle.lt_face.proofs.KeyLemmas.{le_yes, le_no, least_above}
+use Rattle.lt_model.specs.declared.normal.Body.{Body}
 use Rattle.lt_model.specs.Cells.{is_cell}
 use Rattle.lt_query.specs.declared.plans.Level.{Level}
 use Rattle.lt_query.specs.declared.plans.Plan.{Plan}
@@ -24,7 +25,7 @@ use Rattle.lt_leap.proofs.Searched.{place_low}
 use Rattle.lt_leap.proofs.Shortest.{shortest_within}
 use Rattle.lt_join.specs.AtomIter.{AtomView, atom_keys, atom_here, atom_still}
 use Rattle.lt_join.specs.Cost.{iterators_at}
-use Rattle.lt_join.specs.Explored.{Fits}
+use Rattle.lt_join.specs.Explored.{Fits, IsHopeless, with_key}
 use Rattle.lt_join.specs.Holders.{IsWalkable, atoms_at}
 use Rattle.lt_join.specs.Level.{AreAtomsAt, AreOpened, IsOpenedFrom, AreSensed, RiseFrom, IsLevelAt, HasGone, is_lone, left_at, heres_of, lists_of}
 use Rattle.lt_join.specs.Told.{TakesGap}
@@ -34,7 +35,7 @@ use Rattle.lt_join.proofs.LevelLists.{length_map}
 use Rattle.lt_join.proofs.MetAtoms.{some_is, map_there, as_many, keyed, cell_there, common_there, cost_there, cost_twice}
 use Rattle.lt_join.proofs.MetLists.{each_is, rise_passes_none, last_rising, last_within, moves_begun}
 use Rattle.lt_join.proofs.MetSensed.{sensed_met}
-use Rattle.lt_join.proofs.Sensed.{AreSensed-none, AreSensed-chain}
+use Rattle.lt_join.proofs.Sensed.{grows_then, AreSensed-none, AreSensed-chain}
 
 -- ---- iterators that moved at a level stay opened there
 
@@ -119,9 +120,9 @@ begun_cost plan state keys walkable level free above atoms is_above are_opened s
     let fewer = cost_there plan state keys walkable above atoms is_above are_opened level free in
     omega arith
 
-all_below : (key : ℕ) (heres : List ℕ) → AllByRecursion (λ here. here ≡ key) heres → AllByRecursion (λ here. here < key + 1) heres
-all_below key [] h = tt
-all_below key (here ∷ heres) h = ((let e = h.0 in omega arith), all_below key heres h.1)
+all_below : (key to : ℕ) → key < to → (heres : List ℕ) → AllByRecursion (λ here. here ≡ key) heres → AllByRecursion (λ here. here < to) heres
+all_below key to lt [] h = tt
+all_below key to lt (here ∷ heres) h = ((let e = h.0 in omega arith), all_below key to lt heres h.1)
 
 -- the one whose turn it is stands at the key
 pub first_at : (plan : Plan) (state : State) (keys : List ℕ) (above atoms : List AtomView) (key turn : ℕ) → IsLevelAt plan state keys (atoms_at_level plan.guides (length keys)) above atoms key turn
@@ -132,9 +133,19 @@ first_at plan state keys above atoms key turn is =
     let t = is.has_turn in
     each_is (heres_of atoms places) key turn is.at_key (omega arith)
 
+-- ---- keys that are out
+
+-- nothing holds that has the key below these
+abbrev pub IsOut : Body → Plan → List ℕ → ℕ → Type 0
+IsOut body plan keys k = IsHopeless body plan.levels (length keys + 1) (with_key (at keys) (length keys) k)
+
+-- a key that doesn't fit the level's pins and ties is out
+abbrev pub AreUnfitOut : Body → Plan → List ℕ → Level → Type 0
+AreUnfitOut body plan keys level = (k : ℕ) → (Fits level (at keys) k → ⊥) → IsOut body plan keys k
+
 -- ---- a level that went on
 
-module _ (plan : Plan) (state : State) (keys : List ℕ) (walkable : AllByRecursion IsWalkable plan.guides) where
+module _ (body : Body) (plan : Plan) (state : State) (keys : List ℕ) (walkable : AllByRecursion IsWalkable plan.guides) where
   abbrev places : List ℕ
   places = atoms_at_level plan.guides (length keys)
 
@@ -143,8 +154,8 @@ module _ (plan : Plan) (state : State) (keys : List ℕ) (walkable : AllByRecurs
 
   -- to a key that fits
   pub gone_at : (level : Level) (old new : Sense) (above atoms : List AtomView) (from given begun now start stop key turn : ℕ) → AreSensed plan state keys old new start stop begun now
-      → ((k : ℕ) → from ≤ k → k < key → IsSkipped plan new keys level k) → IsLevelAt plan state keys places above atoms key turn → Fits level (at keys) key → from ≤ key
-      → now + left_at level places atoms key turn ≤ given → begun + length places ≤ now → HasGone plan state old new keys level places above atoms from given begun now key turn
+      → ((k : ℕ) → from ≤ k → k < key → IsSkipped body plan new keys k) → IsLevelAt plan state keys places above atoms key turn → Fits level (at keys) key → from ≤ key
+      → now + left_at level places atoms key turn ≤ given → begun + length places ≤ now → HasGone body plan state old new keys level places above atoms from given begun now key turn
   gone_at level old new above atoms from given begun now start stop key turn sensed skipped is fits reaches kept paid =
       let some : 0 < length places = let t = is.has_turn in omega arith in
       let goes = is.not_ended in
@@ -165,8 +176,8 @@ module _ (plan : Plan) (state : State) (keys : List ℕ) (walkable : AllByRecurs
 
   -- to its end
   pub gone_end : (level : Level) (old new : Sense) (above atoms : List AtomView) (from given begun now start stop key turn : ℕ) → AreSensed plan state keys old new start stop begun now
-      → ((k : ℕ) → is_cell k ≡ true → from ≤ k → k < key → IsSkipped plan new keys level k) → key ≡ end_key → atoms ≡ above → from ≤ end_key → now ≤ given
-      → HasGone plan state old new keys level places above atoms from given begun now key turn
+      → ((k : ℕ) → is_cell k ≡ true → from ≤ k → k < key → IsSkipped body plan new keys k) → key ≡ end_key → atoms ≡ above → from ≤ end_key → now ≤ given
+      → HasGone body plan state old new keys level places above atoms from given begun now key turn
   gone_end level old new above atoms from given begun now start stop key turn sensed skipped ended back reaches kept =
       record {
         stands = record { grows = sensed.grows; tight = sensed.tight; skipped = skipped; found = λ lt. absurd (omega arith) };
@@ -179,8 +190,57 @@ module _ (plan : Plan) (state : State) (keys : List ℕ) (walkable : AllByRecurs
       }
 
   -- what was passed is skipped
-  pub passed_skipped : (level : Level) (old new : Sense) (from stop begun now key : ℕ) → AreSensed plan state keys old new from stop begun now → key ≤ stop → (k : ℕ) → from ≤ k → k < key → IsSkipped plan new keys level k
-  passed_skipped level old new from stop begun now key sensed most k le lt = inl (sensed.passed k le (omega arith))
+  pub passed_skipped : (old new : Sense) (from stop begun now key : ℕ) → AreSensed plan state keys old new from stop begun now → key ≤ stop → (k : ℕ) → from ≤ k → k < key → IsSkipped body plan new keys k
+  passed_skipped old new from stop begun now key sensed most k le lt = inl (sensed.passed k le (omega arith))
+
+  -- or is out, from where they stopped on
+  pub passed_or_out : (old new : Sense) (from stop begun now : ℕ) → AreSensed plan state keys old new from stop begun now → ((k : ℕ) → stop ≤ k → IsOut body plan keys k) → (k : ℕ) → from ≤ k → IsSkipped body plan new keys k
+  passed_or_out old new from stop begun now sensed out k le = elim (cases_lt k stop) [ inl before ↦ inl (sensed.passed k le before) | inr behind ↦ inr (out k behind) ]
+
+  -- ---- from below, and one after another
+
+  -- from a lower bound, where what lies between is out
+  pub gone_from : (level : Level) (old new : Sense) (above atoms : List AtomView) (from begin given begun now key turn : ℕ) → from ≤ begin → ((k : ℕ) → from ≤ k → k < begin → IsOut body plan keys k)
+      → HasGone body plan state old new keys level places above atoms begin given begun now key turn → HasGone body plan state old new keys level places above atoms from given begun now key turn
+  gone_from level old new above atoms from begin given begun now key turn le out h = record {
+    stands = record {
+      grows = h.stands.grows;
+      tight = h.stands.tight;
+      skipped = λ k cell up less. elim (cases_lt k begin) [ inl before ↦ inr (out k up before) | inr behind ↦ h.stands.skipped k cell behind less ];
+      found = h.stands.found;
+    };
+    cost = h.cost;
+    gains = h.gains;
+    under = h.under;
+    reaches = (let r = h.reaches in omega arith);
+    at_key = h.at_key;
+    ended = h.ended;
+  }
+
+  -- to a key, and on from there to one from a bound on, before which all are out
+  pub gone_twice : (level : Level) (old mid new : Sense) (above one two : List AtomView) (from to given begun between now key turn key' turn' : ℕ) → key < to → ((k : ℕ) → k < to → IsOut body plan keys k)
+      → HasGone body plan state old mid keys level places above one from given begun between key turn
+      → HasGone body plan state mid new keys level places above two to (between + left_at level places one key turn) between now key' turn'
+      → HasGone body plan state old new keys level places above two from given begun now key' turn'
+  gone_twice level old mid new above one two from to given begun between now key turn key' turn' ahead out g h = record {
+    stands = record {
+      grows = grows_then old mid new g.stands.grows h.stands.grows;
+      tight = h.stands.tight;
+      skipped = λ k cell up less. elim (cases_lt k to) [ inl before ↦ inr (out k before) | inr behind ↦ h.stands.skipped k cell behind less ];
+      found = h.stands.found;
+    };
+    cost = record { kept = (let a = g.cost.kept in let b = h.cost.kept in omega arith); is_common = h.cost.is_common };
+    gains = record {
+      gaps = (let a = g.gains.gaps in let b = h.gains.gaps in omega arith);
+      hits = h.gains.hits ∙ g.gains.hits;
+      rises = (let a = g.gains.rises in let b = h.gains.rises in omega arith);
+      paid = λ lt. (let a = g.gains.rises in let b = h.gains.paid lt in omega arith);
+    };
+    under = λ gap there. elim (h.under gap there) [ inl before ↦ g.under gap before | inr more ↦ inr more ];
+    reaches = (let a = g.reaches in let b = h.reaches in omega arith);
+    at_key = h.at_key;
+    ended = h.ended;
+  }
 
   -- ---- where there is neither pin nor tie
 
@@ -254,30 +314,30 @@ module _ (plan : Plan) (state : State) (keys : List ℕ) (walkable : AllByRecurs
       pub gone_joined : key ≢ end_key
           → ((b : ℕ) → NonePassed (lists_of atoms places) (heres_of atoms places) b → b ≤ last_of (heres_of atoms places) (turned (length places) 0) → key ≡ least_from (common_keys (lists_of atoms places)) b)
           → IsRing (lists_of atoms places) (heres_of moved places) (turned (length places) turn) → AllByRecursion (λ here. here ≡ key) (heres_of moved places)
-          → HasGone plan state old new keys level places above moved from (begun + join_cost (iterators_at state plan.guides level (length keys) (at keys))) begun now key turn
+          → HasGone body plan state old new keys level places above moved from (begun + join_cost (iterators_at state plan.guides level (length keys) (at keys))) begun now key turn
       gone_joined goes exact ring all =
           let lists_keyed = keyed plan state keys walkable above atoms is_above are_opened in
           let long = length_map (keys_at (map atom_keys atoms)) places in
           let is = exact from (rise_passes_none from (lists_of atoms places) (heres_of atoms places) lists_keyed rising) (last_rising from (lists_of atoms places) (heres_of atoms places) (length places) long some lists_keyed (omega arith) rising) in
           let up = least_above (common_keys (lists_of atoms places)) from (omega arith) in
           gone_at level old new above moved from (begun + join_cost (iterators_at state plan.guides level (length keys) (at keys))) begun now from key key turn joined_sensed
-          (passed_skipped level old new from key begun now key joined_sensed (omega arith)) (met_at key turn goes ring all) (fits_free level (at keys) key free) (omega arith) joined_paid
+          (passed_skipped old new from key begun now key joined_sensed (omega arith)) (met_at key turn goes ring all) (fits_free level (at keys) key free) (omega arith) joined_paid
           (let s = made.counted in omega arith)
 
-      pub gone_joined_end : (back : List AtomView) (ended turn' : ℕ) → key ≡ end_key → ended ≡ end_key → back ≡ above
-          → HasGone plan state old new keys level places above back from (begun + join_cost (iterators_at state plan.guides level (length keys) (at keys))) begun now ended turn'
-      gone_joined_end back ended turn' is_end is_ended same_back =
+      pub gone_joined_end : (back : List AtomView) (ended turn' : ℕ) → ((k : ℕ) → key ≤ k → IsOut body plan keys k) → ended ≡ end_key → back ≡ above
+          → HasGone body plan state old new keys level places above back from (begun + join_cost (iterators_at state plan.guides level (length keys) (at keys))) begun now ended turn'
+      gone_joined_end back ended turn' out is_ended same_back =
           gone_end level old new above back from (begun + join_cost (iterators_at state plan.guides level (length keys) (at keys))) begun now from key ended turn' joined_sensed
-          (λ k cell le lt. passed_skipped level old new from key begun now ended joined_sensed (omega arith) k le lt) is_ended same_back (omega arith) (let paid = joined_paid in omega arith)
+          (λ k cell le lt. passed_or_out old new from key begun now joined_sensed out k le) is_ended same_back (omega arith) (let paid = joined_paid in omega arith)
 
     -- ---- where it stood at a key
 
-    module _ (key0 turn0 key turn : ℕ) (old new : Sense) (begun now : ℕ) (is : IsLevelAt plan state keys places above atoms key0 turn0) (low : key0 < 2 ^ 120) (tight : IsTight old state)
-        (made : AreToldMoves TakesGap (map atom_still atoms) (map atom_keys atoms) places (map atom_here atoms) (map atom_here moved) old new (key0 + 1) key begun now)
-        (left : first_of (heres_of atoms places) (turned (length places) turn0) < key0 + 1 → (i : ℕ) → i < length places
+    module _ (key0 turn0 to key turn : ℕ) (old new : Sense) (begun now : ℕ) (is : IsLevelAt plan state keys places above atoms key0 turn0) (ahead : key0 < to) (low : to ≤ 2 ^ 120) (tight : IsTight old state)
+        (made : AreToldMoves TakesGap (map atom_still atoms) (map atom_keys atoms) places (map atom_here atoms) (map atom_here moved) old new to key begun now)
+        (left : first_of (heres_of atoms places) (turned (length places) turn0) < to → (i : ℕ) → i < length places
         → now + moves_left (lists_of atoms places) (heres_of moved places) (turned (length places) turn) i ≤ begun + moves_left (lists_of atoms places) (heres_of atoms places) (turned (length places) turn0) i) where
-      next_sensed : AreSensed plan state keys old new (key0 + 1) key begun now
-      next_sensed = sensed_met plan state keys walkable above atoms is_above are_opened (map atom_here atoms) (map atom_here moved) old new (key0 + 1) key begun now made tight
+      next_sensed : AreSensed plan state keys old new to key begun now
+      next_sensed = sensed_met plan state keys walkable above atoms is_above are_opened (map atom_here atoms) (map atom_here moved) old new to key begun now made tight
 
       next_paid : now + left_at level places moved key turn ≤ begun + left_at level places atoms key0 turn0
       next_paid =
@@ -285,54 +345,54 @@ module _ (plan : Plan) (state : State) (keys : List ℕ) (walkable : AllByRecurs
           let first = first_at plan state keys above atoms key0 turn0 is in
           left_then (begun + left_at level places atoms key0 turn0) begun now key turn turn0 some (left (omega arith)) (let e = left_free level places atoms key0 turn0 free is.not_ended in omega arith)
 
-      pub gone_next : key ≢ end_key → key ≡ least_from (common_keys (lists_of atoms places)) (key0 + 1) → IsRing (lists_of atoms places) (heres_of moved places) (turned (length places) turn) → AllByRecursion (λ here. here ≡ key) (heres_of moved places)
-          → (key ≢ end_key → AllByRecursion (λ here. here < key0 + 1) (heres_of atoms places) → begun + length places ≤ now)
-          → HasGone plan state old new keys level places above moved (key0 + 1) (begun + left_at level places atoms key0 turn0) begun now key turn
+      pub gone_next : key ≢ end_key → key ≡ least_from (common_keys (lists_of atoms places)) to → IsRing (lists_of atoms places) (heres_of moved places) (turned (length places) turn) → AllByRecursion (λ here. here ≡ key) (heres_of moved places)
+          → (AllByRecursion (λ here. here < to) (heres_of atoms places) → begun + length places ≤ now)
+          → HasGone body plan state old new keys level places above moved to (begun + left_at level places atoms key0 turn0) begun now key turn
       gone_next goes exact ring all each =
-          let up = least_above (common_keys (lists_of atoms places)) (key0 + 1) (omega arith) in
-          gone_at level old new above moved (key0 + 1) (begun + left_at level places atoms key0 turn0) begun now (key0 + 1) key key turn next_sensed
-          (passed_skipped level old new (key0 + 1) key begun now key next_sensed (omega arith)) (met_at key turn goes ring all) (fits_free level (at keys) key free) (omega arith) next_paid
-          (each goes (all_below key0 (heres_of atoms places) is.at_key))
+          let up = least_above (common_keys (lists_of atoms places)) to (omega arith) in
+          gone_at level old new above moved to (begun + left_at level places atoms key0 turn0) begun now to key key turn next_sensed
+          (passed_skipped old new to key begun now key next_sensed (omega arith)) (met_at key turn goes ring all) (fits_free level (at keys) key free) (omega arith) next_paid
+          (each (all_below key0 to ahead (heres_of atoms places) is.at_key))
 
-      pub gone_next_end : (back : List AtomView) (ended turn' : ℕ) → key ≡ end_key → ended ≡ end_key → back ≡ above
-          → HasGone plan state old new keys level places above back (key0 + 1) (begun + left_at level places atoms key0 turn0) begun now ended turn'
-      gone_next_end back ended turn' is_end is_ended same_back =
-          gone_end level old new above back (key0 + 1) (begun + left_at level places atoms key0 turn0) begun now (key0 + 1) key ended turn' next_sensed
-          (λ k cell le lt. passed_skipped level old new (key0 + 1) key begun now ended next_sensed (omega arith) k le lt) is_ended same_back (omega arith) (let paid = next_paid in omega arith)
+      pub gone_next_end : (back : List AtomView) (ended turn' : ℕ) → ((k : ℕ) → key ≤ k → IsOut body plan keys k) → ended ≡ end_key → back ≡ above
+          → HasGone body plan state old new keys level places above back to (begun + left_at level places atoms key0 turn0) begun now ended turn'
+      gone_next_end back ended turn' out is_ended same_back =
+          gone_end level old new above back to (begun + left_at level places atoms key0 turn0) begun now to key ended turn' next_sensed
+          (λ k cell le lt. passed_or_out old new to key begun now next_sensed out k le) is_ended same_back (omega arith) (let paid = next_paid in omega arith)
 
   -- ---- where there is a pin or a tie
 
-  module _ (level : Level) (lone : is_lone level ≡ true) where
+  module _ (level : Level) (lone : is_lone level ≡ true) (unfit : AreUnfitOut body plan keys level) where
     -- all have the one key
     pub gone_lone : (old new : Sense) (above atoms : List AtomView) (from key turn begun now : ℕ) → AreAtomsAt plan state keys above → 0 < length places → Fits level (at keys) key → ((k : ℕ) → Fits level (at keys) k → k ≡ key) → from ≤ key → key < 2 ^ 120
         → AreSensed plan state keys old new key key begun now → AreOpened places above atoms → AllByRecursion (λ here. here ≡ key) (heres_of atoms places) → AllByRecursion (λ keys. IsIn key keys) (lists_of atoms places)
         → turn ≡ 0 → begun + length places ≤ now → now ≤ begun + length places + length places
-        → HasGone plan state old new keys level places above atoms from (begun + join_cost (iterators_at state plan.guides level (length keys) (at keys))) begun now key turn
+        → HasGone body plan state old new keys level places above atoms from (begun + join_cost (iterators_at state plan.guides level (length keys) (at keys))) begun now key turn
     gone_lone old new above atoms from key turn begun now is_above some fits only le low sensed opened all there first paid within =
         gone_at level old new above atoms from (begun + join_cost (iterators_at state plan.guides level (length keys) (at keys))) begun now key key key turn sensed
-        (λ k up less. inr (λ f. let e = only k f in omega arith))
+        (λ k up less. inr (unfit k (λ f. let e = only k f in omega arith)))
         (record { is_above = is_above; opened = opened; at_key = all; there = there; not_ended = omega arith; has_turn = omega arith }) fits le
         (let none = left_lone level places atoms key turn lone in let twice = cost_twice plan state keys level in let n = count_held in omega arith) paid
 
     -- one lacks it
     pub gone_lone_lacks : (old new : Sense) (above atoms : List AtomView) (from key ended turn begun now : ℕ) → ((k : ℕ) → Fits level (at keys) k → k ≡ key) → from ≤ 2 ^ 120 → AreSensed plan state keys old new key (key + 1) begun now
         → ended ≡ end_key → atoms ≡ above → now ≤ begun + length places + length places
-        → HasGone plan state old new keys level places above atoms from (begun + join_cost (iterators_at state plan.guides level (length keys) (at keys))) begun now ended turn
+        → HasGone body plan state old new keys level places above atoms from (begun + join_cost (iterators_at state plan.guides level (length keys) (at keys))) begun now ended turn
     gone_lone_lacks old new above atoms from key ended turn begun now only low sensed is_ended back within =
         gone_end level old new above atoms from (begun + join_cost (iterators_at state plan.guides level (length keys) (at keys))) begun now key (key + 1) ended turn sensed
         (λ k cell up less. elim (cases_lt k key) [
-          | inl below ↦ inr (λ f. let e = only k f in omega arith)
-          | inr not_below ↦ elim (cases_lt key k) [ inl over ↦ inr (λ f. let e = only k f in omega arith) | inr not_over ↦ inl (sensed.passed k (omega arith) (omega arith)) ]
+          | inl below ↦ inr (unfit k (λ f. let e = only k f in omega arith))
+          | inr not_below ↦ elim (cases_lt key k) [ inl over ↦ inr (unfit k (λ f. let e = only k f in omega arith)) | inr not_over ↦ inl (sensed.passed k (omega arith) (omega arith)) ]
         ]) is_ended back (omega arith) (let twice = cost_twice plan state keys level in let n = count_held in omega arith)
 
-  -- no key from the bound on fits
-  pub gone_none : (level : Level) (sense : Sense) (above : List AtomView) (from given now ended turn : ℕ) → ((k : ℕ) → from ≤ k → Fits level (at keys) k → ⊥) → IsTight sense state → from ≤ end_key → ended ≡ end_key → (atoms : List AtomView) → atoms ≡ above → now ≤ given
-      → HasGone plan state sense sense keys level places above atoms from given now now ended turn
-  gone_none level sense above from given now ended turn unfit tight low is_ended atoms back kept =
-      gone_end level sense sense above atoms from given now now 0 0 ended turn (AreSensed-none plan state keys sense 0 0 now (omega arith) tight) (λ k cell le lt. inr (unfit k le)) is_ended back low kept
+  -- all keys from the bound on are out
+  pub gone_none : (level : Level) (sense : Sense) (above : List AtomView) (from given now ended turn : ℕ) → ((k : ℕ) → from ≤ k → IsOut body plan keys k) → IsTight sense state → from ≤ end_key → ended ≡ end_key → (atoms : List AtomView) → atoms ≡ above → now ≤ given
+      → HasGone body plan state sense sense keys level places above atoms from given now now ended turn
+  gone_none level sense above from given now ended turn out tight low is_ended atoms back kept =
+      gone_end level sense sense above atoms from given now now 0 0 ended turn (AreSensed-none plan state keys sense 0 0 now (omega arith) tight) (λ k cell le lt. inr (out k le)) is_ended back low kept
 
   -- a level with one key ends with it
-  pub gone_over : (level : Level) (sense : Sense) (above atoms : List AtomView) (key now ended turn left : ℕ) → is_lone level ≡ true → Fits level (at keys) key → key < 2 ^ 120 → IsTight sense state → ended ≡ end_key → atoms ≡ above
-      → HasGone plan state sense sense keys level places above atoms (key + 1) (now + left) now now ended turn
-  gone_over level sense above atoms key now ended turn left lone fits low tight is_ended back =
-      gone_none level sense above (key + 1) (now + left) now ended turn (λ k le f. let e = lone_one level (at keys) k key lone f fits in omega arith) tight (omega arith) is_ended atoms back (omega arith)
+  pub gone_over : (level : Level) (sense : Sense) (above atoms : List AtomView) (key now ended turn left : ℕ) → is_lone level ≡ true → AreUnfitOut body plan keys level → Fits level (at keys) key → key < 2 ^ 120 → IsTight sense state → ended ≡ end_key → atoms ≡ above
+      → HasGone body plan state sense sense keys level places above atoms (key + 1) (now + left) now now ended turn
+  gone_over level sense above atoms key now ended turn left lone unfit fits low tight is_ended back =
+      gone_none level sense above (key + 1) (now + left) now ended turn (λ k le. unfit k (λ f. let e = lone_one level (at keys) k key lone f fits in omega arith)) tight (omega arith) is_ended atoms back (omega arith)

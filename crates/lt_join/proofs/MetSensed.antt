@@ -6,10 +6,8 @@ use Rattle.std.proofs.lemmas.Bool.{or_cases, and_parts, leb-true, ltb-true}
 use Rattle.lt_face.specs.Lists.{IsIn, AnyByRecursion}
 use Rattle.lt_face.specs.State.{State}
 use Rattle.lt_face.specs.declared.key.Gap.{Gap}
-use Rattle.lt_query.specs.declared.plans.Guide.{Guide}
 use Rattle.lt_query.specs.declared.plans.Plan.{Plan}
 use Rattle.lt_query.specs.Holding.{atoms_at_level}
-use Rattle.lt_query.specs.Plan.{Keys}
 use Rattle.lt_sense.specs.Kept.{Sense}
 use Rattle.lt_sense.specs.Sense.{IsTight}
 use Rattle.lt_leap.specs.Common.{has_key}
@@ -20,17 +18,9 @@ use Rattle.lt_join.specs.Explored.{IsPassed}
 use Rattle.lt_join.specs.Holders.{IsWalkable}
 use Rattle.lt_join.specs.Level.{AreAtomsAt, AreOpened, AreSensed}
 use Rattle.lt_join.specs.Told.{TakesGap}
-use Rattle.lt_join.specs.Walked.{at, Grows}
+use Rattle.lt_join.specs.Walked.{at}
 use Rattle.lt_join.proofs.MetAtoms.{some_is, map_there, holder_of}
-use Rattle.lt_join.proofs.Sensed.{AreSensed-none, AreSensed-one, AreSensed-chain, opened_keys}
-
-still_passed : (s t : Sense) → Grows s t → (l : ℕ) (keys : Keys) (k : ℕ) (guides : List Guide) → AnyByRecursion (IsPassed s l keys k) guides → AnyByRecursion (IsPassed t l keys k) guides
-still_passed s t grows l keys k [] h = h
-still_passed s t grows l keys k (guide ∷ guides) h =
-    elim h [
-      | inl p ↦ inl (record { gap = p.gap; kept = grows.gaps p.gap p.kept; relation = p.relation; columns = p.columns; prefix = p.prefix; at = p.at; from = p.from; below = p.below })
-      | inr r ↦ inr (still_passed s t grows l keys k guides r)
-    ]
+use Rattle.lt_join.proofs.Sensed.{AreSensed-none, AreSensed-one, AreSensed-chain, opened_keys, still_passed}
 
 module _ (plan : Plan) (state : State) (keys : List ℕ) (walkable : AllByRecursion IsWalkable plan.guides) (above atoms : List AtomView)
     (is_above : AreAtomsAt plan state keys above) (are_opened : AreOpened (atoms_at_level plan.guides (length keys)) above atoms) where

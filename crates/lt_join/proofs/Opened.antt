@@ -22,7 +22,8 @@ use Rattle.lt_join.specs.Explored.{before}
 use Rattle.lt_join.specs.Holders.{IsTrieOf, IsOpenedOf, IsWalkable}
 use Rattle.lt_join.specs.Level.{IsAtomAt, AreAtomsAt, CanBeOpened, IsOpenedFrom, AreOpened, HoldsAt}
 use Rattle.lt_join.specs.Walked.{at}
-use Rattle.lt_join.proofs.Sensed.{level_held, plan_walkable, IsOpenAt}
+use Rattle.lt_join.proofs.KnownLists.{walkable_all}
+use Rattle.lt_join.proofs.Sensed.{level_held, IsOpenAt}
 
 -- ---- lists
 
@@ -332,6 +333,6 @@ next_at body inside plan state keys depth above atoms places i d of_body same de
     record {
       out = out;
       there = there;
-      holds = holder_at plan state keys above place (get_or atoms place d) (subst (λ (p : Plan). AllByRecursion IsWalkable p.guides) same (plan_walkable body inside of_body)) are in_level (sym (opened.others place out) ∙ there);
+      holds = holder_at plan state keys above place (get_or atoms place d) (subst (λ (p : Plan). AllByRecursion IsWalkable p.guides) same (walkable_all body inside of_body)) are in_level (sym (opened.others place out) ∙ there);
       more = take_next places i lt;
     }

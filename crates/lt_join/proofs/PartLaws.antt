@@ -1,5 +1,5 @@
 -- What a walk over a range of the first level's keys found, and how ranges go together.
-use Rattle.std.specs.Prelude.{◌≡◌, ℕ, ◌+◌, ◌-◌, ◌^◌, ◌<◌, ◌≤◌, true, List, [], ◌∷◌, ◌++◌, length, drop, slice_get, Some, nat_lt, ◌⊎◌}
+use Rattle.std.specs.Prelude.{◌≡◌, ℕ, ◌+◌, ◌-◌, ◌^◌, ◌<◌, ◌≤◌, true, List, [], ◌∷◌, ◌++◌, length, drop, nat_lt, ◌⊎◌}
 use Rattle.std.specs.List.{list_all}
 use Rattle.std.proofs.Common.{refl, sym, ap, ◌∙◌, subst, inl, inr, arith}
 use Rattle.std.proofs.lemmas.Bool.{and_parts, ltb-true, cases_lt}
@@ -23,16 +23,17 @@ use Rattle.lt_sense.specs.Kept.{Sense}
 use Rattle.lt_sense.specs.Sense.{IsTight}
 use Rattle.lt_join.specs.declared.Found.{Found}
 use Rattle.lt_join.specs.Certify.{Certifies, IsMissed}
-use Rattle.lt_join.specs.Explored.{with_key}
-use Rattle.lt_join.specs.Parts.{IsBetween, IsAnswerWithin, IsPartOf, ArePartRows, IsAtMost}
-use Rattle.lt_join.specs.Walked.{at, Grows, IsCollected, IsSettled, AreFoundUnder}
+use Rattle.lt_join.specs.Explored.{AgreeBelow, IsHopeless, with_key}
+use Rattle.lt_join.specs.Parts.{IsBetween, IsAnswerWithin, IsPartOf, IsAtMost}
+use Rattle.lt_join.specs.Walked.{at, Grows, AreFoundUnder}
+use Rattle.lt_join.specs.Way.{WayView}
 use Rattle.lt_join.proofs.Costs.{IsCredited}
 use Rattle.lt_join.proofs.Leaves.{collected_below, certified_below}
 use Rattle.lt_join.proofs.Lists.{all_append}
 use Rattle.lt_join.proofs.Repair.{GapIsTight, IsAscending-answers, not_missed}
-use Rattle.lt_join.proofs.SliceLaws.{first_is, levels_below, one_less, stands_for_grows}
-use Rattle.lt_join.proofs.Steps.{IsDone, IsUnderWay, Explored-grows, explored_under, settled_of}
-use Rattle.lt_join.proofs.Walks.{AgreeBelow, followed_at, key_is_cell}
+use Rattle.lt_join.proofs.SliceLaws.{one_less, stands_for_grows}
+use Rattle.lt_join.proofs.Steps.{IsDone, IsUnderWay, explored_settled, explored_under, never_early}
+use Rattle.lt_join.proofs.Walks.{followed_at, key_is_cell}
 
 -- ---- the walk
 
@@ -54,52 +55,54 @@ at_most_paid atoms sense begun now key so =
     let h = so.gains.hits in
     record { gaps = omega arith; hits = omega arith }
 
-module _ (body : Body) (plan : Plan) (state : State) (of_body : IsPlanOf body plan) (some : 0 < length plan.levels) (whole : AreTestsBound body) where
-  agree_first : (a : Assignment) → AgreeBelow 1 (with_key (at []) 0 (keys_under a plan.levels 0)) (keys_under a plan.levels)
+module _ {S : Type 0} (way : WayView) (of_body : IsPlanOf way.body way.plan) (some : 0 < length way.plan.levels) (whole : AreTestsBound way.body) (begun found : Found S) (level : Level) (lo hi key : ℕ)
+    (ended : hi ≤ key) (on : IsUnderWay way begun [] level lo found key) where
+  agree_first : (a : Assignment) → AgreeBelow 1 (with_key (at []) 0 (keys_under a way.plan.levels 0)) (keys_under a way.plan.levels)
   agree_first a m lt = let none : m ≡ 0 = omega arith in rw none refl
 
   -- where a walk over a range went for an assignment in it
-  went : {S : Type 0} → (terms : List Term) (begun found : Found S) (level : Level) (lo hi key : ℕ) → slice_get plan.levels 0 ≡ Some level → hi ≤ key → IsTight found.sense state → IsUnderWay body plan terms state begun [] level lo found key
-      → (a : Assignment) → holds a body ≡ true → IsBetween lo hi (cell_of a (term_at plan.levels 0)) → AnyByRecursion (IsMissed found.sense state a) body.atoms ⊎ IsDone body plan terms found [] (keys_under a plan.levels 0)
-  went terms begun found level lo hi key first ended tight way a held between =
-      elim (followed_at body plan found.sense state tight a held of_body 0 level (at []) some (first_is body plan.levels plan.levels level of_body.levels first) (λ m lt. absurd (omega arith))
-      (λ k. IsBetween lo hi k → IsDone body plan terms found [] k)
+  went : (a : Assignment) → holds a way.body ≡ true → IsBetween lo hi (cell_of a (term_at way.plan.levels 0)) → AnyByRecursion (IsMissed found.sense way.state a) way.body.atoms ⊎ IsDone way found [] (keys_under a way.plan.levels 0)
+  went a held between =
+      elim (followed_at way.body way.plan found.sense way.state on.right.tight a held of_body 0 (at []) some (λ m lt. absurd (omega arith))
+      (λ k. IsBetween lo hi k → IsHopeless way.body way.plan.levels 1 (with_key (at []) 0 k) ⊎ IsDone way found [] k)
       (λ k cell. elim (cases_lt k lo) [
-        | inl early ↦ inr (inr (λ b. absurd (let f = b.0 in omega arith)))
+        | inl early ↦ inr (λ b. absurd (let f = b.0 in omega arith))
         | inr from ↦ elim (cases_lt k hi) [
-          | inl below ↦ elim (way.done k cell from (omega arith)) [
-            | inl skipped ↦ elim skipped [ inl passed ↦ inl passed | inr unfit ↦ inr (inl unfit) ]
-            | inr done ↦ inr (inr (λ b. done))
+          | inl below ↦ elim (on.done k cell from (omega arith)) [
+            | inl skipped ↦ elim skipped [ inl passed ↦ inl passed | inr hopeless ↦ inr (λ b. inl hopeless) ]
+            | inr done ↦ inr (λ b. inr done)
           ]
-          | inr late ↦ inr (inr (λ b. absurd (let t = b.1 in omega arith)))
+          | inr late ↦ inr (λ b. absurd (let t = b.1 in omega arith))
         ]
-      ])) [ inl missed ↦ inl missed | inr on ↦ inr (on between) ]
+      ])) [
+        | inl missed ↦ inl missed
+        | inr there ↦ elim (there between) [ inl hopeless ↦ absurd (hopeless a (agree_first a) held) | inr done ↦ inr done ]
+      ]
 
-  pub part_found : {S : Type 0} → (terms : List Term) (begun found : Found S) (level : Level) (lo hi key : ℕ) → are_bound body terms ≡ true → slice_get plan.levels 0 ≡ Some level → hi ≤ key
-      → AreWithin terms body state (term_at plan.levels 0) lo hi found.rows → IsUnderWay body plan terms state begun [] level lo found key → IsPartOf terms body state (term_at plan.levels 0) lo hi found.rows found.sense
-  part_found terms begun found level lo hi key heads first ended within way =
-      let tight = way.right.tight in
-      let are = levels_below body plan.levels plan.levels of_body.levels in
-      let e = one_less plan.levels some in
+  pub part_found : length way.plan.levels ≤ way.wanted → are_bound way.body way.terms ≡ true → AreWithin way.terms way.body way.state (term_at way.plan.levels 0) lo hi found.rows → IsPartOf way.terms way.body way.state (term_at way.plan.levels 0) lo hi found.rows found.sense
+  part_found all heads within =
+      let tight = on.right.tight in
+      let e = one_less way.plan.levels some in
       record {
         right = within;
         whole = λ row answer.
-            elim (went terms begun found level lo hi key first ended tight way answer.0 answer.1 answer.5) [
-              | inl missed ↦ absurd (not_missed found.sense state answer.0 body.atoms answer.2 missed)
+            elim (went answer.0 answer.1 answer.5) [
+              | inl missed ↦ absurd (not_missed found.sense way.state answer.0 way.body.atoms answer.2 missed)
               | inr done ↦ subst (λ r. IsIn r found.rows) answer.3
-                  (collected_below body plan of_body terms state found (drop 1 plan.levels) 1 (with_key (at []) 0 (keys_under answer.0 plan.levels 0)) whole heads tight (explored_under body plan terms found [] (keys_under answer.0 plan.levels 0) done) are e answer.0 answer.1 answer.2 answer.4 (agree_first answer.0))
+                  (collected_below way of_body found whole heads tight (drop 1 way.plan.levels) 1 (with_key (at []) 0 (keys_under answer.0 way.plan.levels 0)) (explored_under way found [] (keys_under answer.0 way.plan.levels 0) done) e answer.0 (agree_first answer.0) answer.1 answer.2 answer.4)
             ];
         certified = λ a held between.
-            elim (went terms begun found level lo hi key first ended tight way a held between) [
+            elim (went a held between) [
               | inl missed ↦ inr (inl missed)
               | inr done ↦
-                  certified_below body plan of_body found.sense state (drop 1 plan.levels) 1 (with_key (at []) 0 (keys_under a plan.levels 0)) whole tight
-                  (Explored-grows found.sense found.sense (record { gaps = λ gap h. h; hits = λ hit h. h }) plan.guides (IsCollected body plan terms found) (IsSettled body plan found.sense) (λ keys h. settled_of body plan terms found keys h) (drop 1 plan.levels) 1 (with_key (at []) 0 (keys_under a plan.levels 0)) (explored_under body plan terms found [] (keys_under a plan.levels 0) done))
-                  are e a held (agree_first a)
+                  certified_below way.body way.plan of_body found.sense way.state (drop 1 way.plan.levels) 1 (with_key (at []) 0 (keys_under a way.plan.levels 0)) whole tight
+                  (explored_settled way found (never_early way (inr all)) (drop 1 way.plan.levels) 1 (with_key (at []) 0 (keys_under a way.plan.levels 0)) (explored_under way found [] (keys_under a way.plan.levels 0) done))
+                  e a held (agree_first a)
             ];
         tight = tight;
       }
 
+module _ (body : Body) (plan : Plan) (state : State) (of_body : IsPlanOf body plan) (some : 0 < length plan.levels) (whole : AreTestsBound body) where
   -- the first level's key of an assignment that holds is a cell
   first_cell : (sense : Sense) → IsTight sense state → (a : Assignment) → holds a body ≡ true → is_cell (cell_of a (term_at plan.levels 0)) ≡ true
   first_cell sense tight a held =
@@ -173,19 +176,11 @@ part_both terms body state term lo mid hi rows more all one next both is g h le 
   tight = tight_both one next both state g h a.tight b.tight;
 }
 
--- the rows of a range and of the next one, with what both are sensitive to
-pub part_rows_both : (terms : List Term) (body : Body) (state : State) (term : Term) (lo mid hi : ℕ) (rows more all : List Row) → all ≡ rows ++ more → lo ≤ mid → mid ≤ hi
-    → ArePartRows terms body state term lo mid rows → ArePartRows terms body state term mid hi more → ArePartRows terms body state term lo hi all
-part_rows_both terms body state term lo mid hi rows more all is le le' a b =
-    let sense : Sense = record { gaps = a.0.gaps ++ b.0.gaps; hits = a.0.hits ++ b.0.hits } in
-    (sense, part_both terms body state term lo mid hi rows more all a.0 b.0 sense is refl refl le le' a.1 b.1)
-
 -- its rows in order
-pub part_sorted : (terms : List Term) (body : Body) (state : State) (term : Term) (lo hi : ℕ) (rows sorted : List Row) (sense kept : Sense) → sorted ≡ ascending rows → kept ≡ sense → IsPartOf terms body state term lo hi rows sense → IsPartOf terms body state term lo hi sorted kept
-part_sorted terms body state term lo hi rows sorted sense kept is same part =
-    subst (λ (s : Sense). IsPartOf terms body state term lo hi sorted s) (sym same) (record {
-      right = λ row there. part.right row (IsIn-ascending_from row rows (subst (IsIn row) is there));
-      whole = λ row answer. subst (IsIn row) (sym is) (IsIn-ascending row rows (part.whole row answer));
-      certified = part.certified;
-      tight = part.tight;
-    })
+pub part_sorted : (terms : List Term) (body : Body) (state : State) (term : Term) (lo hi : ℕ) (rows sorted : List Row) (sense : Sense) → sorted ≡ ascending rows → IsPartOf terms body state term lo hi rows sense → IsPartOf terms body state term lo hi sorted sense
+part_sorted terms body state term lo hi rows sorted sense is part = record {
+  right = λ row there. part.right row (IsIn-ascending_from row rows (subst (IsIn row) is there));
+  whole = λ row answer. subst (IsIn row) (sym is) (IsIn-ascending row rows (part.whole row answer));
+  certified = part.certified;
+  tight = part.tight;
+}

@@ -53,14 +53,14 @@ slices_both terms body plan state lo mid hi one more all root next both is g h l
           (each_weaker (IsBetween mid hi) (IsBetween lo hi) (λ k within. (let e = within.0 in (omega arith, within.1))) (slice_keys more) b.between));
       each = rw is (all_append (IsSliceOf terms body (term_at plan.levels 0) state) one more a.each b.each);
       found = λ level first. rw keys (all_append (λ k. IsIn k (common_keys (iterators_at state plan.guides level 0 (at [])))) (slice_keys one) (slice_keys more) (a.found level first) (b.found level first));
-      rooted = λ level first k cell within. rw keys (elim (cases_lt k mid) [
-        | inl early ↦ elim (a.rooted level first k cell (within.0, early)) [
+      rooted = λ k cell within. rw keys (elim (cases_lt k mid) [
+        | inl early ↦ elim (a.rooted k cell (within.0, early)) [
           | inl there ↦ inl (IsIn-append_left k (slice_keys one) (slice_keys more) there)
-          | inr skipped ↦ inr (IsSkipped-grows plan root both (grows_one root next both g h) [] level k skipped)
+          | inr skipped ↦ inr (IsSkipped-grows body plan root both (grows_one root next both g h) [] k skipped)
         ]
-        | inr late ↦ elim (b.rooted level first k cell (late, within.1)) [
+        | inr late ↦ elim (b.rooted k cell (late, within.1)) [
           | inl there ↦ inl (IsIn-append_right k (slice_keys one) (slice_keys more) there)
-          | inr skipped ↦ inr (IsSkipped-grows plan next both (grows_next root next both g h) [] level k skipped)
+          | inr skipped ↦ inr (IsSkipped-grows body plan next both (grows_next root next both g h) [] k skipped)
         ]
       ]);
       tight = tight_both root next both state g h a.tight b.tight;
@@ -95,9 +95,9 @@ pub slices_whole : (terms : List Term) (body : Body) (plan : Plan) (state : Stat
 slices_whole terms body plan state lo hi root kept slices none high same few stays so = record {
   ascending = so.ascending;
   each = so.each;
-  rooted = rooted_alike plan root kept (slice_keys slices) same (λ level first k cell.
+  rooted = rooted_alike body plan root kept (slice_keys slices) same (λ k cell.
       let small : k < 2 ^ 120 = ltb-true k (2 ^ 120) (and_parts (nat_lt 0 k) (nat_lt k (2 ^ 120)) cell).1 in
-      so.rooted level first k cell (omega arith, omega arith));
+      so.rooted k cell (omega arith, omega arith));
   tight = stays so.tight;
   root_hits = no_hits_alike root kept few so.root_hits;
   root_gaps = root_gaps_alike root kept same so.root_gaps;

@@ -1,8 +1,8 @@
 -- Moves at a level, whose gaps went to the sense.
-use Rattle.std.specs.Prelude.{◌≡◌, ℕ, suc, ◌+◌, ◌<◌, ◌≤◌, true, false, ◌==◌, List, [], ◌∷◌, ◌++◌, length, slice_index}
-use Rattle.std.specs.List.{AllByRecursion, AllZip}
+use Rattle.std.specs.Prelude.{◌≡◌, ℕ, ◌+◌, ◌<◌, ◌≤◌, true, false, ◌==◌, List, [], ◌∷◌, ◌++◌, length}
+use Rattle.std.specs.List.{AllByRecursion}
 use Rattle.std.proofs.Common.{refl, sym, ap, ◌∙◌, subst, inl, inr, arith}
-use Rattle.std.proofs.lemmas.Bool.{eqb-true, or_cases, true≢false, cases_lt}
+use Rattle.std.proofs.lemmas.Bool.{eqb-true, true≢false, cases_lt}
 use Rattle.lt_face.specs.Keys.{IsKeyList, least_from}
 use Rattle.lt_face.specs.Lists.{IsIn, AnyByRecursion}
 use Rattle.lt_face.specs.State.{Row, State, Has, permuted}
@@ -11,12 +11,9 @@ use Rattle.lt_face.proofs.Membership.{IsIn-append_left, IsIn-append_right, IsIn-
 use Rattle.lt_trie.specs.Trie.{TrieView, keys_of}
 use Rattle.lt_trie.specs.Under.{keys_under}
 use Rattle.lt_trie.proofs.Cells.{keys_rise}
-use Rattle.lt_model.specs.declared.normal.Atom.{Atom}
-use Rattle.lt_model.specs.declared.normal.Body.{Body}
 use Rattle.lt_query.specs.declared.plans.Guide.{Guide}
-use Rattle.lt_query.specs.declared.plans.Level.{Level}
 use Rattle.lt_query.specs.declared.plans.Plan.{Plan}
-use Rattle.lt_query.specs.Plan.{Keys, levels_of, IsGuideOf, IsPlanOf}
+use Rattle.lt_query.specs.Plan.{Keys, levels_of}
 use Rattle.lt_query.specs.Holding.{holds_level}
 use Rattle.lt_sense.specs.declared.covering.KeptGap.{KeptGap}
 use Rattle.lt_sense.specs.Kept.{Sense}
@@ -30,14 +27,15 @@ use Rattle.lt_join.specs.Level.{AreSensed}
 use Rattle.lt_join.specs.Told.{TakesGap, gap_of}
 use Rattle.lt_join.specs.Walked.{at, Grows}
 use Rattle.lt_join.proofs.Gaps.{tight_gap, has_key-true}
+use Rattle.lt_join.proofs.KnownLists.{holds_same}
 use Rattle.lt_join.proofs.Under.{has_key-of, key_of_iterator}
 
 -- ---- one move after another
 
-grows_then : (s t u : Sense) → Grows s t → Grows t u → Grows s u
+pub grows_then : (s t u : Sense) → Grows s t → Grows t u → Grows s u
 grows_then s t u first next = record { gaps = λ gap h. next.gaps gap (first.gaps gap h); hits = λ hit h. next.hits hit (first.hits hit h) }
 
-still_passed : (s t : Sense) → Grows s t → (l : ℕ) (keys : Keys) (k : ℕ) (guides : List Guide) → AnyByRecursion (IsPassed s l keys k) guides → AnyByRecursion (IsPassed t l keys k) guides
+pub still_passed : (s t : Sense) → Grows s t → (l : ℕ) (keys : Keys) (k : ℕ) (guides : List Guide) → AnyByRecursion (IsPassed s l keys k) guides → AnyByRecursion (IsPassed t l keys k) guides
 still_passed s t grows l keys k [] h = h
 still_passed s t grows l keys k (guide ∷ guides) h =
     elim h [
@@ -173,26 +171,6 @@ AreSensed-move plan state keys atom gap place old new begun holder lands takes t
 
 -- ---- which atoms hold a level
 
-walkable_zip : (levels : List Level) (atoms : List Atom) (guides : List Guide) → AllZip (IsGuideOf levels) atoms guides → AllByRecursion IsWalkable guides
-walkable_zip levels [] [] h = tt
-walkable_zip levels [] (guide ∷ guides) h = absurd h
-walkable_zip levels (atom ∷ atoms) [] h = absurd h
-walkable_zip levels (atom ∷ atoms) (guide ∷ guides) h = (record { columns = h.0.columns; each = h.0.each; as_long = h.0.as_long; rising = h.0.rising }, walkable_zip levels atoms guides h.1)
-
-pub plan_walkable : (body : Body) (plan : Plan) → IsPlanOf body plan → AllByRecursion IsWalkable plan.guides
-plan_walkable body plan of_body = walkable_zip plan.levels body.atoms plan.guides of_body.guides
-
-place_of : (xs : List ℕ) (l : ℕ) → has_key xs l ≡ true → (i : ℕ) × (i < length xs) × (slice_index xs i ≡ l)
-place_of [] l h = cc
-place_of (x ∷ xs) l h =
-    elim (or_cases (x == l) (has_key xs l) h) [ inl e ↦ (0, omega arith, eqb-true x l e) | inr r ↦ (let p = place_of xs l r in (suc p.0, (let q = p.1 in omega (arith, q)), p.2)) ]
-
-column_at : (places columns : List ℕ) (i l : ℕ) → IsIn i columns → slice_index places i ≡ l → IsIn l (permuted columns places)
-column_at places [] i l h e = absurd h
-column_at places (c ∷ columns) i l h e = elim h [ inl s ↦ inl (ap (slice_index places) s ∙ e) | inr r ↦ inr (column_at places columns i l r e) ]
-
 -- a level where one of the columns is, is a level of the columns in their order
 pub level_held : (guide : Guide) (l : ℕ) → IsWalkable guide → holds_level l guide ≡ true → has_key (levels_of guide) l ≡ true
-level_held guide l walkable h =
-    let p = place_of guide.places l h in
-    has_key-of l (levels_of guide) (column_at guide.places guide.columns p.0 l (walkable.each p.0 p.1) p.2)
+level_held guide l walkable h = holds_same guide l walkable ∙ h

@@ -26,13 +26,16 @@ use Rattle.lt_join.specs.declared.slicing.Slice.{Slice}
 use Rattle.lt_join.specs.Certify.{Certifies, IsMet, IsMissed}
 use Rattle.lt_join.specs.Cost.{cost_from}
 use Rattle.lt_join.specs.Sliced.{pinned, slice_keys, united, sliced_rows, CertifiesBut, IsSliceOf, AreRooted}
-use Rattle.lt_join.specs.Walked.{at, Grows, IsExploredBelow, AreFoundUnder, IsCollected, IsSettled}
+use Rattle.lt_join.specs.Explored.{AgreeBelow, IsHopeless, with_key}
+use Rattle.lt_join.specs.Walked.{at, Grows, AreFoundUnder}
+use Rattle.lt_join.specs.Way.{WayView, IsExploredBelow}
+use Rattle.lt_join.proofs.Hopeless.{with_key_agrees}
 use Rattle.lt_join.proofs.Leaves.{collected_below, certified_below}
 use Rattle.lt_join.proofs.Lists.{some_is}
 use Rattle.lt_join.proofs.Pinned.{holds_pinned, pinned_holds, are_bound_pinned, tests_pinned, term_in}
 use Rattle.lt_join.proofs.Repair.{All_at, All_of, GapIsTight, IsAscending-answers, not_missed}
-use Rattle.lt_join.proofs.Steps.{covers_grows, met_grows, Explored-grows, settled_of}
-use Rattle.lt_join.proofs.Walks.{AgreeBelow, followed_at}
+use Rattle.lt_join.proofs.Steps.{covers_grows, explored_settled, met_grows, never_early}
+use Rattle.lt_join.proofs.Walks.{followed_at}
 
 -- ---- the whole
 
@@ -126,30 +129,26 @@ answers_whole root slices terms term body state whole heads at but each =
 
 -- ---- the first level
 
-first_of : (levels : List Level) → 0 < length levels → (level : Level) × (slice_get levels 0 ≡ Some level)
-first_of [] lt = absurd (omega arith)
-first_of (level ∷ levels) lt = (level, refl)
-
 pub first_is : (body : Body) (all levels : List Level) (level : Level) → AreLevelsFrom body all 0 levels → slice_get levels 0 ≡ Some level → IsLevelOf body all 0 level
 first_is body all [] level are e = cc
 first_is body all (x ∷ levels) level are e = subst (IsLevelOf body all 0) (some_is x level e) are.0
 
 -- what the first level keeps certifies the body but for its keys
-pub but_rooted : (body : Body) (plan : Plan) (root : Sense) (state : State) (keys : List ℕ) → IsPlanOf body plan → 0 < length plan.levels → IsTight root state → AreRooted plan root keys → CertifiesBut keys (term_at plan.levels 0) root body state
+pub but_rooted : (body : Body) (plan : Plan) (root : Sense) (state : State) (keys : List ℕ) → IsPlanOf body plan → 0 < length plan.levels → IsTight root state → AreRooted body plan root keys → CertifiesBut keys (term_at plan.levels 0) root body state
 but_rooted body plan root state keys of_body some tight rooted a held =
-    let first = first_of plan.levels some in
-    let went = followed_at body plan root state tight a held of_body 0 first.0 (at []) some (first_is body plan.levels plan.levels first.0 of_body.levels first.1) (λ m lt. absurd (omega arith)) (λ k. IsIn k keys)
-    (λ k cell. elim (rooted first.0 first.1 k cell) [
-      | inl there ↦ inr (inr there)
-      | inr skipped ↦ elim skipped [ inl passed ↦ inl passed | inr unfit ↦ inr (inl unfit) ]
-    ]) in
-    elim went [ inl missed ↦ inr missed | inr there ↦ inl there ]
+    elim (followed_at body plan root state tight a held of_body 0 (at []) some (λ m lt. absurd (omega arith)) (λ k. IsIn k keys ⊎ IsHopeless body plan.levels 1 (with_key (at []) 0 k))
+    (λ k cell. elim (rooted k cell) [
+      | inl there ↦ inr (inl there)
+      | inr skipped ↦ elim skipped [ inl passed ↦ inl passed | inr hopeless ↦ inr (inr hopeless) ]
+    ])) [
+      | inl missed ↦ inr missed
+      | inr on ↦ elim on [
+        | inl there ↦ inl there
+        | inr hopeless ↦ absurd (hopeless a (with_key_agrees plan.levels a 0 (at []) (keys_under a plan.levels 0) (λ m lt. absurd (omega arith)) refl) held)
+      ]
+    ]
 
 -- ---- one slice
-
-pub levels_below : (body : Body) (all levels : List Level) → AreLevelsFrom body all 0 levels → AreLevelsFrom body all 1 (drop 1 levels)
-levels_below body all [] are = tt
-levels_below body all (level ∷ levels) are = are.1
 
 pub one_less : (levels : List Level) → 0 < length levels → 1 + length (drop 1 levels) ≡ length levels
 one_less [] lt = absurd (omega arith)
@@ -160,11 +159,14 @@ agree_first a levels key e zero lt = sym e
 agree_first a levels key e (suc m) lt = absurd (omega arith)
 
 -- what a walk below a key of the first level found is the key's slice
-pub is_slice : {S : Type 0} → (body : Body) (plan : Plan) (terms : List Term) (state : State) (begun found : Found S) (key : ℕ) (rows : List Row) → IsPlanOf body plan → 0 < length plan.levels → AreTestsBound body → are_bound body terms ≡ true → IsTight found.sense state → begun.rows ≡ [] → AreFoundUnder terms body plan state (key ∷ []) begun found → IsExploredBelow body plan terms found (key ∷ []) → rows ≡ ascending found.rows
-    → IsSliceOf terms body (term_at plan.levels 0) state (record { key = key; rows = rows; sense = found.sense })
-is_slice body plan terms state begun found key rows of_body some whole heads tight none under explored sorted =
+pub is_slice : {S : Type 0} → (way : WayView) (begun found : Found S) (key : ℕ) (rows : List Row) → IsPlanOf way.body way.plan → 0 < length way.plan.levels → length way.plan.levels ≤ way.wanted → AreTestsBound way.body → are_bound way.body way.terms ≡ true → IsTight found.sense way.state → begun.rows ≡ [] → AreFoundUnder way.terms way.body way.plan way.state (key ∷ []) begun found → IsExploredBelow way found (key ∷ []) → rows ≡ ascending found.rows
+    → IsSliceOf way.terms way.body (term_at way.plan.levels 0) way.state (record { key = key; rows = rows; sense = found.sense })
+is_slice way begun found key rows of_body some all whole heads tight none under explored sorted =
+    let body : Body = way.body in
+    let plan : Plan = way.plan in
+    let terms : List Term = way.terms in
+    let state : State = way.state in
     let term : Term = term_at plan.levels 0 in
-    let are = levels_below body plan.levels plan.levels of_body.levels in
     let e = one_less plan.levels some in
     let stands_in = term_in body plan of_body 0 some in
     record {
@@ -177,12 +179,12 @@ is_slice body plan terms state begun found key rows of_body some whole heads tig
           let answer = IsAnswer-from_answers terms (pinned term key body) state row there in
           let held = holds_pinned answer.0 term key body answer.1 in
           IsIn-ascending row found.rows (subst (λ r. IsIn r found.rows) answer.3
-          (collected_below body plan of_body terms state found (drop 1 plan.levels) 1 (at (key ∷ [])) whole heads tight explored are e answer.0 held.0 answer.2 answer.4 (agree_first answer.0 plan.levels key held.1))));
+          (collected_below way of_body found whole heads tight (drop 1 plan.levels) 1 (at (key ∷ [])) explored e answer.0 (agree_first answer.0 plan.levels key held.1) held.0 answer.2 answer.4)));
       certified = λ a h.
           let held = holds_pinned a term key body h in
           certified_below body plan of_body found.sense state (drop 1 plan.levels) 1 (at (key ∷ [])) whole tight
-          (Explored-grows found.sense found.sense (record { gaps = λ gap k. k; hits = λ hit k. k }) plan.guides (IsCollected body plan terms found) (IsSettled body plan found.sense) (λ keys k. settled_of body plan terms found keys k) (drop 1 plan.levels) 1 (at (key ∷ [])) explored)
-          are e a held.0 (agree_first a plan.levels key held.1);
+          (explored_settled way found (never_early way (inr all)) (drop 1 plan.levels) 1 (at (key ∷ [])) explored)
+          e a held.0 (agree_first a plan.levels key held.1);
       tight = tight;
     }
 

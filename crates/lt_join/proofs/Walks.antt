@@ -1,18 +1,13 @@
 -- A walk over the levels of a plan certifies the body.
-use Rattle.std.specs.Prelude.{◌≡◌, ℕ, zero, suc, ◌+◌, ◌<◌, ◌≤◌, true, false, ◌==◌, nat_lt, List, [], ◌∷◌, map, length, slice_index, ◌⊎◌}
+use Rattle.std.specs.Prelude.{◌≡◌, ℕ, zero, suc, ◌+◌, ◌<◌, ◌≤◌, true, false, nat_lt, List, [], ◌∷◌, map, length, slice_index, ◌⊎◌}
 use Rattle.std.specs.List.{AllByRecursion, AllZip, list_all}
 use Rattle.std.proofs.Common.{refl, sym, ap, ◌∙◌, subst, inl, inr, arith, cond}
-use Rattle.std.proofs.lemmas.Bool.{and_parts, and_from, eqb-true, eqb-false, eq-eqb, lt-ltb, ltb-true, ltb-false, le-leb, true≢false}
-use Rattle.lt_model.specs.declared.normal.Term.{Term}
-use Rattle.lt_model.specs.declared.normal.Term.TheVariants.{Var, Cell}
+use Rattle.std.proofs.lemmas.Bool.{and_parts, and_from, eq-eqb, lt-ltb, ltb-true, ltb-false, le-leb, true≢false}
 use Rattle.lt_model.specs.declared.normal.Atom.{Atom}
-use Rattle.lt_model.specs.declared.syntax.Op.TheVariants.{Eq}
-use Rattle.lt_model.specs.declared.normal.Test.{Test}
-use Rattle.lt_model.specs.declared.normal.Test.TheVariants.{Cmp}
 use Rattle.lt_model.specs.declared.normal.Body.{Body}
 use Rattle.lt_face.specs.Lists.{IsIn}
 use Rattle.lt_face.specs.State.{Row, State}
-use Rattle.lt_model.specs.Answers.{rows_under, Assignment, cell_of, cells_of, holds, passes}
+use Rattle.lt_model.specs.Answers.{rows_under, Assignment, cells_of, holds, passes}
 use Rattle.lt_model.specs.Cells.{is_cell}
 use Rattle.lt_sense.specs.Kept.{Sense}
 use Rattle.lt_sense.specs.declared.covering.Hit.{Hit}
@@ -23,14 +18,11 @@ use Rattle.lt_face.specs.Lists.{AnyByRecursion}
 use Rattle.lt_query.specs.declared.plans.Level.{Level}
 use Rattle.lt_query.specs.declared.plans.Guide.{Guide}
 use Rattle.lt_query.specs.declared.plans.Plan.{Plan}
-use Rattle.lt_query.specs.Plan.{Keys, term_at, keys_under, levels_of, IsGuideOf, IsPinOf, IsLevelOf, AreLevelsFrom, IsPlanOf}
+use Rattle.lt_query.specs.Plan.{Keys, term_at, keys_under, levels_of, IsGuideOf, IsPlanOf}
 use Rattle.lt_query.specs.Lists.{IsRising}
-use Rattle.lt_join.specs.Explored.{Fits, before, IsPassed, with_key, Explored, hit_of, AreHits}
+use Rattle.lt_join.specs.Explored.{AgreeBelow, before, IsPassed, with_key, Explored, hit_of, AreHits}
+use Rattle.lt_join.proofs.Hopeless.{with_key_agrees}
 use Rattle.lt_join.proofs.Repair.{All_at, gap_row_covered, hit_row_covered, GapIsTight}
-
--- keys that are the same below a level
-abbrev pub AgreeBelow : ℕ → Keys → Keys → Type 0
-AgreeBelow l x y = (m : ℕ) → m < l → x m ≡ y m
 
 pub lies_at : (l lo hi : ℕ) (x y : Keys) (ls : List ℕ) → AgreeBelow l x y → IsRising ls → IsIn l ls → lo ≤ y l → y l < hi → lies_in (map x (before l ls)) lo hi (map y ls) ≡ true
 lies_at l lo hi x y [] agree rising at from below = absurd at
@@ -72,27 +64,6 @@ map_agree l x y (m ∷ places) agree h =
     let tail = map_agree l x y places agree h.1 in cc
 
 module _ (body : Body) (plan : Plan) (sense : Sense) (state : State) (tight : IsTight sense state) (a : Assignment) (held : holds a body ≡ true) where
-  all_tests : (tests : List Test) (test : Test) → list_all (passes a) tests ≡ true → IsIn test tests → passes a test ≡ true
-  all_tests [] test h at = absurd at
-  all_tests (t ∷ tests) test h at =
-      let both = and_parts (passes a t) (list_all (passes a) tests) h in
-      elim at [ inl e ↦ subst (λ u. passes a u ≡ true) e both.0 | inr r ↦ all_tests tests test both.1 r ]
-
-  pin_holds : (term : Term) (pin : ℕ) → IsPinOf body.tests term pin → pin ≡ cell_of a term
-  pin_holds (Cell c) pin h = sym h
-  pin_holds (Var v) pin h =
-      let tests_hold : list_all (passes a) body.tests ≡ true = (and_parts _ (list_all (passes a) body.tests) held).1 in
-      sym (eqb-true (a v) pin (all_tests body.tests (Cmp (Var v) Eq (Cell pin)) tests_hold h))
-
-  pub pins_fit : (term : Term) (pins : List ℕ) (k : ℕ) → cell_of a term ≡ k → AllByRecursion (IsPinOf body.tests term) pins → AllByRecursion (λ pin. pin ≡ k) pins
-  pins_fit term [] k e h = tt
-  pins_fit term (pin ∷ pins) k e h = (pin_holds term pin h.0 ∙ e, pins_fit term pins k e h.1)
-
-  ties_fit : (l : ℕ) (keys : Keys) (term : Term) (ties : List ℕ) (k : ℕ) → AgreeBelow l keys (keys_under a plan.levels) → cell_of a term ≡ k → AllByRecursion (λ m. (m < l) × (term_at plan.levels m ≡ term)) ties → AllByRecursion (λ m. keys m ≡ k) ties
-  ties_fit l keys term [] k agree e h = tt
-  ties_fit l keys term (m ∷ ties) k agree e h =
-      (agree m h.0.0 ∙ (ap (cell_of a) h.0.1 ∙ e), ties_fit l keys term ties k agree e h.1)
-
   missed_one : (l : ℕ) (keys : Keys) → AgreeBelow l keys (keys_under a plan.levels) → (atom : Atom) (guide : Guide) → IsGuideOf plan.levels atom guide → IsPassed sense l keys (keys_under a plan.levels l) guide → IsMissed sense state a atom
   missed_one l keys agree atom guide g p =
       let row : Row = cells_of a atom.terms in
@@ -149,34 +120,28 @@ module _ (body : Body) (plan : Plan) (sense : Sense) (state : State) (tight : Is
       ]
 
   -- where one level went for this assignment: past some atom's gap, or on under its key
-  pub followed_at : (of_body : IsPlanOf body plan) (l : ℕ) (level : Level) (keys : Keys) → l < length plan.levels → IsLevelOf body plan.levels l level → AgreeBelow l keys (keys_under a plan.levels)
-      → (On : ℕ → Type 0) → ((k : ℕ) → is_cell k ≡ true → AnyByRecursion (IsPassed sense l keys k) plan.guides ⊎ ((Fits level keys k → ⊥) ⊎ On k)) → AnyByRecursion (IsMissed sense state a) body.atoms ⊎ On (keys_under a plan.levels l)
-  followed_at of_body l level keys in_range is_level agree On each =
-      let k : ℕ = keys_under a plan.levels l in
+  pub followed_at : (of_body : IsPlanOf body plan) (l : ℕ) (keys : Keys) → l < length plan.levels → AgreeBelow l keys (keys_under a plan.levels)
+      → (On : ℕ → Type 0) → ((k : ℕ) → is_cell k ≡ true → AnyByRecursion (IsPassed sense l keys k) plan.guides ⊎ On k) → AnyByRecursion (IsMissed sense state a) body.atoms ⊎ On (keys_under a plan.levels l)
+  followed_at of_body l keys in_range agree On each =
       let holder = of_body.held l in_range in
-      let cell : is_cell k ≡ true = key_is_cell l holder.0 holder.2 body.atoms plan.guides of_body.guides (and_parts (list_all (λ row. list_all is_cell row) (rows_under a body.atoms)) (list_all (passes a) body.tests) held).0 holder.1 in
-      let term : cell_of a level.term ≡ k = ap (cell_of a) (sym is_level.term) in
-      elim (each k cell) [
+      let cell : is_cell (keys_under a plan.levels l) ≡ true = key_is_cell l holder.0 holder.2 body.atoms plan.guides of_body.guides (and_parts (list_all (λ row. list_all is_cell row) (rows_under a body.atoms)) (list_all (passes a) body.tests) held).0 holder.1 in
+      elim (each (keys_under a plan.levels l) cell) [
         | inl passed ↦ inl (missed_some l keys agree body.atoms plan.guides of_body.guides passed)
-        | inr other ↦ elim other [
-          | inl unfit ↦ absurd (unfit (pins_fit level.term level.pins k term is_level.pins, ties_fit l keys level.term level.ties k agree term is_level.ties))
-          | inr on ↦ inr on
-        ]
+        | inr on ↦ inr on
       ]
 
-  module _ (of_body : IsPlanOf body plan) (Leaf : Keys → Type 0) where
-    with_key_agrees : (l : ℕ) (keys : Keys) → AgreeBelow l keys (keys_under a plan.levels) → AgreeBelow (l + 1) (with_key keys l (keys_under a plan.levels l)) (keys_under a plan.levels)
-    with_key_agrees l keys agree m lt =
-        elim (m == l) as (λ b. (m == l) ≡ b → cond b (keys_under a plan.levels l) (keys m) ≡ keys_under a plan.levels m) [
-          | true ↦ λ same. ap (keys_under a plan.levels) (sym (eqb-true m l same))
-          | false ↦ λ other. let ne : m ≡ l → ⊥ = eqb-false m l other in agree m (omega arith)
-        ] refl
-
-    -- where the walk went for this assignment: past some atom's gap, or to a leaf
-    pub followed : (levels : List Level) (l : ℕ) (keys : Keys) → Explored sense plan.guides Leaf levels l keys → AreLevelsFrom body plan.levels l levels → AgreeBelow l keys (keys_under a plan.levels) → l + length levels ≡ length plan.levels → AnyByRecursion (IsMissed sense state a) body.atoms ⊎ ((leaf : Keys) × Leaf leaf × AgreeBelow (length plan.levels) leaf (keys_under a plan.levels))
-    followed [] l keys explored are agree e = inr (keys, explored, subst (λ n. AgreeBelow n keys (keys_under a plan.levels)) (let k : l ≡ length plan.levels = omega arith in k) agree)
-    followed (level ∷ levels) l keys explored are agree e =
-        elim (followed_at of_body l level keys (omega arith) are.0 agree (λ k. Explored sense plan.guides Leaf levels (l + 1) (with_key keys l k)) explored) [
+  module _ (of_body : IsPlanOf body plan) (Out : ℕ → Keys → Type 0) (Leaf : Keys → Type 0) where
+    -- where the walk went for this assignment: past some atom's gap, or to keys that it left out, or to a leaf
+    pub followed : (levels : List Level) (l : ℕ) (keys : Keys) → Explored sense plan.guides Out Leaf levels l keys → AgreeBelow l keys (keys_under a plan.levels) → l + length levels ≡ length plan.levels
+        → AnyByRecursion (IsMissed sense state a) body.atoms
+        ⊎ (((m : ℕ) × (out : Keys) × Out m out × AgreeBelow m out (keys_under a plan.levels)) ⊎ ((leaf : Keys) × Leaf leaf × AgreeBelow (length plan.levels) leaf (keys_under a plan.levels)))
+    followed [] l keys explored agree e = inr (inr (keys, explored, subst (λ n. AgreeBelow n keys (keys_under a plan.levels)) (let k : l ≡ length plan.levels = omega arith in k) agree))
+    followed (level ∷ levels) l keys explored agree e =
+        let under : AgreeBelow (l + 1) (with_key keys l (keys_under a plan.levels l)) (keys_under a plan.levels) = with_key_agrees plan.levels a l keys (keys_under a plan.levels l) agree refl in
+        elim (followed_at of_body l keys (omega arith) agree (λ k. Out (l + 1) (with_key keys l k) ⊎ Explored sense plan.guides Out Leaf levels (l + 1) (with_key keys l k)) explored) [
           | inl missed ↦ inl missed
-          | inr deeper ↦ followed levels (l + 1) (with_key keys l (keys_under a plan.levels l)) deeper are.1 (with_key_agrees l keys agree) (omega arith)
+          | inr went ↦ elim went [
+            | inl out ↦ inr (inl (l + 1, with_key keys l (keys_under a plan.levels l), out, under))
+            | inr deeper ↦ followed levels (l + 1) (with_key keys l (keys_under a plan.levels l)) deeper under (omega arith)
+          ]
         ]

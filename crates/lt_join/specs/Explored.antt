@@ -3,6 +3,8 @@ use Rattle.std.specs.Prelude.{◌≡◌, ℕ, ◌+◌, ◌<◌, ◌≤◌, true,
 use Rattle.std.specs.List.{AllByRecursion}
 use Rattle.lt_face.specs.Lists.{IsIn}
 use Rattle.lt_face.specs.State.{Row}
+use Rattle.lt_model.specs.declared.normal.Body.{Body}
+use Rattle.lt_model.specs.Answers.{Assignment, holds}
 use Rattle.lt_model.specs.Cells.{is_cell}
 use Rattle.lt_sense.specs.Kept.{Sense}
 use Rattle.lt_sense.specs.declared.covering.KeptGap.{KeptGap}
@@ -10,7 +12,7 @@ use Rattle.lt_sense.specs.declared.covering.Hit.{Hit}
 use Rattle.lt_face.specs.Lists.{AnyByRecursion}
 use Rattle.lt_query.specs.declared.plans.Level.{Level}
 use Rattle.lt_query.specs.declared.plans.Guide.{Guide}
-use Rattle.lt_query.specs.Plan.{Keys, levels_of}
+use Rattle.lt_query.specs.Plan.{Keys, keys_under, levels_of}
 
 -- the key is each pin, and the key of each tied level
 abbrev pub Fits : Level → Keys → ℕ → Type 0
@@ -40,12 +42,20 @@ pub record IsPassed (sense : Sense) (l : ℕ) (keys : Keys) (k : ℕ) (guide : G
 abbrev pub with_key : Keys → ℕ → ℕ → Keys
 with_key keys l k m = if m == l then k else keys m
 
--- each cell lies in a gap, or a pin or tie forbids it, or the levels below are explored under it
-abbrev pub Explored : Sense → List Guide → (Keys → Type 0) → List Level → ℕ → Keys → Type 0
-Explored sense guides Leaf [] l keys = Leaf keys
-Explored sense guides Leaf (level ∷ levels) l keys =
+-- keys that are the same below a level
+abbrev pub AgreeBelow : ℕ → Keys → Keys → Type 0
+AgreeBelow l x y = (m : ℕ) → m < l → x m ≡ y m
+
+-- nothing holds that has these keys at the levels before this one
+abbrev pub IsHopeless : Body → List Level → ℕ → Keys → Type 0
+IsHopeless body levels l keys = (a : Assignment) → AgreeBelow l keys (keys_under a levels) → holds a body ≡ true → ⊥
+
+-- each cell lies in a gap, or something else lets what has it be left out, or the levels below are explored under it
+abbrev pub Explored : Sense → List Guide → (ℕ → Keys → Type 0) → (Keys → Type 0) → List Level → ℕ → Keys → Type 0
+Explored sense guides Out Leaf [] l keys = Leaf keys
+Explored sense guides Out Leaf (level ∷ levels) l keys =
     (k : ℕ) → is_cell k ≡ true →
-    AnyByRecursion (IsPassed sense l keys k) guides ⊎ ((Fits level keys k → ⊥) ⊎ Explored sense guides Leaf levels (l + 1) (with_key keys l k))
+    AnyByRecursion (IsPassed sense l keys k) guides ⊎ (Out (l + 1) (with_key keys l k) ⊎ Explored sense guides Out Leaf levels (l + 1) (with_key keys l k))
 
 -- the row of an atom under the keys
 abbrev pub hit_of : Keys → Guide → Hit
@@ -59,7 +69,3 @@ AreHits sense guides keys = AllByRecursion (λ (guide : Guide). IsIn (hit_of key
 abbrev pub FitFrom : ℕ → List Level → Keys → Type 0
 FitFrom l [] keys = Unit {0}
 FitFrom l (level ∷ levels) keys = Fits level keys (keys l) × FitFrom (l + 1) levels keys
-
--- the prefixes of the iterators, one for each atom
-abbrev pub iterators_under : List Guide → Keys → ℕ → List Row
-iterators_under guides keys l = map (λ guide. prefix_at guide l keys) guides

@@ -7,6 +7,7 @@ use Rattle.lt_face.specs.State.{State}
 use Rattle.lt_leap.specs.Common.{has_key}
 use Rattle.lt_leap.specs.Places.{lists_at, heres_at, turned}
 use Rattle.lt_leap.specs.Potential.{moves_left, shortest}
+use Rattle.lt_model.specs.declared.normal.Body.{Body}
 use Rattle.lt_query.specs.declared.plans.Level.{Level}
 use Rattle.lt_query.specs.declared.plans.Guide.{Guide}
 use Rattle.lt_query.specs.declared.plans.Plan.{Plan}
@@ -101,8 +102,8 @@ pub record IsLevelAt (plan : Plan) (state : State) (keys : List ℕ) (places : L
 
 -- what a call that goes to the level's first or next key leaves: from this number on the level has no key before the one where it
 -- stands; at its end its iterators are where they stood above
-pub record HasGone (plan : Plan) (state : State) (old new : Sense) (keys : List ℕ) (level : Level) (places : List ℕ) (above atoms : List AtomView) (from given begun now key turn : ℕ) : Type 0 where
-  pub stands : StandsAt plan state old new keys level from key
+pub record HasGone (body : Body) (plan : Plan) (state : State) (old new : Sense) (keys : List ℕ) (level : Level) (places : List ℕ) (above atoms : List AtomView) (from given begun now key turn : ℕ) : Type 0 where
+  pub stands : StandsAt body plan state old new keys level from key
   pub cost : CostsAt plan state keys level given now (left_at level places atoms key turn) key
   pub gains : LevelGains (length (atoms_at plan.guides (length keys))) old new begun now key
   pub under : AreUnder keys old new

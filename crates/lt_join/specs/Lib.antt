@@ -18,3 +18,4 @@ pub mod Known
 pub mod Lone
 pub mod Told
 pub mod Way
+pub mod Narrowed

@@ -20,7 +20,7 @@ use Rattle.lt_join.specs.Sliced.{slice_keys, IsSliceOf, AreRooted, AreRootGaps}
 pub record AreSlicesOn (terms : List Term) (body : Body) (plan : Plan) (state : State) (root : Sense) (slices : List Slice) : Type 0 where
   pub ascending : IsRising (slice_keys slices)
   pub each : AllByRecursion (IsSliceOf terms body (term_at plan.levels 0) state) slices
-  pub rooted : AreRooted plan root (slice_keys slices)
+  pub rooted : AreRooted body plan root (slice_keys slices)
   pub tight : IsTight root state
   pub root_hits : root.hits ≡ []
   pub root_gaps : AreRootGaps root

@@ -47,10 +47,6 @@ pub record IsPartOf (terms : List Term) (body : Body) (state : State) (term : Te
   pub certified : CertifiesWithin sense body state term lo hi
   pub tight : IsTight sense state
 
--- the rows are the answers in the range: there is a sense that certifies them and is tight
-abbrev pub ArePartRows : List Term → Body → State → Term → ℕ → ℕ → List Row → Type 0
-ArePartRows terms body state term lo hi rows = (sense : Sense) × IsPartOf terms body state term lo hi rows sense
-
 -- there are at most so many gaps, and at most so many hits
 pub record IsAtMost (sense : Sense) (n : ℕ) : Type 0 where
   pub gaps : length sense.gaps ≤ n
@@ -58,10 +54,10 @@ pub record IsAtMost (sense : Sense) (n : ℕ) : Type 0 where
 
 -- ---- key by key
 
--- each cell of the range is one of the keys, or the sense has it in a gap of an atom at the first level, or a pin forbids it there
-abbrev pub AreRootedWithin : Plan → Sense → List ℕ → ℕ → ℕ → Type 0
-AreRootedWithin plan root keys lo hi =
-    (level : Level) → slice_get plan.levels 0 ≡ Some level → (k : ℕ) → is_cell k ≡ true → IsBetween lo hi k → IsIn k keys ⊎ IsSkipped plan root [] level k
+-- each cell of the range is one of the keys, or the sense has it in a gap of an atom at the first level, or nothing holds that has it
+-- there
+abbrev pub AreRootedWithin : Body → Plan → Sense → List ℕ → ℕ → ℕ → Type 0
+AreRootedWithin body plan root keys lo hi = (k : ℕ) → is_cell k ≡ true → IsBetween lo hi k → IsIn k keys ⊎ IsSkipped body plan root [] k
 
 -- the root gaps of a range, and the slices of the keys that were found in it, ascending
 pub record AreSlicesWithin (terms : List Term) (body : Body) (plan : Plan) (state : State) (lo hi : ℕ) (root : Sense) (slices : List Slice) : Type 0 where
@@ -69,7 +65,7 @@ pub record AreSlicesWithin (terms : List Term) (body : Body) (plan : Plan) (stat
   pub between : AllByRecursion (IsBetween lo hi) (slice_keys slices)
   pub each : AllByRecursion (IsSliceOf terms body (term_at plan.levels 0) state) slices
   pub found : AreFoundKeys plan state (slice_keys slices)
-  pub rooted : AreRootedWithin plan root (slice_keys slices) lo hi
+  pub rooted : AreRootedWithin body plan root (slice_keys slices) lo hi
   pub tight : IsTight root state
   pub root_hits : root.hits ≡ []
   pub root_gaps : AreRootGaps root

@@ -63,10 +63,9 @@ sliced_rows slices = flat_map (λ slice. slice.rows) slices
 
 -- ---- the first level
 
--- each cell is one of the keys, or the sense has it in a gap of an atom at the first level, or a pin forbids it there
-abbrev pub AreRooted : Plan → Sense → List ℕ → Type 0
-AreRooted plan root keys =
-    (level : Level) → slice_get plan.levels 0 ≡ Some level → (k : ℕ) → is_cell k ≡ true → IsIn k keys ⊎ IsSkipped plan root [] level k
+-- each cell is one of the keys, or the sense has it in a gap of an atom at the first level, or nothing holds that has it there
+abbrev pub AreRooted : Body → Plan → Sense → List ℕ → Type 0
+AreRooted body plan root keys = (k : ℕ) → is_cell k ≡ true → IsIn k keys ⊎ IsSkipped body plan root [] k
 
 -- its gaps are of the first level: no cells are above them
 abbrev pub AreRootGaps : Sense → Type 0

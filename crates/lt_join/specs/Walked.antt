@@ -1,5 +1,5 @@
 -- What a walk below some keys leaves.
-use Rattle.std.specs.Prelude.{◌≡◌, ℕ, ◌+◌, ◌-◌, ◌^◌, ◌<◌, ◌≤◌, true, List, [], ◌∷◌, length, slice_index, slice_get, drop, ◌⊎◌, if◌then◌else◌, Some, None, unwrap_or}
+use Rattle.std.specs.Prelude.{◌≡◌, ℕ, ◌+◌, ◌-◌, ◌^◌, ◌<◌, ◌≤◌, true, List, [], ◌∷◌, length, slice_index, slice_get, ◌⊎◌, if◌then◌else◌, Some, None, unwrap_or}
 use Rattle.std.specs.List.{AllByRecursion}
 use Rattle.lt_model.specs.declared.normal.Term.{Term}
 use Rattle.lt_model.specs.declared.normal.Body.{Body}
@@ -22,7 +22,7 @@ use Rattle.lt_query.specs.Plan.{Keys, term_at}
 use Rattle.lt_query.specs.Answering.{Stands, Lacks}
 use Rattle.lt_leap.specs.Common.{common_keys}
 use Rattle.lt_join.specs.Cost.{iterators_at}
-use Rattle.lt_join.specs.Explored.{Fits, IsPassed, Explored, hit_of, AreHits}
+use Rattle.lt_join.specs.Explored.{Fits, IsHopeless, IsPassed, hit_of, AreHits, with_key}
 
 abbrev pub at : List ℕ → Keys
 at keys l = slice_index keys l
@@ -86,21 +86,16 @@ pub record IsReached (plan : Plan) (sense : Sense) (keys : List ℕ) : Type 0 wh
   pub fit : (l : ℕ) (level : Level) → l < length keys → slice_get plan.levels l ≡ Some level → Fits level (at keys) (at keys l)
   pub hits : HitsAbove sense plan.guides keys
 
--- the levels below these keys are explored
-abbrev pub IsExploredBelow : {S : Type 0} → Body → Plan → List Term → Found S → List ℕ → Type 0
-IsExploredBelow body plan terms found keys =
-    Explored found.sense plan.guides (IsCollected body plan terms found) (drop (length keys) plan.levels) (length keys) (at keys)
-
--- the key lies in a gap of an atom, or a pin or tie forbids it
-abbrev pub IsSkipped : Plan → Sense → List ℕ → Level → ℕ → Type 0
-IsSkipped plan sense keys level k =
-    AnyByRecursion (IsPassed sense (length keys) (at keys) k) plan.guides ⊎ (Fits level (at keys) k → ⊥)
+-- the key lies in a gap of an atom, or nothing holds that has it below the keys
+abbrev pub IsSkipped : Body → Plan → Sense → List ℕ → ℕ → Type 0
+IsSkipped body plan sense keys k =
+    AnyByRecursion (IsPassed sense (length keys) (at keys) k) plan.guides ⊎ IsHopeless body plan.levels (length keys + 1) (with_key (at keys) (length keys) k)
 
 -- the level below the keys stands at a key that fits, or at its end, and what it went past is skipped
-pub record StandsAt (plan : Plan) (state : State) (old new : Sense) (keys : List ℕ) (level : Level) (from key : ℕ) : Type 0 where
+pub record StandsAt (body : Body) (plan : Plan) (state : State) (old new : Sense) (keys : List ℕ) (level : Level) (from key : ℕ) : Type 0 where
   pub grows : Grows old new
   pub tight : IsTight new state
-  pub skipped : (k : ℕ) → is_cell k ≡ true → from ≤ k → k < key → IsSkipped plan new keys level k
+  pub skipped : (k : ℕ) → is_cell k ≡ true → from ≤ k → k < key → IsSkipped body plan new keys k
   pub found : key < 2 ^ 128 - 1 → (is_cell key ≡ true) × Fits level (at keys) key
 
 -- the moves so far and those that the level may still make are within what was given, and the key is one of all iterators

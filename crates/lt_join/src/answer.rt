@@ -16,6 +16,7 @@ ghost use Rattle.lt_join.specs.Holders.{IsPrepared};
 use crate::Found;
 use crate::ascending::ascending;
 use crate::walk::{Walk, walk_all};
+use crate::wanted::wanted_by;
 use crate::way::Way;
 use lt_face::indexes::Indexes;
 use lt_face::items::RowList;
@@ -49,8 +50,9 @@ pub(crate) fn answers_prepared<I: Indexes, S: Senses, L>(
     ensures cost { moves.new ≤ moves.old + bound body.now plan.now (I.state indexes.now) }
     ensures moves { moves.old ≤ moves.new }
 {
-    let way = Way::new(alloc, indexes, body, plan, terms.as_slice(), false)?;
-    let mut walk = Walk::new(alloc);
+    let wanted = plan.levels.len();
+    let way = Way::new(alloc, indexes, body, plan, terms.as_slice(), false, wanted)?;
+    let mut walk: Walk<S> = Walk::new(alloc);
     walk_all(&way, &mut walk, moves)?;
     let Found { sense, rows } = walk.found;
     let rows = ascending(rows.into_vec())?;
@@ -124,9 +126,11 @@ pub fn answers_alone<I: Indexes, L>(
     ensures cost { moves.new ≤ moves.old + bound body.now plan.now (I.state indexes.now) }
     ensures moves { moves.old ≤ moves.new }
 {
-    let (rows, _sense): (RowList, NoSense) = answers_prepared(
-        alloc, body, plan, terms, indexes, moves,
-    )?;
+    let wanted = wanted_by(plan.levels.as_slice(), terms.as_slice());
+    let way = Way::new(alloc, indexes, body, plan, terms.as_slice(), false, wanted)?;
+    let mut walk: Walk<NoSense> = Walk::new(alloc);
+    walk_all(&way, &mut walk, moves)?;
+    let rows = ascending(walk.found.rows.into_vec())?;
     Ok(rows)
 }
 
@@ -148,7 +152,7 @@ fn some_sensed<I: Indexes, S: Senses, L>(
     ensures cost { moves.new ≤ moves.old + bound body.now plan.now (I.state indexes.now) }
     ensures moves { moves.old ≤ moves.new }
 {
-    let way = Way::new(alloc, indexes, body, plan, &[], true)?;
+    let way = Way::new(alloc, indexes, body, plan, &[], true, 0)?;
     let mut walk = Walk::new(alloc);
     let truth = walk_all(&way, &mut walk, moves)?;
     Ok((truth, walk.found.sense.into_senses()))

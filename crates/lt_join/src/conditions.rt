@@ -12,7 +12,7 @@ use lt_model::normal::{Term, Test};
 use lt_model::syntax::Op;
 use lt_values::{difference, sum};
 
-fn compare(op: Op, x: Key, y: Key) -> bool
+pub(crate) fn compare(op: Op, x: Key, y: Key) -> bool
     ensures { result ≡ compare_by op x y }
 {
     match op {
@@ -26,7 +26,7 @@ fn compare(op: Op, x: Key, y: Key) -> bool
 }
 
 /// The value of the right side of a sum, or with a minus of a difference, where it has one.
-fn sum_of(minus: bool, x: Key, y: Key) -> Option<Key>
+pub(crate) fn sum_of(minus: bool, x: Key, y: Key) -> Option<Key>
     ensures { result ≡ sum_value minus x y }
 {
     if minus { difference(x, y) } else { sum(x, y) }

@@ -1,5 +1,5 @@
 //! One level of a walk: the iterators of the atoms that hold it are opened there, and joined by a leapfrog.
-ghost use Rattle.std.specs.Prelude.{◌≡◌, ◌≢◌, ◌+◌, ◌<◌, ◌≤◌, ◌^◌, ◌++◌, ℕ, [], ◌∷◌, true, false, List, length, map, slice_get, Some, IfOk};
+ghost use Rattle.std.specs.Prelude.{◌≡◌, ◌≢◌, ◌+◌, ◌<◌, ◌≤◌, ◌^◌, ◌++◌, ◌⊎◌, ℕ, [], ◌∷◌, true, false, List, length, map, slice_get, Some, IfOk};
 ghost use Rattle.std.specs.List.{AllByRecursion};
 ghost use Rattle.lt_face.specs.Keys.{end_key};
 ghost use Rattle.lt_face.specs.Lists.{IsIn};
@@ -15,10 +15,12 @@ ghost use Rattle.lt_join.specs.Holders.{IsUsable, atoms_at};
 ghost use Rattle.lt_join.specs.Known.{IsKnown};
 ghost use Rattle.lt_join.specs.Level.{AreAtomsAt, AreOpened, AreSensed, HasGone, HoldsAt, IsLevelAt, IsOpenedFrom, RiseFrom, heres_of, is_lone, left_at, lists_of};
 ghost use Rattle.lt_join.specs.Lone.{IsAsked, IsLeftBy};
+ghost use Rattle.lt_join.specs.Narrowed.{Leaves};
 ghost use Rattle.lt_join.specs.Values.{values_in};
 ghost use Rattle.lt_join.specs.Walked.{at};
 
 use crate::atom_iter::AtomIter;
+use crate::narrowing::KeyRange;
 use crate::path::Path;
 use crate::values::Values;
 use crate::way::Way;
@@ -93,7 +95,7 @@ fn asked_of(levels: &[Level], level: &Level, values: &Values, keys: &Path) -> As
 
 /// Brings the iterators at these places, which were opened, back to where they stood.
 #[inline]
-fn close<'a, R: RowReads>(iters: &mut [AtomIter<'a, R>], places: &[usize])
+pub(crate) fn close<'a, R: RowReads>(iters: &mut [AtomIter<'a, R>], places: &[usize])
     requires places { ArePlaces places.now (length iters.old) }
     requires opened { (above : List AtomView) × AreOpened places.now above iters.old }
     ensures { (above : List AtomView) → AreOpened places.now above iters.old → iters.new ≡ above }
@@ -218,22 +220,26 @@ fn ended() -> Meeting
     Meeting { key: END, turn: 0 }
 }
 
-/// Opens the level below the keys, where it has neither pin nor tie, and goes to its first key at or above the bound, or to `END`.
+/// Opens the level below the keys, where it has neither pin nor tie, and goes to its first key at or above the bound, or to `END`. What
+/// lies before the range may be left out, and what lies behind it is.
 #[inline]
 fn open_joined<'a, I: Indexes, S: Senses, L>(
     way: &Way<'a, I>,
     iters: &mut [AtomIter<'a, I::Rows>],
     keys: &Path,
     from: Key,
+    range: KeyRange,
     sense: &mut Sensed<S>,
     moves: &mut Moves<L>,
 ) -> Result<Meeting, NoMemory>
     requires iters { AreAtomsAt way.now.plan way.now.state keys.now iters.old }
     requires held { 0 < length (atoms_at way.now.plan.guides (length keys.now)) }
+    requires leaves { Leaves way.now.body way.now.plan.levels keys.now range }
     requires tight { IsTight sense.old way.now.state }
     requires bound { from ≤ 2 ^ 120 }
+    requires low { range.lo ≤ 2 ^ 120 }
     ensures gone { IfOk result (λ met. (level : LevelView) → is_lone level ≡ false
-        → HasGone way.now.plan way.now.state sense.old sense.new keys.now level (atoms_at_level way.now.plan.guides (length keys.now)) iters.old iters.new from
+        → HasGone way.now.body way.now.plan way.now.state sense.old sense.new keys.now level (atoms_at_level way.now.plan.guides (length keys.now)) iters.old iters.new from
         (moves.old + join_cost (iterators_at way.now.state way.now.plan.guides level (length keys.now) (at keys.now))) moves.old moves.new met.key met.turn) }
     // also where memory is refused
     ensures within { (level : LevelView) → is_lone level ≡ false
@@ -241,24 +247,37 @@ fn open_joined<'a, I: Indexes, S: Senses, L>(
     ensures moves { moves.old ≤ moves.new }
 {
     let places = way.plan.guides.at_level(keys.len());
-    let greatest = open_rising(way, iters, keys, from, sense, moves)?;
+    let begin = later(from, S::opens_at(range.lo));
+    let greatest = open_rising(way, iters, keys, begin, sense, moves)?;
     if greatest == END {
         return Ok(ended());
     }
-    let met = meet(iters, places, 0, sense, moves)?;
-    if met.key == END {
+    let met = meet(iters, places, 0, range.hi, sense, moves)?;
+    if met.key >= range.hi {
         close(iters, places);
         return Ok(ended());
     }
     Ok(met)
 }
 
-/// Opens the level below the keys, and goes to its first key at or above the bound, or to `END`.
+/// The later of two keys.
+#[inline]
+fn later(a: Key, b: Key) -> Key
+    ensures first { a ≤ result }
+    ensures second { b ≤ result }
+    ensures one { (result ≡ a) ⊎ (result ≡ b) }
+{
+    if a < b { b } else { a }
+}
+
+/// Opens the level below the keys, and goes to its first key at or above the bound, or to `END`. What lies before the range may be left
+/// out, and what lies behind it is.
 pub(crate) fn open<'a, I: Indexes, S: Senses, L>(
     way: &Way<'a, I>,
     iters: &mut [AtomIter<'a, I::Rows>],
     keys: &Path,
     from: Key,
+    range: KeyRange,
     values: &Values,
     sense: &mut Sensed<S>,
     moves: &mut Moves<L>,
@@ -266,10 +285,12 @@ pub(crate) fn open<'a, I: Indexes, S: Senses, L>(
     requires iters { AreAtomsAt way.now.plan way.now.state keys.now iters.old }
     requires known { IsKnown way.now.plan.levels keys.now (values_in values.now.cells) }
     requires usable { (level : LevelView) × (slice_get way.now.plan.levels (length keys.now) ≡ Some level) × IsUsable way.now.plan.guides level keys.now }
+    requires leaves { Leaves way.now.body way.now.plan.levels keys.now range }
     requires tight { IsTight sense.old way.now.state }
     requires bound { from ≤ 2 ^ 120 }
+    requires low { range.lo ≤ 2 ^ 120 }
     ensures gone { IfOk result (λ met. (level : LevelView) → slice_get way.now.plan.levels (length keys.now) ≡ Some level
-        → HasGone way.now.plan way.now.state sense.old sense.new keys.now level (atoms_at_level way.now.plan.guides (length keys.now)) iters.old iters.new from
+        → HasGone way.now.body way.now.plan way.now.state sense.old sense.new keys.now level (atoms_at_level way.now.plan.guides (length keys.now)) iters.old iters.new from
         (moves.old + join_cost (iterators_at way.now.state way.now.plan.guides level (length keys.now) (at keys.now))) moves.old moves.new met.key met.turn) }
     // also where memory is refused
     ensures within { (level : LevelView) → slice_get way.now.plan.levels (length keys.now) ≡ Some level
@@ -278,7 +299,7 @@ pub(crate) fn open<'a, I: Indexes, S: Senses, L>(
 {
     let levels = way.plan.levels.as_slice();
     match asked_of(levels, &levels[keys.len()], values, keys) {
-        Asked::Any => open_joined(way, iters, keys, from, sense, moves),
+        Asked::Any => open_joined(way, iters, keys, from, range, sense, moves),
         Asked::One(key) => {
             if key < from {
                 return Ok(ended());
@@ -293,23 +314,63 @@ pub(crate) fn open<'a, I: Indexes, S: Senses, L>(
     }
 }
 
-/// Goes to the level's next key, or to `END`. Where a pin or a tie sits, none can follow.
+/// Goes on to the level's first key at or above the bound, where it has neither pin nor tie, or to `END`. What lies behind the range is
+/// left out.
+#[inline]
+fn go_on<'a, I: Indexes, S: Senses, L>(
+    way: &Way<'a, I>,
+    iters: &mut [AtomIter<'a, I::Rows>],
+    keys: &Path,
+    met: Meeting,
+    to: Key,
+    range: KeyRange,
+    sense: &mut Sensed<S>,
+    moves: &mut Moves<L>,
+) -> Result<Meeting, NoMemory>
+    requires at { (above : List AtomView) × IsLevelAt way.now.plan way.now.state keys.now (atoms_at_level way.now.plan.guides (length keys.now)) above iters.old met.key met.turn }
+    requires ahead { met.key < to }
+    requires bound { to ≤ 2 ^ 120 }
+    requires leaves { Leaves way.now.body way.now.plan.levels keys.now range }
+    requires tight { IsTight sense.old way.now.state }
+    ensures gone { IfOk result (λ next. (level : LevelView) → slice_get way.now.plan.levels (length keys.now) ≡ Some level → is_lone level ≡ false → (above : List AtomView)
+        → IsLevelAt way.now.plan way.now.state keys.now (atoms_at_level way.now.plan.guides (length keys.now)) above iters.old met.key met.turn
+        → HasGone way.now.body way.now.plan way.now.state sense.old sense.new keys.now level (atoms_at_level way.now.plan.guides (length keys.now)) above iters.new to
+        (moves.old + left_at level (atoms_at_level way.now.plan.guides (length keys.now)) iters.old met.key met.turn) moves.old moves.new next.key next.turn) }
+    // also where memory is refused
+    ensures within { (level : LevelView) → slice_get way.now.plan.levels (length keys.now) ≡ Some level → is_lone level ≡ false
+        → moves.new ≤ moves.old + left_at level (atoms_at_level way.now.plan.guides (length keys.now)) iters.old met.key met.turn }
+    ensures moves { moves.old ≤ moves.new }
+{
+    let places = way.plan.guides.at_level(keys.len());
+    let next = meet_from(iters, places, met.turn, to, range.hi, sense, moves)?;
+    if next.key >= range.hi {
+        close(iters, places);
+        return Ok(ended());
+    }
+    Ok(next)
+}
+
+/// Goes to the level's next key, or to `END`; where that lies before the range, on to the range. Where a pin or a tie sits, none can
+/// follow.
 pub(crate) fn next_key<'a, I: Indexes, S: Senses, L>(
     way: &Way<'a, I>,
     iters: &mut [AtomIter<'a, I::Rows>],
     keys: &Path,
     met: Meeting,
+    range: KeyRange,
     sense: &mut Sensed<S>,
     moves: &mut Moves<L>,
 ) -> Result<Meeting, NoMemory>
     requires usable { (level : LevelView) × (slice_get way.now.plan.levels (length keys.now) ≡ Some level) × IsUsable way.now.plan.guides level keys.now }
     requires at { (above : List AtomView) × IsLevelAt way.now.plan way.now.state keys.now (atoms_at_level way.now.plan.guides (length keys.now)) above iters.old met.key met.turn }
     requires low { met.key < 2 ^ 120 }
+    requires leaves { Leaves way.now.body way.now.plan.levels keys.now range }
+    requires ahead { range.lo ≤ 2 ^ 120 }
     requires tight { IsTight sense.old way.now.state }
     ensures gone { IfOk result (λ next. (level : LevelView) → slice_get way.now.plan.levels (length keys.now) ≡ Some level → (above : List AtomView)
         → IsLevelAt way.now.plan way.now.state keys.now (atoms_at_level way.now.plan.guides (length keys.now)) above iters.old met.key met.turn
         → Fits level (at keys.now) met.key
-        → HasGone way.now.plan way.now.state sense.old sense.new keys.now level (atoms_at_level way.now.plan.guides (length keys.now)) above iters.new (met.key + 1)
+        → HasGone way.now.body way.now.plan way.now.state sense.old sense.new keys.now level (atoms_at_level way.now.plan.guides (length keys.now)) above iters.new (met.key + 1)
         (moves.old + left_at level (atoms_at_level way.now.plan.guides (length keys.now)) iters.old met.key met.turn) moves.old moves.new next.key next.turn) }
     // also where memory is refused
     ensures within { (level : LevelView) → slice_get way.now.plan.levels (length keys.now) ≡ Some level
@@ -322,10 +383,13 @@ pub(crate) fn next_key<'a, I: Indexes, S: Senses, L>(
         close(iters, places);
         return Ok(ended());
     }
-    let next = meet_from(iters, places, met.turn, met.key + 1, sense, moves)?;
-    if next.key == END {
+    let next = meet_from(iters, places, met.turn, met.key + 1, range.hi, sense, moves)?;
+    if next.key >= range.hi {
         close(iters, places);
         return Ok(ended());
+    }
+    if S::opens_at(range.lo) < range.lo && next.key < range.lo {
+        return go_on(way, iters, keys, next, range.lo, range, sense, moves);
     }
     Ok(next)
 }

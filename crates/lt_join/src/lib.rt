@@ -7,6 +7,7 @@ mod atom_iter;
 mod bounds;
 pub mod conditions;
 mod covering;
+mod hints;
 mod leaf;
 mod level;
 mod looking_up;
@@ -18,15 +19,16 @@ mod mending_plan;
 mod mending_read;
 mod mending_shared;
 mod mending_touched;
+mod narrowing;
 mod parts;
 mod path;
 mod ranging;
 mod slicing;
 mod splitting;
-mod splitting_alone;
 mod splitting_slices;
 pub mod values;
 mod walk;
+mod wanted;
 mod way;
 
 pub use answer::{answers, answers_alone, answers_unsealed, some, some_alone, some_unsealed};
@@ -40,9 +42,8 @@ pub use mending_read::{rows_of_slices, spot_in};
 pub use mending_shared::{SharedSlice, SharedSlices};
 pub use mending_touched::touched_keys;
 pub use slicing::{Slice, slices, slices_make_the_whole, slices_unsealed};
-pub use splitting::{answers_split, answers_split_unsealed};
-pub use splitting_alone::answers_split_alone;
-pub use splitting_slices::{slices_split, slices_split_unsealed};
+pub use splitting::{answers_split, answers_split_alone};
+pub use splitting_slices::slices_split;
 
 /// What a walk has found so far: what it sensed, and rows that are answers.
 #[derive(Drop)]

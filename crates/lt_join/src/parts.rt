@@ -20,16 +20,13 @@ use std::alloc::Global;
 use std::sync::Wait;
 use std::thread::{Threads, join};
 
-/// A way to join for a range of keys.
-pub(crate) trait Ranged {
-    /// What is found of a range.
-    type Found: Drop;
-
+/// A way to find something of a range of keys by a join.
+pub(crate) trait Ranged<F: Drop> {
     /// What was found is that of the range from one key to below another.
-    ghost is_found: { Self → List TermView → BodyView → PlanView → State → ℕ → ℕ → Self.Found → Type 0 };
+    ghost is_found: { Self → List TermView → BodyView → PlanView → State → ℕ → ℕ → F → Type 0 };
 
     /// What was found is no more than so many moves pay.
-    ghost is_paid: { Self.Found → ℕ → Type 0 };
+    ghost is_paid: { F → ℕ → Type 0 };
 
     /// Joins for the keys from `lo` to below `hi`.
     fn find<I: Indexes, L>(
@@ -42,7 +39,7 @@ pub(crate) trait Ranged {
         lo: Key,
         hi: Key,
         moves: &mut Moves<L>,
-    ) -> Result<Self::Found, NoMemory>
+    ) -> Result<F, NoMemory>
         requires ready { IsJoinable (I.state indexes.now) (I.has_index indexes.now) body.now plan.now terms.now }
         requires bound { lo ≤ 2 ^ 120 }
         ensures found { IfOk result (is_found self.now terms.now body.now plan.now (I.state indexes.now) lo hi) }
@@ -52,7 +49,7 @@ pub(crate) trait Ranged {
         ensures moves { moves.old ≤ moves.new };
 
     /// What was found of a range and of the next as that of both.
-    fn unite(&self, one: Self::Found, next: Self::Found) -> Result<Self::Found, NoMemory>
+    fn unite(&self, one: F, next: F) -> Result<F, NoMemory>
         ensures found { IfOk result (λ both. (terms : List TermView) (body : BodyView) (plan : PlanView) (state : State) (lo mid hi : ℕ) → lo ≤ mid → mid ≤ hi → is_found self.now terms body plan state lo mid one → is_found self.now terms body plan state mid hi next → is_found self.now terms body plan state lo hi both) }
         ensures paid { IfOk result (λ both. (m n : ℕ) → is_paid one m → is_paid next n → is_paid both (m + n)) };
 }
@@ -65,7 +62,7 @@ pub(crate) struct Part<F, L> {
 }
 
 /// Joins for one range, whose number it passes the gate with.
-fn find_part<R: Wait, I: Indexes, W: Ranged, G: Gate, L>(
+fn find_part<R: Wait, I: Indexes, W: Ranged<F>, F: Drop, G: Gate, L>(
     rt: &R,
     way: &W,
     alloc: Global,
@@ -76,7 +73,7 @@ fn find_part<R: Wait, I: Indexes, W: Ranged, G: Gate, L>(
     bounds: &[Key],
     number: usize,
     gate: &G,
-) -> Part<W::Found, L>
+) -> Part<F, L>
     requires ready { IsJoinable (I.state indexes.now) (I.has_index indexes.now) body.now plan.now terms.now }
     requires bounds { AreBounds bounds.now }
     requires within { number + 1 < length bounds.now }
@@ -101,11 +98,11 @@ fn find_part<R: Wait, I: Indexes, W: Ranged, G: Gate, L>(
 }
 
 /// What was found of two ranges as that of both, where both were.
-fn both<W: Ranged>(
+fn both<W: Ranged<F>, F: Drop>(
     way: &W,
-    one: Result<W::Found, NoMemory>,
-    next: Result<W::Found, NoMemory>,
-) -> Result<W::Found, NoMemory>
+    one: Result<F, NoMemory>,
+    next: Result<F, NoMemory>,
+) -> Result<F, NoMemory>
     ensures found { (terms : List TermView) (body : BodyView) (plan : PlanView) (state : State) (lo mid hi : ℕ) → lo ≤ mid → mid ≤ hi → IfOk one (W.is_found way.now terms body plan state lo mid) → IfOk next (W.is_found way.now terms body plan state mid hi) → IfOk result (W.is_found way.now terms body plan state lo hi) }
     ensures paid { (m n : ℕ) → IfOk one (λ found. W.is_paid found m) → IfOk next (λ found. W.is_paid found n) → IfOk result (λ found. W.is_paid found (m + n)) }
 {
@@ -115,11 +112,7 @@ fn both<W: Ranged>(
 }
 
 /// What two parts found, and their moves, together.
-fn united<W: Ranged, L>(
-    way: &W,
-    one: Part<W::Found, L>,
-    next: Part<W::Found, L>,
-) -> Part<W::Found, L>
+fn united<W: Ranged<F>, F: Drop, L>(way: &W, one: Part<F, L>, next: Part<F, L>) -> Part<F, L>
     ensures found { (terms : List TermView) (body : BodyView) (plan : PlanView) (state : State) (lo mid hi : ℕ) → lo ≤ mid → mid ≤ hi → IfOk one.found (W.is_found way.now terms body plan state lo mid) → IfOk next.found (W.is_found way.now terms body plan state mid hi) → IfOk result.found (W.is_found way.now terms body plan state lo hi) }
     ensures paid { IfOk one.found (λ found. W.is_paid found one.moves) → IfOk next.found (λ found. W.is_paid found next.moves) → IfOk result.found (λ found. W.is_paid found result.moves) }
     ensures moves { result.moves ≡ one.moves + next.moves }
@@ -138,7 +131,7 @@ pub(crate) fn find_parts<
     R: Threads + Wait + Sync,
     L: Send,
     I: Indexes + Sync,
-    W: Ranged<Found = F> + Sync,
+    W: Ranged<F> + Sync,
     F: Send + Drop,
     G: Gate,
 >(
@@ -166,7 +159,7 @@ where
     ensures cost { result.moves ≤ (end - first) * bound body.now plan.now (I.state indexes.now) }
 {
     if end - first < 2 {
-        return find_part::<R, I, W, G, L>(
+        return find_part::<R, I, W, F, G, L>(
             rt, way, alloc, body, plan, terms, indexes, bounds, first, gate,
         );
     }
@@ -198,7 +191,7 @@ pub(crate) fn find_whole<
     R: Threads + Wait + Sync,
     L: Send,
     I: Indexes + Sync,
-    W: Ranged<Found = F> + Sync,
+    W: Ranged<F> + Sync,
     F: Send + Drop,
     G: Gate,
 >(

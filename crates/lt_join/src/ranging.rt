@@ -35,6 +35,7 @@ fn explore_keys<'a, I: Indexes, S: Senses, L>(
 ) -> Result<Found<S>, NoMemory>
     requires iters { AreAtomsAt way.now.plan way.now.state [] iters.old }
     requires all { way.now.first ≡ false }
+    requires whole { length way.now.plan.levels ≤ way.now.wanted }
     requires has_levels { 0 < length way.now.plan.levels }
     requires tests { AreTestsBound way.now.body }
     requires heads { IsTrue (are_bound way.now.body way.now.terms) }
@@ -47,18 +48,20 @@ fn explore_keys<'a, I: Indexes, S: Senses, L>(
 {
     let mut walk = Walk::new(way.alloc);
     let mut keys = Path::root();
+    let range = way.range_below(&keys, &walk.values);
     let mut met = open(
         way,
         iters,
         &keys,
         lo,
+        range,
         &walk.values,
         &mut walk.found.sense,
         moves,
     )?;
     while met.key < hi {
         explore_key(way, iters, &mut keys, met.key, &mut walk, moves)?;
-        met = next_key(way, iters, &keys, met, &mut walk.found.sense, moves)?;
+        met = next_key(way, iters, &keys, met, range, &mut walk.found.sense, moves)?;
     }
     Ok(walk.found)
 }
@@ -88,7 +91,8 @@ pub(crate) fn explore_range<I: Indexes, S: Senses, L>(
     ensures cost { moves.new ≤ moves.old + bound body.now plan.now (I.state indexes.now) }
     ensures moves { moves.old ≤ moves.new }
 {
-    let way = Way::new(alloc, indexes, body, plan, terms.as_slice(), false)?;
+    let wanted = plan.levels.len();
+    let way = Way::new(alloc, indexes, body, plan, terms.as_slice(), false, wanted)?;
     let mut iters = way.iters()?;
     explore_keys(&way, &mut iters, lo, hi, moves)
 }

@@ -91,6 +91,7 @@ fn slice_at<'a, I: Indexes, L>(
 ) -> Result<Slice, NoMemory>
     requires at_root { keys.old ≡ [] }
     requires all { way.now.first ≡ false }
+    requires whole { length way.now.plan.levels ≤ way.now.wanted }
     requires has_levels { 0 < length way.now.plan.levels }
     requires tests { AreTestsBound way.now.body }
     requires heads { IsTrue (are_bound way.now.body way.now.terms) }
@@ -134,6 +135,7 @@ fn gather_keys<'a, I: Indexes, L>(
 ) -> Result<Gathered, NoMemory>
     requires iters { AreAtomsAt way.now.plan way.now.state [] iters.old }
     requires all { way.now.first ≡ false }
+    requires whole { length way.now.plan.levels ≤ way.now.wanted }
     requires has_levels { 0 < length way.now.plan.levels }
     requires tests { AreTestsBound way.now.body }
     requires heads { IsTrue (are_bound way.now.body way.now.terms) }
@@ -149,12 +151,13 @@ fn gather_keys<'a, I: Indexes, L>(
     let mut slices = Items::new(way.alloc);
     let mut keys = Path::root();
     let values = Values::none();
-    let mut met = open(way, iters, &keys, lo, &values, &mut root, moves)?;
+    let range = way.range_below(&keys, &values);
+    let mut met = open(way, iters, &keys, lo, range, &values, &mut root, moves)?;
     while met.key < hi {
         let slice = slice_at(way, iters, &mut keys, met.key, moves, sealing)?;
         let shared = SharedSlice::new(way.alloc, slice)?;
         slices.push(shared)?;
-        met = next_key(way, iters, &keys, met, &mut root, moves)?;
+        met = next_key(way, iters, &keys, met, range, &mut root, moves)?;
     }
     let root = root.into_senses();
     Ok(Gathered { root, slices })
@@ -181,7 +184,8 @@ pub(crate) fn gather_range<I: Indexes, L>(
     ensures cost { moves.new ≤ moves.old + bound body.now plan.now (I.state indexes.now) }
     ensures moves { moves.old ≤ moves.new }
 {
-    let way = Way::new(alloc, indexes, body, plan, terms.as_slice(), false)?;
+    let wanted = plan.levels.len();
+    let way = Way::new(alloc, indexes, body, plan, terms.as_slice(), false, wanted)?;
     let mut iters = way.iters()?;
     gather_keys(&way, &mut iters, lo, hi, moves, sealing)
 }
@@ -212,7 +216,7 @@ pub(crate) fn gather_slices<I: Indexes, L>(
     ensures ascending { IfOk result (λ found. IsRising (slice_keys found.1)) }
     ensures slices { IfOk result (λ found. AllByRecursion (IsSliceOf terms.now body.now (term_at plan.now.levels 0) (I.state indexes.now)) found.1) }
     ensures found { IfOk result (λ found. AreFoundKeys plan.now (I.state indexes.now) (slice_keys found.1)) }
-    ensures rooted { IfOk result (λ found. AreRooted plan.now found.0 (slice_keys found.1)) }
+    ensures rooted { IfOk result (λ found. AreRooted body.now plan.now found.0 (slice_keys found.1)) }
     ensures root_gaps { IfOk result (λ found. AreRootGaps found.0) }
     ensures root_hits { IfOk result (λ found. found.0.hits ≡ []) }
     ensures rows { IfOk result (λ found. ascending_rows (sliced_rows found.1) ≡ answers_of terms.now body.now (I.state indexes.now)) }
@@ -245,7 +249,7 @@ pub fn slices_unsealed<I: Indexes, L>(
     ensures ascending { IfOk result (λ found. IsRising (slice_keys found.1)) }
     ensures slices { IfOk result (λ found. AllByRecursion (IsSliceOf terms.now body.now (term_at plan.now.levels 0) (I.state indexes.now)) found.1) }
     ensures found { IfOk result (λ found. AreFoundKeys plan.now (I.state indexes.now) (slice_keys found.1)) }
-    ensures rooted { IfOk result (λ found. AreRooted plan.now found.0 (slice_keys found.1)) }
+    ensures rooted { IfOk result (λ found. AreRooted body.now plan.now found.0 (slice_keys found.1)) }
     ensures root_gaps { IfOk result (λ found. AreRootGaps found.0) }
     ensures root_hits { IfOk result (λ found. found.0.hits ≡ []) }
     ensures rows { IfOk result (λ found. ascending_rows (sliced_rows found.1) ≡ answers_of terms.now body.now (I.state indexes.now)) }
@@ -276,7 +280,7 @@ pub fn slices<I: Indexes, L>(
     ensures ascending { IfOk result (λ found. IsRising (slice_keys found.1)) }
     ensures slices { IfOk result (λ found. AllByRecursion (IsSliceOf terms.now body.now (term_at plan.now.levels 0) (I.state indexes.now)) found.1) }
     ensures found { IfOk result (λ found. AreFoundKeys plan.now (I.state indexes.now) (slice_keys found.1)) }
-    ensures rooted { IfOk result (λ found. AreRooted plan.now found.0 (slice_keys found.1)) }
+    ensures rooted { IfOk result (λ found. AreRooted body.now plan.now found.0 (slice_keys found.1)) }
     ensures root_gaps { IfOk result (λ found. AreRootGaps found.0) }
     ensures root_hits { IfOk result (λ found. found.0.hits ≡ []) }
     ensures rows { IfOk result (λ found. ascending_rows (sliced_rows found.1) ≡ answers_of terms.now body.now (I.state indexes.now)) }

@@ -1,5 +1,5 @@
 //! The answers of a body, key by key of its first variable, by ranges of these keys.
-ghost use Rattle.std.specs.Prelude.{◌≡◌, ◌<◌, ◌≤◌, ◌+◌, ◌*◌, [], true, length, IfOk};
+ghost use Rattle.std.specs.Prelude.{◌≡◌, ◌<◌, ◌≤◌, ◌+◌, ◌*◌, [], length, IfOk};
 ghost use Rattle.std.specs.List.{AllByRecursion};
 ghost use Rattle.lt_model.specs.Answers.{answers as answers_of, ascending as ascending_rows};
 ghost use Rattle.lt_query.specs.Lists.{IsRising};
@@ -25,22 +25,17 @@ use std::alloc::Global;
 use std::sync::Wait;
 use std::thread::Threads;
 
-/// The way to join for slices, whose senses are put in order where that is asked for.
+/// The way to join for slices, whose senses are sealed.
 #[derive(Drop)]
-pub(crate) struct Slicing {
-    sealing: bool,
-}
+pub(crate) struct Slicing;
 
-impl Ranged for Slicing {
-    ghost use Rattle.std.specs.Prelude.{◌≡◌, true};
+impl Ranged<Gathered> for Slicing {
     ghost use Rattle.std.specs.List.{AllByRecursion};
     ghost use Rattle.lt_sense.specs.Ordered.{IsSealed};
     ghost use Rattle.lt_join.specs.Parts.{IsAtMost, AreSlicesWithin};
     ghost use Rattle.lt_join.specs.Sliced.{united};
 
-    type Found = Gathered;
-
-    ghost is_found = { λ way terms body plan state lo hi found. AreSlicesWithin terms body plan state lo hi found.root found.slices × (way.sealing ≡ true → AllByRecursion (λ slice. IsSealed slice.sense) found.slices) };
+    ghost is_found = { λ way terms body plan state lo hi found. AreSlicesWithin terms body plan state lo hi found.root found.slices × AllByRecursion (λ slice. IsSealed slice.sense) found.slices };
 
     ghost is_paid = { λ found n. IsAtMost (united found.root found.slices) n };
 
@@ -55,17 +50,7 @@ impl Ranged for Slicing {
         hi: Key,
         moves: &mut Moves<L>,
     ) -> Result<Gathered, NoMemory> {
-        let found = gather_range(
-            alloc,
-            body,
-            plan,
-            terms,
-            indexes,
-            lo,
-            hi,
-            moves,
-            self.sealing,
-        )?;
+        let found = gather_range(alloc, body, plan, terms, indexes, lo, hi, moves, true)?;
         Ok(found)
     }
 
@@ -80,89 +65,6 @@ impl Ranged for Slicing {
             slices: Items::from_vec(slices),
         })
     }
-}
-
-/// As `slices_split`, which seals, and `slices_split_unsealed`, which doesn't.
-fn split_slices<R: Threads + Wait + Sync, I: Indexes + Sync, G: Gate, L: Send>(
-    rt: &R,
-    alloc: Global,
-    body: &Body,
-    plan: &Plan,
-    terms: &TermList,
-    indexes: &I,
-    parts: u32,
-    gate: &G,
-    moves: &mut Moves<L>,
-    sealing: bool,
-) -> Result<(Sense, SharedSlices), NoMemory>
-where
-    I::Rows: Sync,
-    requires can_join { CanJoin (I.state indexes.now) (I.has_index indexes.now) body.now plan.now }
-    requires answerable { AreAnswerable body.now terms.now }
-    requires has_levels { 0 < length plan.now.levels }
-    requires some { 0 < parts }
-    requires few { parts ≤ 16 }
-    ensures ascending { IfOk result (λ found. IsRising (slice_keys found.1)) }
-    ensures slices { IfOk result (λ found. AllByRecursion (IsSliceOf terms.now body.now (term_at plan.now.levels 0) (I.state indexes.now)) found.1) }
-    ensures found { IfOk result (λ found. AreFoundKeys plan.now (I.state indexes.now) (slice_keys found.1)) }
-    ensures rooted { IfOk result (λ found. AreRooted plan.now found.0 (slice_keys found.1)) }
-    ensures root_gaps { IfOk result (λ found. AreRootGaps found.0) }
-    ensures root_hits { IfOk result (λ found. found.0.hits ≡ []) }
-    ensures rows { IfOk result (λ found. ascending_rows (sliced_rows found.1) ≡ answers_of terms.now body.now (I.state indexes.now)) }
-    ensures certified { IfOk result (λ found. Certifies (united found.0 found.1) body.now (I.state indexes.now)) }
-    ensures tight { IfOk result (λ found. IsTight (united found.0 found.1) (I.state indexes.now)) }
-    ensures gaps { IfOk result (λ found. moves.old + length (united found.0 found.1).gaps ≤ moves.new) }
-    ensures hits { IfOk result (λ found. moves.old + length (united found.0 found.1).hits ≤ moves.new) }
-    // also where memory is refused
-    ensures cost { moves.new ≤ moves.old + parts * bound body.now plan.now (I.state indexes.now) }
-    ensures moves { moves.old ≤ moves.new }
-    ensures sealed { IfOk result (λ found. sealing ≡ true → AreSealed found.0 found.1) }
-{
-    let way = Slicing { sealing };
-    let found = find_whole::<R, L, I, Slicing, Gathered, G>(
-        rt, &way, alloc, body, plan, terms, indexes, parts, gate, moves,
-    )?;
-    let whole = whole_of(found, sealing)?;
-    Ok(whole)
-}
-
-/// As `slices_split`, with the senses in the order in which they were gathered.
-pub fn slices_split_unsealed<R: Threads + Wait + Sync, I: Indexes + Sync, G: Gate, L: Send>(
-    rt: &R,
-    alloc: Global,
-    body: &Body,
-    plan: &Plan,
-    terms: &TermList,
-    indexes: &I,
-    parts: u32,
-    gate: &G,
-    moves: &mut Moves<L>,
-) -> Result<(Sense, SharedSlices), NoMemory>
-where
-    I::Rows: Sync,
-    requires can_join { CanJoin (I.state indexes.now) (I.has_index indexes.now) body.now plan.now }
-    requires answerable { AreAnswerable body.now terms.now }
-    requires has_levels { 0 < length plan.now.levels }
-    requires some { 0 < parts }
-    requires few { parts ≤ 16 }
-    ensures ascending { IfOk result (λ found. IsRising (slice_keys found.1)) }
-    ensures slices { IfOk result (λ found. AllByRecursion (IsSliceOf terms.now body.now (term_at plan.now.levels 0) (I.state indexes.now)) found.1) }
-    ensures found { IfOk result (λ found. AreFoundKeys plan.now (I.state indexes.now) (slice_keys found.1)) }
-    ensures rooted { IfOk result (λ found. AreRooted plan.now found.0 (slice_keys found.1)) }
-    ensures root_gaps { IfOk result (λ found. AreRootGaps found.0) }
-    ensures root_hits { IfOk result (λ found. found.0.hits ≡ []) }
-    ensures rows { IfOk result (λ found. ascending_rows (sliced_rows found.1) ≡ answers_of terms.now body.now (I.state indexes.now)) }
-    ensures certified { IfOk result (λ found. Certifies (united found.0 found.1) body.now (I.state indexes.now)) }
-    ensures tight { IfOk result (λ found. IsTight (united found.0 found.1) (I.state indexes.now)) }
-    ensures gaps { IfOk result (λ found. moves.old + length (united found.0 found.1).gaps ≤ moves.new) }
-    ensures hits { IfOk result (λ found. moves.old + length (united found.0 found.1).hits ≤ moves.new) }
-    // also where memory is refused
-    ensures cost { moves.new ≤ moves.old + parts * bound body.now plan.now (I.state indexes.now) }
-    ensures moves { moves.old ≤ moves.new }
-{
-    split_slices(
-        rt, alloc, body, plan, terms, indexes, parts, gate, moves, false,
-    )
 }
 
 /// The body's answers and what they were sensitive to, key by key of its first variable, as of `slices`, by at most so many parts:
@@ -189,7 +91,7 @@ where
     ensures ascending { IfOk result (λ found. IsRising (slice_keys found.1)) }
     ensures slices { IfOk result (λ found. AllByRecursion (IsSliceOf terms.now body.now (term_at plan.now.levels 0) (I.state indexes.now)) found.1) }
     ensures found { IfOk result (λ found. AreFoundKeys plan.now (I.state indexes.now) (slice_keys found.1)) }
-    ensures rooted { IfOk result (λ found. AreRooted plan.now found.0 (slice_keys found.1)) }
+    ensures rooted { IfOk result (λ found. AreRooted body.now plan.now found.0 (slice_keys found.1)) }
     ensures root_gaps { IfOk result (λ found. AreRootGaps found.0) }
     ensures root_hits { IfOk result (λ found. found.0.hits ≡ []) }
     ensures rows { IfOk result (λ found. ascending_rows (sliced_rows found.1) ≡ answers_of terms.now body.now (I.state indexes.now)) }
@@ -202,7 +104,9 @@ where
     ensures moves { moves.old ≤ moves.new }
     ensures sealed { IfOk result (λ found. AreSealed found.0 found.1) }
 {
-    split_slices(
-        rt, alloc, body, plan, terms, indexes, parts, gate, moves, true,
-    )
+    let found = find_whole::<R, L, I, Slicing, Gathered, G>(
+        rt, &Slicing, alloc, body, plan, terms, indexes, parts, gate, moves,
+    )?;
+    let whole = whole_of(found, true)?;
+    Ok(whole)
 }

@@ -1,5 +1,5 @@
 //! The walk over the levels of a plan.
-ghost use Rattle.std.specs.Prelude.{◌≡◌, ◌+◌, ◌<◌, ◌≤◌, ◌-◌, ◌^◌, ◌∷◌, ◌++◌, [], ℕ, List, None, true, false, length, take, drop, slice_get, Some, IfOk, OnOk};
+ghost use Rattle.std.specs.Prelude.{◌≡◌, ◌+◌, ◌<◌, ◌≤◌, ◌-◌, ◌^◌, ◌⊎◌, ◌∷◌, ◌++◌, [], ℕ, List, None, true, false, length, take, drop, slice_get, Some, IfOk, OnOk};
 ghost use Rattle.std.specs.List.{AllByRecursion};
 ghost use Rattle.lt_face.specs.Limits.{most_variables};
 ghost use Rattle.lt_model.specs.Cells.{is_cell};
@@ -14,13 +14,13 @@ ghost use Rattle.lt_join.specs.Holders.{atoms_at};
 ghost use Rattle.lt_join.specs.Known.{IsKnown};
 ghost use Rattle.lt_join.specs.Level.{AreAtomsAt};
 ghost use Rattle.lt_join.specs.Values.{values_in};
-ghost use Rattle.lt_join.specs.Walked.{at, AreFoundUnder, FoundGrows, Grows, HitsAbove, IsExploredBelow, IsReached, IsRight};
-ghost use Rattle.lt_join.specs.Way.{HasWalked};
+ghost use Rattle.lt_join.specs.Walked.{at, Grows, HitsAbove, IsReached, IsRight};
+ghost use Rattle.lt_join.specs.Way.{HasExplored, HasWalked};
 
 use crate::Found;
 use crate::atom_iter::AtomIter;
 use crate::leaf::at_leaf;
-use crate::level::{next_key, open};
+use crate::level::{close, next_key, open};
 use crate::path::Path;
 use crate::values::Values;
 use crate::way::Way;
@@ -163,7 +163,17 @@ fn enter<'a, I: Indexes, S: Senses>(
     Ok(())
 }
 
-/// Explores the levels below the keys. Where the first answer suffices, it stops there.
+/// Whether a walk stops at so many levels, where it may have stopped below.
+#[inline]
+fn stops_at(depth: usize, stopped: bool, wanted: usize) -> bool
+    ensures ends { result ≡ true → (stopped ≡ true) × (wanted ≤ depth) }
+    ensures goes { result ≡ false → (stopped ≡ false) ⊎ (depth < wanted) }
+{
+    stopped && depth >= wanted
+}
+
+/// Explores the levels below the keys. It stops at an answer where no other row lies below them: where the first suffices, or where the
+/// levels above decide the terms.
 pub(crate) fn descend<'a, I: Indexes, S: Senses, L>(
     way: &Way<'a, I>,
     iters: &mut [AtomIter<'a, I::Rows>],
@@ -178,20 +188,25 @@ pub(crate) fn descend<'a, I: Indexes, S: Senses, L>(
     ensures walked { IfOk result (HasWalked way.now keys.old walk.old.found walk.new.found moves.old moves.new) }
     ensures back { IfOk result (λ _. keys.new ≡ keys.old) }
     ensures known { IfOk result (λ _. IsKnown way.now.plan.levels keys.old (values_in walk.new.values.cells)) }
-    // where it stops, the iterators stay where they are
-    ensures iters { IfOk result (λ stopped. stopped ≡ false → iters.new ≡ iters.old) }
+    ensures iters { IfOk result (λ _. iters.new ≡ iters.old) }
     // also where memory is refused
     ensures cost { moves.new ≤ moves.old + cost_from (length way.now.body.absents) way.now.state way.now.plan.guides (drop (length keys.old) way.now.plan.levels) (length keys.old) (at keys.old) }
     ensures moves { moves.old ≤ moves.new }
 {
-    if keys.len() == way.plan.levels.len() {
+    let depth = keys.len();
+    if depth == way.plan.levels.len() {
         return at_leaf(way, keys, &walk.values, &mut walk.found, moves);
     }
+    if way.is_hopeless::<S>(keys, &walk.values) {
+        return Ok(false);
+    }
+    let range = way.range_below(keys, &walk.values);
     let mut met = open(
         way,
         iters,
         keys,
         0,
+        range,
         &walk.values,
         &mut walk.found.sense,
         moves,
@@ -200,10 +215,11 @@ pub(crate) fn descend<'a, I: Indexes, S: Senses, L>(
         enter(way, iters, keys, met.key, walk)?;
         let stopped = descend(way, iters, keys, walk, moves)?;
         keys.pop();
-        if stopped {
+        if stops_at(depth, stopped, way.wanted) {
+            close(iters, way.plan.guides.at_level(depth));
             return Ok(true);
         }
-        met = next_key(way, iters, keys, met, &mut walk.found.sense, moves)?;
+        met = next_key(way, iters, keys, met, range, &mut walk.found.sense, moves)?;
     }
     Ok(false)
 }
@@ -229,12 +245,7 @@ pub(crate) fn explore_key<'a, I: Indexes, S: Senses, L>(
     ensures back { IfOk result (λ _. keys.new ≡ []) }
     ensures iters { IfOk result (λ _. iters.new ≡ iters.old) }
     ensures known { IfOk result (λ _. IsKnown way.now.plan.levels [] (values_in walk.new.values.cells)) }
-    ensures grows { IfOk result (λ _. FoundGrows walk.old.found walk.new.found) }
-    ensures right { IfOk result (λ _. IsRight way.now.body way.now.terms way.now.state walk.new.found) }
-    ensures under { IfOk result (λ _. AreFoundUnder way.now.terms way.now.body way.now.plan way.now.state (key ∷ []) walk.old.found walk.new.found) }
-    ensures explored { IfOk result (λ _. IsExploredBelow way.now.body way.now.plan way.now.terms walk.new.found (key ∷ [])) }
-    ensures gaps { IfOk result (λ _. length walk.new.found.sense.gaps + moves.old ≤ length walk.old.found.sense.gaps + moves.new) }
-    ensures hits { IfOk result (λ _. length walk.new.found.sense.hits + moves.old ≤ length walk.old.found.sense.hits + moves.new + length (atoms_at way.now.plan.guides 0)) }
+    ensures below { IfOk result (λ _. HasExplored way.now [] key walk.old.found walk.new.found moves.old moves.new) }
     // also where memory is refused
     ensures cost { moves.new ≤ moves.old + cost_from (length way.now.body.absents) way.now.state way.now.plan.guides (drop 1 way.now.plan.levels) 1 (at (key ∷ [])) }
     ensures moves { moves.old ≤ moves.new }

@@ -1,16 +1,19 @@
-use Rattle.std.proofs.Common.{◌≡◌, ◌+◌, ◌≤◌, List, [], false, length, sym, ap, arith, ◌∙◌, subst}
-use Rattle.lt_model.specs.declared.normal.Term.{Term}
+use Rattle.std.proofs.Common.{◌≡◌, [], length, sym, ap, arith, ◌∙◌, subst}
 use Rattle.lt_model.specs.Answers.{Values, ascending}
-use Rattle.lt_sense.specs.Kept.{Sense}
 use Rattle.lt_sense.specs.Sense.{IsTight}
+use Rattle.lt_sense.specs.Kept.{Sense}
 use Rattle.lt_join.specs.Certify.{Certifies}
-use Rattle.lt_join.specs.Cost.{cost_from}
 use Rattle.lt_join.specs.Known.{IsKnown}
-use Rattle.lt_join.specs.Walked.{at}
-use Rattle.lt_join.specs.Way.{WayView}
-use Rattle.lt_join.proofs.Going.{answered_by, is_way, reached_none, right_none}
+use Rattle.lt_join.specs.Way.{AreDecidedBy, WayView}
+use Rattle.lt_join.proofs.Answered.{all_wanted, answers_of, certified_of, cost_of, reached_of, way_of}
+use Rattle.lt_join.proofs.Going.{right_none}
 use Rattle.lt_join.proofs.Known.{IsKnown-root}
 use Rattle.lt_join.proofs.answer.answers_prepared.Goals as goal
+
+pub new-requires-clause-decided : goal.new-requires-clause-decided
+new-requires-clause-decided g c =
+    let all = c.len-wanted.ensures in
+    λ each less. absurd {A = AreDecidedBy c.args.plan.now.levels c.len-wanted.result c.as_slice.result.now} (omega arith)
 
 pub walk_all-requires-clause-known : goal.walk_all-requires-clause-known
 walk_all-requires-clause-known g c =
@@ -18,8 +21,7 @@ walk_all-requires-clause-known g c =
 
 pub walk_all-requires-clause-reached : goal.walk_all-requires-clause-reached
 walk_all-requires-clause-reached g c =
-    let is : c.in_ok-way.way ≡ record { state = g.I.Indexes.state c.args.indexes.now; body = c.args.body.now; plan = c.args.plan.now; terms = c.args.terms.now; first = false } = c.in_ok-way.ensures ∙ ap (λ (terms : List Term). record { state = g.I.Indexes.state c.args.indexes.now; body = c.args.body.now; plan = c.args.plan.now; terms = terms; first = false }) c.as_slice.ensures in
-    reached_none c.in_ok-way.way c.new-walk.result.found.sense (is_way c.in_ok-way.way (g.I.Indexes.state c.args.indexes.now) c.args.body.now c.args.plan.now c.args.terms.now false is c.requires.of_body c.requires.prepared)
+    reached_of (g.I.Indexes.state c.args.indexes.now) c.args.body.now c.args.plan.now c.args.terms.now c.in_ok-way.way (way_of (g.I.Indexes.state c.args.indexes.now) c.args.body.now c.args.plan.now c.args.terms.now c.as_slice.result.now c.len-wanted.result c.in_ok-way.way c.as_slice.ensures c.in_ok-way.ensures) c.requires.prepared c.new-walk.result.found.sense
 
 pub walk_all-requires-clause-right : goal.walk_all-requires-clause-right
 walk_all-requires-clause-right g c =
@@ -27,15 +29,15 @@ walk_all-requires-clause-right g c =
 
 pub returns-clause-rows : goal.returns-clause-rows
 returns-clause-rows g c =
-    let is : c.in_ok-way.way ≡ record { state = g.I.Indexes.state c.args.indexes.now; body = c.args.body.now; plan = c.args.plan.now; terms = c.args.terms.now; first = false } = c.in_ok-way.ensures ∙ ap (λ (terms : List Term). record { state = g.I.Indexes.state c.args.indexes.now; body = c.args.body.now; plan = c.args.plan.now; terms = terms; first = false }) c.as_slice.ensures in
-    let walk = answered_by c.in_ok-way.way (g.I.Indexes.state c.args.indexes.now) c.args.body.now c.args.plan.now c.args.terms.now c.new-walk.result.found c.walk_all.new.walk.found c.args.moves.now c.walk_all.new.moves c.in_ok-walk_all.field-0 is c.requires.of_body c.requires.tests c.requires.are_bound c.in_ok-walk_all.ensures.walked in
-    c.in_ok-rows.ensures ∙ (ap ascending c.into_vec.ensures ∙ walk.0)
+    c.in_ok-rows.ensures
+    ∙ (ap ascending c.into_vec.ensures
+    ∙ answers_of (g.I.Indexes.state c.args.indexes.now) c.args.body.now c.args.plan.now c.args.terms.now c.in_ok-way.way (way_of (g.I.Indexes.state c.args.indexes.now) c.args.body.now c.args.plan.now c.args.terms.now c.as_slice.result.now c.len-wanted.result c.in_ok-way.way c.as_slice.ensures c.in_ok-way.ensures) c.new-walk.result.found c.walk_all.new.walk.found c.args.moves.now c.walk_all.new.moves c.in_ok-walk_all.field-0 c.requires.of_body c.requires.tests c.requires.are_bound c.in_ok-walk_all.ensures.walked)
 
 pub returns-clause-certified : goal.returns-clause-certified
 returns-clause-certified g c =
-    let is : c.in_ok-way.way ≡ record { state = g.I.Indexes.state c.args.indexes.now; body = c.args.body.now; plan = c.args.plan.now; terms = c.args.terms.now; first = false } = c.in_ok-way.ensures ∙ ap (λ (terms : List Term). record { state = g.I.Indexes.state c.args.indexes.now; body = c.args.body.now; plan = c.args.plan.now; terms = terms; first = false }) c.as_slice.ensures in
-    let walk = answered_by c.in_ok-way.way (g.I.Indexes.state c.args.indexes.now) c.args.body.now c.args.plan.now c.args.terms.now c.new-walk.result.found c.walk_all.new.walk.found c.args.moves.now c.walk_all.new.moves c.in_ok-walk_all.field-0 is c.requires.of_body c.requires.tests c.requires.are_bound c.in_ok-walk_all.ensures.walked in
-    subst (λ (s : Sense). Certifies s c.args.body.now (g.I.Indexes.state c.args.indexes.now)) (sym c.into_senses.ensures) walk.1
+    subst (λ (s : Sense). Certifies s c.args.body.now (g.I.Indexes.state c.args.indexes.now)) (sym c.into_senses.ensures)
+    (certified_of (g.I.Indexes.state c.args.indexes.now) c.args.body.now c.args.plan.now c.args.terms.now c.in_ok-way.way (way_of (g.I.Indexes.state c.args.indexes.now) c.args.body.now c.args.plan.now c.args.terms.now c.as_slice.result.now c.len-wanted.result c.in_ok-way.way c.as_slice.ensures c.in_ok-way.ensures) c.new-walk.result.found c.walk_all.new.walk.found c.args.moves.now c.walk_all.new.moves c.in_ok-walk_all.field-0
+    (all_wanted (g.I.Indexes.state c.args.indexes.now) c.args.body.now c.args.plan.now c.as_slice.result.now c.len-wanted.result c.in_ok-way.way c.len-wanted.ensures c.in_ok-way.ensures) c.requires.of_body c.requires.tests c.requires.are_bound c.in_ok-walk_all.ensures.walked)
 
 pub returns-clause-tight : goal.returns-clause-tight
 returns-clause-tight g c =
@@ -57,4 +59,4 @@ returns-clause-hits g c =
 
 pub returns-clause-cost : goal.returns-clause-cost
 returns-clause-cost g c =
-    subst (λ (w : WayView). c.walk_all.new.moves ≤ c.args.moves.now + cost_from (length w.body.absents) w.state w.plan.guides w.plan.levels 0 (at [])) c.in_ok-way.ensures c.walk_all.ensures.cost
+    cost_of (g.I.Indexes.state c.args.indexes.now) c.args.body.now c.args.plan.now c.args.terms.now c.in_ok-way.way (way_of (g.I.Indexes.state c.args.indexes.now) c.args.body.now c.args.plan.now c.args.terms.now c.as_slice.result.now c.len-wanted.result c.in_ok-way.way c.as_slice.ensures c.in_ok-way.ensures) c.args.moves.now c.walk_all.new.moves c.walk_all.ensures.cost

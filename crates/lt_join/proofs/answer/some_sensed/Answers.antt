@@ -5,11 +5,12 @@ use Rattle.lt_sense.specs.Sense.{IsTight}
 use Rattle.lt_join.specs.Certify.{Vouches}
 use Rattle.lt_join.specs.Cost.{cost_from}
 use Rattle.lt_join.specs.Known.{IsKnown}
-use Rattle.lt_join.specs.Walked.{at}
+use Rattle.lt_join.specs.Walked.{at, IsReached}
 use Rattle.lt_join.specs.Way.{WayView, HasWalked}
-use Rattle.lt_join.proofs.Going.{is_way, reached_none, right_none}
+use Rattle.lt_join.proofs.Going.{right_none}
 use Rattle.lt_join.proofs.Known.{IsKnown-root}
-use Rattle.lt_join.proofs.Prepared.{IsPrepared-from}
+use Rattle.lt_join.proofs.Prepared.{IsPrepared-from, has_columns}
+use Rattle.lt_join.proofs.Steps.{IsReached-none}
 use Rattle.lt_join.proofs.Truth.{told}
 use Rattle.lt_join.proofs.answer.some_sensed.Goals as goal
 
@@ -19,8 +20,8 @@ walk_all-requires-clause-known g c =
 
 pub walk_all-requires-clause-reached : goal.walk_all-requires-clause-reached
 walk_all-requires-clause-reached g c =
-    let prepared = IsPrepared-from (g.I.Indexes.state c.args.indexes.now) c.args.body.now c.args.plan.now [] c.requires.can_join.fits c.requires.can_join.runnable (omega arith) in
-    reached_none c.in_ok-way.way c.new-walk.result.found.sense (is_way c.in_ok-way.way (g.I.Indexes.state c.args.indexes.now) c.args.body.now c.args.plan.now [] true c.in_ok-way.ensures c.requires.can_join.of_body prepared)
+    subst (λ (w : WayView). IsReached w.plan c.new-walk.result.found.sense []) (sym c.in_ok-way.ensures)
+    (IsReached-none c.args.plan.now c.new-walk.result.found.sense (has_columns c.args.plan.now.guides c.requires.can_join.runnable.widths))
 
 pub walk_all-requires-clause-right : goal.walk_all-requires-clause-right
 walk_all-requires-clause-right g c =
@@ -33,13 +34,13 @@ new-requires-clause-prepared g c =
 pub returns-clause-truth : goal.returns-clause-truth
 returns-clause-truth g c =
     let walked = subst (λ (w : WayView). HasWalked w [] c.new-walk.result.found c.walk_all.new.walk.found c.args.moves.now c.walk_all.new.moves c.in_ok-truth.truth) c.in_ok-way.ensures c.in_ok-truth.ensures.walked in
-    let both = told (record { state = g.I.Indexes.state c.args.indexes.now; body = c.args.body.now; plan = c.args.plan.now; terms = []; first = true }) c.new-walk.result.found c.walk_all.new.walk.found c.args.moves.now c.walk_all.new.moves c.in_ok-truth.truth c.requires.can_join.of_body (c.requires.can_join.fits.is_bound, c.requires.can_join.fits.are_absents_bound) refl refl c.new-walk.ensures.rows walked in
+    let both = told (record { state = g.I.Indexes.state c.args.indexes.now; body = c.args.body.now; plan = c.args.plan.now; terms = []; first = true; wanted = 0 }) c.new-walk.result.found c.walk_all.new.walk.found c.args.moves.now c.walk_all.new.moves c.in_ok-truth.truth c.requires.can_join.of_body (c.requires.can_join.fits.is_bound, c.requires.can_join.fits.are_absents_bound) refl refl c.new-walk.ensures.rows walked in
     both.0
 
 pub returns-clause-vouched : goal.returns-clause-vouched
 returns-clause-vouched g c =
     let walked = subst (λ (w : WayView). HasWalked w [] c.new-walk.result.found c.walk_all.new.walk.found c.args.moves.now c.walk_all.new.moves c.in_ok-truth.truth) c.in_ok-way.ensures c.in_ok-truth.ensures.walked in
-    let both = told (record { state = g.I.Indexes.state c.args.indexes.now; body = c.args.body.now; plan = c.args.plan.now; terms = []; first = true }) c.new-walk.result.found c.walk_all.new.walk.found c.args.moves.now c.walk_all.new.moves c.in_ok-truth.truth c.requires.can_join.of_body (c.requires.can_join.fits.is_bound, c.requires.can_join.fits.are_absents_bound) refl refl c.new-walk.ensures.rows walked in
+    let both = told (record { state = g.I.Indexes.state c.args.indexes.now; body = c.args.body.now; plan = c.args.plan.now; terms = []; first = true; wanted = 0 }) c.new-walk.result.found c.walk_all.new.walk.found c.args.moves.now c.walk_all.new.moves c.in_ok-truth.truth c.requires.can_join.of_body (c.requires.can_join.fits.is_bound, c.requires.can_join.fits.are_absents_bound) refl refl c.new-walk.ensures.rows walked in
     subst (λ (s : Sense). Vouches s c.args.body.now (g.I.Indexes.state c.args.indexes.now)) (sym c.into_senses.ensures) both.1
 
 pub returns-clause-tight : goal.returns-clause-tight

@@ -20,11 +20,11 @@ returns-then-is_empty-2-clause-walked g c =
     let is_way : IsWay way = subst IsWay c.way.view_is c.way.invariant.0 in
     let tests : c.as_slice-tests.result.now ≡ way.body.tests = c.as_slice-tests.ensures ∙ ap (λ (w : WayView). w.body.tests) c.way.view_is in
     let absents : c.as_slice-absents.result.now ≡ way.body.absents = c.as_slice-absents.ensures ∙ ap (λ (w : WayView). w.body.absents) c.way.view_is in
-    let first : c.way.inside.first ≡ way.first = ap (λ (w : WayView). w.first) c.way.view_is in
     let no_tests = sym tests ∙ nil_of c.as_slice-tests.result.now (sym c.is_empty.ensures ∙ c.if-is_empty.true) in
     let no_absents = sym absents ∙ nil_of c.as_slice-absents.result.now (sym c.is_empty-then-is_empty.ensures ∙ c.if-is_empty-2.true) in
-    rw first (leaf_plain way is_way c.args._keys.now c.requires.full c.args.found.now c.requires.reached c.requires.right (values_in c.args.values.now.cells) c.requires.known no_tests no_absents
-    c.add_row.new.found c.args.moves.now c.in_ok-add_row.ensures.added c.add_row.ensures.first c.add_row.ensures.sense)
+    leaf_plain way is_way c.args._keys.now c.requires.full c.args.found.now c.requires.reached c.requires.right (values_in c.args.values.now.cells) c.requires.known no_tests no_absents
+    c.add_row.new.found c.args.moves.now c.stops.result c.stops.ensures
+    (λ each. record { there = c.in_ok-add_row.ensures.added each; kept = c.in_ok-add_row.ensures.kept; each = c.in_ok-add_row.ensures.each }) c.add_row.ensures.first c.add_row.ensures.sense
 
 pub returns-then-not-all_pass-clause-walked : goal.returns-then-not-all_pass-clause-walked
 returns-then-not-all_pass-clause-walked g c =
@@ -75,12 +75,12 @@ returns-clause-walked g c =
     let given : all ≡ give_all values way.body.tests = c.give_each.ensures ∙ ap (give_all values) tests in
     let state : g.I.Indexes.state c.way.inside.tables.now ≡ way.state = ap (λ (w : WayView). w.state) c.way.view_is in
     let tight : IsTight c.lacks_each.new.sense way.state = subst (λ (s : State). IsTight c.lacks_each.new.sense s) state c.in_ok-lacks.ensures.tight in
-    let first : c.way.inside.first ≡ way.first = ap (λ (w : WayView). w.first) c.way.view_is in
     let held : list_all (passes (assigned all)) way.body.tests ≡ true = sym (ap (list_all (passes (assigned all))) tests) ∙ (sym c.all_pass.ensures ∙ c.if-not-all_pass.false) in
     let sense : c.lacks_each.new.sense ≡ c.add_row-2.new.found.sense = sym c.add_row-2.ensures.sense in
     let gapped = subst (AllByRecursion (IsGapped c.lacks_each.new.sense (assigned all))) absents (c.in_ok-lacks.ensures.lacks c.if-not-lacks.false) in
-    rw first (leaf_answered way is_way c.args._keys.now c.requires.full c.args.found.now c.requires.reached c.requires.right values all c.requires.known given
-    c.add_row-2.new.found c.args.moves.now c.lacks_each.new.moves held
-    (subst (λ (s : Sense). AllByRecursion (IsGapped s (assigned all)) way.body.absents) sense gapped) c.in_ok-add_row-2.ensures.added c.add_row-2.ensures.first
+    leaf_answered way is_way c.args._keys.now c.requires.full c.args.found.now c.requires.reached c.requires.right values all c.requires.known given
+    c.add_row-2.new.found c.args.moves.now c.lacks_each.new.moves c.stops-2.result c.stops-2.ensures held
+    (subst (λ (s : Sense). AllByRecursion (IsGapped s (assigned all)) way.body.absents) sense gapped)
+    (λ each. record { there = c.in_ok-add_row-2.ensures.added each; kept = c.in_ok-add_row-2.ensures.kept; each = c.in_ok-add_row-2.ensures.each }) c.add_row-2.ensures.first
     (subst (Grows c.args.found.now.sense) sense c.in_ok-lacks.ensures.grows) (subst (λ (s : Sense). IsTight s way.state) sense tight)
-    (subst (λ (s : Sense). GainsFewer c.args.found.now.sense s c.args.moves.now c.lacks_each.new.moves) sense c.in_ok-lacks.ensures.gains))
+    (subst (λ (s : Sense). GainsFewer c.args.found.now.sense s c.args.moves.now c.lacks_each.new.moves) sense c.in_ok-lacks.ensures.gains)

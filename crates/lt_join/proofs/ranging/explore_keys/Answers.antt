@@ -6,18 +6,28 @@ use Rattle.lt_join.specs.Cost.{iterators_at}
 use Rattle.lt_join.specs.Holders.{IsUsable, atoms_at}
 use Rattle.lt_join.specs.Known.{IsKnown}
 use Rattle.lt_join.specs.Level.{AreAtomsAt}
+use Rattle.lt_join.specs.Narrowed.{Leaves}
 use Rattle.lt_join.specs.Values.{values_in}
 use Rattle.lt_join.specs.Walked.{at}
 use Rattle.lt_join.specs.Way.{IsWay}
 use Rattle.lt_join.proofs.Entered.{entered}
+use Rattle.lt_join.proofs.Going.{usable_level, going_begun, going_more, going_none, going_cell, going_fits, goes_on, moves_on, stands_still, low_cell, opens_at_root, right_none, reached_none, going_cost, stopped_cost, opened_cost}
 use Rattle.lt_join.proofs.Known.{IsKnown-root}
-use Rattle.lt_join.proofs.Usable.{walkable_all}
-use Rattle.std.proofs.lemmas.Bool.{true≢false}
 use Rattle.lt_face.specs.Lists.{IsIn}
 use Rattle.lt_face.specs.State.{Row}
-use Rattle.lt_join.proofs.Going.{HasExplored, usable_level, going_begun, going_more, going_none, going_cell, going_fits, goes_on, moves_on, stands_still, low_cell, opens_at_root, right_none, reached_none, going_cost, stopped_cost, opened_cost}
+use Rattle.lt_join.proofs.KnownLists.{walkable_all}
 use Rattle.lt_join.proofs.PartLaws.{within_more, at_most_paid, part_found}
 use Rattle.lt_join.proofs.ranging.explore_keys.Goals as goal
+
+pub range_below-range-requires-clause-known : goal.range_below-range-requires-clause-known
+range_below-range-requires-clause-known g c =
+    subst (λ (ks : List ℕ). IsKnown c.args.way.now.plan.levels ks (values_in c.new-walk.result.values.cells)) (sym c.root-keys.ensures) (subst (λ (vs : Values). IsKnown c.args.way.now.plan.levels [] vs) (sym c.new-walk.ensures.values) (IsKnown-root c.args.way.now.plan.levels))
+
+pub open-requires-clause-leaves : goal.open-requires-clause-leaves
+open-requires-clause-leaves g c = c.range_below-range.ensures.leaves
+
+pub open-requires-clause-low : goal.open-requires-clause-low
+open-requires-clause-low g c = c.range_below-range.ensures.low
 
 pub open-requires-clause-iters : goal.open-requires-clause-iters
 open-requires-clause-iters g c =
@@ -97,7 +107,7 @@ explore_key-requires-clause-right g c =
 
 pub next_key-requires-clause-tight : goal.next_key-requires-clause-tight
 next_key-requires-clause-tight g c =
-    c.in_ok-explore_key.ensures.right.tight
+    c.in_ok-explore_key.ensures.below.right.tight
 
 pub next_key-requires-clause-usable : goal.next_key-requires-clause-usable
 next_key-requires-clause-usable g c =
@@ -105,6 +115,13 @@ next_key-requires-clause-usable g c =
     let deeper = c.requires.has_levels in
     subst (λ (ks : List ℕ). (level : Level) × (slice_get c.args.way.now.plan.levels (length ks) ≡ Some level) × IsUsable c.args.way.now.plan.guides level ks) (sym (c.in_ok-explore_key.ensures.back))
     (usable_level c.args.way.now c.new-walk.result.found.sense [] way (reached_none c.args.way.now c.new-walk.result.found.sense way) deeper)
+
+pub next_key-requires-clause-leaves : goal.next_key-requires-clause-leaves
+next_key-requires-clause-leaves g c =
+    subst (λ (ks : List ℕ). Leaves c.args.way.now.body c.args.way.now.plan.levels ks c.range_below-range.result) (c.root-keys.ensures ∙ sym c.in_ok-explore_key.ensures.back) c.range_below-range.ensures.leaves
+
+pub next_key-requires-clause-ahead : goal.next_key-requires-clause-ahead
+next_key-requires-clause-ahead g c = c.range_below-range.ensures.low
 
 pub next_key-requires-clause-at : goal.next_key-requires-clause-at
 next_key-requires-clause-at g c =
@@ -123,21 +140,12 @@ loop-met-preserved g c =
     let inv = c.loop-met.invariant in
     let at_key : c.loop-met.met.key < 2 ^ 128 - 1 = omega arith in
     let made = c.in_ok-explore_key.ensures in
-    let explored : HasExplored c.args.way.now [] c.loop-met.met.key c.loop-met.walk.found c.explore_key.new.walk.found c.loop-met.moves c.explore_key.new.moves = record {
-      grows = made.grows;
-      right = made.right;
-      under = made.under;
-      explored = made.explored;
-      gaps = made.gaps;
-      hits = made.hits;
-      unfound = λ first. absurd (true≢false (sym first ∙ c.requires.all));
-    } in
     record {
       at_root = made.back;
       known = made.known;
-      within = within_more c.args.way.now.terms c.args.way.now.body c.args.way.now.plan c.args.way.now.state c.args.lo c.args.hi c.loop-met.met.key c.loop-met.walk.found c.explore_key.new.walk.found inv.going.reaches (omega arith) made.under inv.within;
+      within = within_more c.args.way.now.terms c.args.way.now.body c.args.way.now.plan c.args.way.now.state c.args.lo c.args.hi c.loop-met.met.key c.loop-met.walk.found c.explore_key.new.walk.found inv.going.reaches (omega arith) made.below.under inv.within;
       going = (going_more c.args.way.now (record { sense = record { gaps = []; hits = [] }; rows = [] }) c.loop-met.walk.found c.explore_key.new.walk.found c.next_key.new.sense [] c.args.iters.now c.loop-met.iters c.next_key.new.iters c.args.lo c.args.moves.now c.loop-met.moves c.explore_key.new.moves c.next_key.new.moves c.loop-met.met.key c.loop-met.met.turn c.in_ok-met-2.met.key c.in_ok-met-2.met.turn
-          inv.going at_key explored c.explore_key.ensures.cost c.explore_key.ensures.moves (goes_on c.args.way.now c.explore_key.new.walk.found.sense c.next_key.new.sense c.next_key.new.iters c.loop-met.met.key c.loop-met.met.turn c.explore_key.new.moves c.next_key.new.moves c.in_ok-met-2.met.key c.in_ok-met-2.met.turn c.explore_key.new.keys [] c.explore_key.new.iters c.args.iters.now c.loop-met.iters (c.in_ok-explore_key.ensures.back) c.in_ok-explore_key.ensures.iters c.in_ok-met-2.ensures.gone (inv.going.stands at_key)));
+          inv.going at_key made.below c.explore_key.ensures.cost c.explore_key.ensures.moves (goes_on c.args.way.now c.explore_key.new.walk.found.sense c.next_key.new.sense c.next_key.new.iters c.loop-met.met.key c.loop-met.met.turn c.explore_key.new.moves c.next_key.new.moves c.in_ok-met-2.met.key c.in_ok-met-2.met.turn c.explore_key.new.keys [] c.explore_key.new.iters c.args.iters.now c.loop-met.iters (c.in_ok-explore_key.ensures.back) c.in_ok-explore_key.ensures.iters c.in_ok-met-2.ensures.gone (inv.going.stands at_key)));
     }
 
 pub loop-met-smaller : goal.loop-met-smaller
@@ -153,8 +161,8 @@ returns-clause-part g c =
     let inv = c.loop-met.invariant in
     let way : IsWay c.args.way.now = subst IsWay c.way.view_is c.way.invariant.0 in
     let deeper = c.requires.has_levels in
-    (part_found c.args.way.now.body c.args.way.now.plan c.args.way.now.state way.of_body deeper c.requires.tests c.args.way.now.terms (record { sense = record { gaps = []; hits = [] }; rows = [] }) c.loop-met.walk.found inv.going.level c.args.lo c.args.hi c.loop-met.met.key
-    c.requires.heads inv.going.here (omega arith) inv.within inv.going.done)
+    part_found c.args.way.now way.of_body deeper c.requires.tests (record { sense = record { gaps = []; hits = [] }; rows = [] }) c.loop-met.walk.found inv.going.level c.args.lo c.args.hi c.loop-met.met.key
+    (omega arith) inv.going.done c.requires.whole c.requires.heads inv.within
 
 pub returns-clause-few : goal.returns-clause-few
 returns-clause-few g c =

@@ -6,12 +6,13 @@ use Rattle.lt_join.specs.Cost.{iterators_at}
 use Rattle.lt_join.specs.Holders.{IsUsable, atoms_at}
 use Rattle.lt_join.specs.Known.{IsKnown}
 use Rattle.lt_join.specs.Level.{AreAtomsAt}
+use Rattle.lt_join.specs.Narrowed.{Leaves}
 use Rattle.lt_join.specs.Values.{values_in}
 use Rattle.lt_join.specs.Walked.{at}
 use Rattle.lt_join.specs.Way.{IsWay}
 use Rattle.lt_join.proofs.Entered.{entered}
-use Rattle.lt_join.proofs.Known.{IsKnown-root}
-use Rattle.lt_join.proofs.Usable.{walkable_all}
+use Rattle.lt_join.proofs.Going.{usable_level, goes_on, moves_on, stands_still, low_cell, opens_at_root, reached_none, opened_cost}
+use Rattle.lt_join.proofs.GoingByKey.{gathering_begun, gathering_more, slice_fits, gathered_all, gathering_cost, slice_cost}
 use Rattle.std.specs.List.{AllByRecursion}
 use Rattle.lt_sense.specs.Kept.{Sense}
 use Rattle.lt_sense.specs.Ordered.{IsSealed}
@@ -19,11 +20,21 @@ use Rattle.lt_sense.specs.Sense.{IsTight}
 use Rattle.lt_join.specs.declared.slicing.Slice.{Slice}
 use Rattle.lt_join.specs.Parts.{IsAtMost, AreSlicesWithin}
 use Rattle.lt_join.specs.Sliced.{united}
-use Rattle.lt_join.proofs.Going.{usable_level, goes_on, moves_on, stands_still, low_cell, opens_at_root, reached_none, opened_cost}
-use Rattle.lt_join.proofs.GoingByKey.{gathering_begun, gathering_more, slice_fits, gathered_all, gathering_cost, slice_cost}
+use Rattle.lt_join.proofs.Known.{IsKnown-root}
+use Rattle.lt_join.proofs.KnownLists.{walkable_all}
 use Rattle.lt_join.proofs.MendJoin.{each_more}
 use Rattle.lt_join.proofs.PartLaws.{at_most_paid}
 use Rattle.lt_join.proofs.slicing.gather_keys.Goals as goal
+
+pub range_below-range-requires-clause-known : goal.range_below-range-requires-clause-known
+range_below-range-requires-clause-known g c =
+    subst (λ (ks : List ℕ). IsKnown c.args.way.now.plan.levels ks (values_in c.none-values.result.cells)) (sym c.root-keys.ensures) (subst (λ (vs : Values). IsKnown c.args.way.now.plan.levels [] vs) (sym c.none-values.ensures) (IsKnown-root c.args.way.now.plan.levels))
+
+pub open-requires-clause-leaves : goal.open-requires-clause-leaves
+open-requires-clause-leaves g c = c.range_below-range.ensures.leaves
+
+pub open-requires-clause-low : goal.open-requires-clause-low
+open-requires-clause-low g c = c.range_below-range.ensures.low
 
 pub open-requires-clause-iters : goal.open-requires-clause-iters
 open-requires-clause-iters g c =
@@ -93,6 +104,16 @@ slice_at-requires-clause-tests g c =
 pub slice_at-requires-clause-heads : goal.slice_at-requires-clause-heads
 slice_at-requires-clause-heads g c =
     c.requires.heads
+
+pub slice_at-requires-clause-whole : goal.slice_at-requires-clause-whole
+slice_at-requires-clause-whole g c = c.requires.whole
+
+pub next_key-requires-clause-leaves : goal.next_key-requires-clause-leaves
+next_key-requires-clause-leaves g c =
+    subst (λ (ks : List ℕ). Leaves c.args.way.now.body c.args.way.now.plan.levels ks c.range_below-range.result) (c.root-keys.ensures ∙ sym c.in_ok-slice.ensures.back) c.range_below-range.ensures.leaves
+
+pub next_key-requires-clause-ahead : goal.next_key-requires-clause-ahead
+next_key-requires-clause-ahead g c = c.range_below-range.ensures.low
 
 pub next_key-requires-clause-tight : goal.next_key-requires-clause-tight
 next_key-requires-clause-tight g c =

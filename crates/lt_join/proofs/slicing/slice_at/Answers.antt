@@ -30,15 +30,15 @@ returns-clause-slice g c =
     let way : IsWay c.args.way.now = subst IsWay c.way.view_is c.way.invariant.0 in
     let made = c.in_ok-explore_key.ensures in
     slice_alike c.args.way.now.terms c.args.way.now.body (term_at c.args.way.now.plan.levels 0) c.args.way.now.state c.args.key c.in_ok-rows.rows c.into_senses.result c.in_ok-sense.sense c.in_ok-sense.ensures.covers
-    (c.in_ok-sense.ensures.tight c.args.way.now.state (subst (λ (s : Sense). IsTight s c.args.way.now.state) (sym c.into_senses.ensures) made.right.tight))
+    (c.in_ok-sense.ensures.tight c.args.way.now.state (subst (λ (s : Sense). IsTight s c.args.way.now.state) (sym c.into_senses.ensures) made.below.right.tight))
     (subst (λ (s : Sense). IsSliceOf c.args.way.now.terms c.args.way.now.body (term_at c.args.way.now.plan.levels 0) c.args.way.now.state (record { key = c.args.key; rows = c.in_ok-rows.rows; sense = s })) (sym c.into_senses.ensures)
-    (is_slice c.args.way.now.body c.args.way.now.plan c.args.way.now.terms c.args.way.now.state c.new-walk.result.found c.explore_key.new.walk.found c.args.key c.in_ok-rows.rows way.of_body
-    c.requires.has_levels c.requires.tests c.requires.heads made.right.tight c.new-walk.ensures.rows made.under made.explored (c.in_ok-rows.ensures ∙ ap ascending c.into_vec.ensures)))
+    (is_slice c.args.way.now c.new-walk.result.found c.explore_key.new.walk.found c.args.key c.in_ok-rows.rows way.of_body
+    c.requires.has_levels c.requires.whole c.requires.tests c.requires.heads made.below.right.tight c.new-walk.ensures.rows made.below.under made.below.explored (c.in_ok-rows.ensures ∙ ap ascending c.into_vec.ensures)))
 
 pub returns-clause-gaps : goal.returns-clause-gaps
 returns-clause-gaps g c =
     let none : length c.new-walk.result.found.sense.gaps ≡ 0 = ap (λ (s : Sense). length s.gaps) c.new-walk.ensures.sense in
-    let gains = c.in_ok-explore_key.ensures.gaps in
+    let gains = c.in_ok-explore_key.ensures.below.gaps in
     let kept = ap (λ (s : Sense). length s.gaps) c.into_senses.ensures in
     let fewer = c.in_ok-sense.ensures.gaps in
     omega (arith, none, gains, kept, fewer)
@@ -46,7 +46,7 @@ returns-clause-gaps g c =
 pub returns-clause-hits : goal.returns-clause-hits
 returns-clause-hits g c =
     let none : length c.new-walk.result.found.sense.hits ≡ 0 = ap (λ (s : Sense). length s.hits) c.new-walk.ensures.sense in
-    let gains = c.in_ok-explore_key.ensures.hits in
+    let gains = c.in_ok-explore_key.ensures.below.hits in
     let kept = ap (λ (s : Sense). length s.hits) c.into_senses.ensures in
     let fewer = c.in_ok-sense.ensures.hits in
     omega (arith, none, gains, kept, fewer)

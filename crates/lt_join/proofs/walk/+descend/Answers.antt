@@ -1,30 +1,37 @@
-use Rattle.std.proofs.Common.{◌≡◌, ℕ, ◌+◌, ◌-◌, ◌^◌, ◌<◌, ◌≤◌, List, length, drop, Some, slice_get, [], ◌∷◌, ◌++◌, sym, refl, ◌∙◌, ap, arith, subst}
+use Rattle.std.proofs.Common.{◌≡◌, ℕ, ◌+◌, ◌-◌, ◌^◌, ◌<◌, ◌≤◌, ◌⊎◌, false, List, length, drop, Some, slice_get, [], ◌∷◌, ◌++◌, sym, refl, ◌∙◌, ap, arith, subst}
 use Rattle.lt_query.specs.declared.plans.Level.{Level}
 use Rattle.lt_join.specs.Cost.{cost_from}
 use Rattle.lt_join.specs.Explored.{Fits}
 use Rattle.lt_join.specs.Holders.{IsUsable, atoms_at}
 use Rattle.lt_join.specs.Known.{IsKnown}
 use Rattle.lt_join.specs.Level.{AreAtomsAt}
+use Rattle.lt_join.specs.Narrowed.{Leaves}
 use Rattle.lt_join.specs.Values.{values_in}
 use Rattle.lt_join.specs.Walked.{at, IsReached}
 use Rattle.lt_join.specs.Way.{WayView, IsWay, HasWalked}
 use Rattle.lt_join.proofs.Entered.{entered}
-use Rattle.lt_join.proofs.Going.{HasEntered, usable_level, entered_right, explored_key, going_begun, going_more, going_cell, going_fits, goes_on, moves_on, stands_still, low_cell, not_full, walked_all, walked_stopped, going_cost, stopped_cost, opened_cost}
+use Rattle.lt_join.proofs.Going.{HasEntered, usable_level, entered_right, explored_key, going_begun, going_more, going_cell, going_fits, goes_below, goes_on, moves_on, stands_still, closing_places, closing_opened, low_cell, not_full, walked_all, walked_hopeless, walked_stopped, going_cost, stopped_cost, opened_cost}
 use Rattle.lt_join.proofs.Known.{IsKnown-above}
+use Rattle.lt_join.proofs.KnownLists.{walkable_all}
 use Rattle.lt_join.proofs.Steps.{IsReached-grows, length_push, popped}
-use Rattle.lt_join.proofs.Usable.{walkable_all}
 use Rattle.lt_join.proofs.walk.+descend.Goals as goal
 
 pub open-requires-clause-usable : goal.open-requires-clause-usable
 open-requires-clause-usable g t c =
     let way : IsWay c.args.way.now = subst IsWay c.way.view_is c.way.invariant.0 in
-    let deeper : length c.args.keys.now < length c.args.way.now.plan.levels = not_full c.args.keys.now c.args.way.now.plan.levels c.len.result c.len-2.result c.requires.reached.within c.len.ensures (c.len-2.ensures ∙ ap (λ (w : WayView). length w.plan.levels) c.way.view_is) c.if-len.false in
+    let deeper : length c.args.keys.now < length c.args.way.now.plan.levels = not_full c.args.keys.now c.args.way.now.plan.levels c.len-depth.result c.len.result c.requires.reached.within c.len-depth.ensures (c.len.ensures ∙ ap (λ (w : WayView). length w.plan.levels) c.way.view_is) c.if-depth-len.false in
     usable_level c.args.way.now c.args.walk.now.found.sense c.args.keys.now way c.requires.reached deeper
+
+pub returns-then-is_hopeless-clause-walked : goal.returns-then-is_hopeless-clause-walked
+returns-then-is_hopeless-clause-walked g t c =
+    let way : IsWay c.args.way.now = subst IsWay c.way.view_is c.way.invariant.0 in
+    let deeper : length c.args.keys.now < length c.args.way.now.plan.levels = not_full c.args.keys.now c.args.way.now.plan.levels c.len-depth.result c.len.result c.requires.reached.within c.len-depth.ensures (c.len.ensures ∙ ap (λ (w : WayView). length w.plan.levels) c.way.view_is) c.if-depth-len.false in
+    walked_hopeless c.args.way.now c.args.walk.now.found c.args.keys.now c.args.moves.now deeper c.requires.right (c.is_hopeless.ensures c.if-is_hopeless.true)
 
 pub loop-met-init : goal.loop-met-init
 loop-met-init g t c =
     let way : IsWay c.args.way.now = subst IsWay c.way.view_is c.way.invariant.0 in
-    let deeper : length c.args.keys.now < length c.args.way.now.plan.levels = not_full c.args.keys.now c.args.way.now.plan.levels c.len.result c.len-2.result c.requires.reached.within c.len.ensures (c.len-2.ensures ∙ ap (λ (w : WayView). length w.plan.levels) c.way.view_is) c.if-len.false in
+    let deeper : length c.args.keys.now < length c.args.way.now.plan.levels = not_full c.args.keys.now c.args.way.now.plan.levels c.len-depth.result c.len.result c.requires.reached.within c.len-depth.ensures (c.len.ensures ∙ ap (λ (w : WayView). length w.plan.levels) c.way.view_is) c.if-depth-len.false in
     record {
       same = refl;
       known = c.requires.known;
@@ -34,13 +41,13 @@ loop-met-init g t c =
 pub enter-requires-clause-deeper : goal.enter-requires-clause-deeper
 enter-requires-clause-deeper g t c =
     let way : IsWay c.args.way.now = subst IsWay c.way.view_is c.way.invariant.0 in
-    let deeper : length c.args.keys.now < length c.args.way.now.plan.levels = not_full c.args.keys.now c.args.way.now.plan.levels c.len.result c.len-2.result c.requires.reached.within c.len.ensures (c.len-2.ensures ∙ ap (λ (w : WayView). length w.plan.levels) c.way.view_is) c.if-len.false in
+    let deeper : length c.args.keys.now < length c.args.way.now.plan.levels = not_full c.args.keys.now c.args.way.now.plan.levels c.len-depth.result c.len.result c.requires.reached.within c.len-depth.ensures (c.len.ensures ∙ ap (λ (w : WayView). length w.plan.levels) c.way.view_is) c.if-depth-len.false in
     subst (λ (ks : List ℕ). length ks < length c.args.way.now.plan.levels) (sym c.loop-met.invariant.same) deeper
 
 pub enter-requires-clause-iters : goal.enter-requires-clause-iters
 enter-requires-clause-iters g t c =
     let way : IsWay c.args.way.now = subst IsWay c.way.view_is c.way.invariant.0 in
-    let deeper : length c.args.keys.now < length c.args.way.now.plan.levels = not_full c.args.keys.now c.args.way.now.plan.levels c.len.result c.len-2.result c.requires.reached.within c.len.ensures (c.len-2.ensures ∙ ap (λ (w : WayView). length w.plan.levels) c.way.view_is) c.if-len.false in
+    let deeper : length c.args.keys.now < length c.args.way.now.plan.levels = not_full c.args.keys.now c.args.way.now.plan.levels c.len-depth.result c.len.result c.requires.reached.within c.len-depth.ensures (c.len.ensures ∙ ap (λ (w : WayView). length w.plan.levels) c.way.view_is) c.if-depth-len.false in
     let inv = c.loop-met.invariant in
     let at_key : c.loop-met.met.key < 2 ^ 128 - 1 = omega arith in
     subst (λ (ks : List ℕ). AreAtomsAt c.args.way.now.plan c.args.way.now.state (ks ++ c.loop-met.met.key ∷ []) c.loop-met.iters) (sym inv.same)
@@ -75,7 +82,7 @@ enter-requires-clause-tight g t c =
 pub descend-requires : goal.descend-requires
 descend-requires g t c =
     let way : IsWay c.args.way.now = subst IsWay c.way.view_is c.way.invariant.0 in
-    let deeper : length c.args.keys.now < length c.args.way.now.plan.levels = not_full c.args.keys.now c.args.way.now.plan.levels c.len.result c.len-2.result c.requires.reached.within c.len.ensures (c.len-2.ensures ∙ ap (λ (w : WayView). length w.plan.levels) c.way.view_is) c.if-len.false in
+    let deeper : length c.args.keys.now < length c.args.way.now.plan.levels = not_full c.args.keys.now c.args.way.now.plan.levels c.len-depth.result c.len.result c.requires.reached.within c.len-depth.ensures (c.len.ensures ∙ ap (λ (w : WayView). length w.plan.levels) c.way.view_is) c.if-depth-len.false in
     let inv = c.loop-met.invariant in
     let at_key : c.loop-met.met.key < 2 ^ 128 - 1 = omega arith in
     let pushed : c.enter.new.keys ≡ c.args.keys.now ++ c.loop-met.met.key ∷ [] = c.in_ok-enter.ensures.keys ∙ ap (λ (ks : List ℕ). ks ++ c.loop-met.met.key ∷ []) inv.same in
@@ -102,10 +109,24 @@ pop-requires g t c =
     let long = ap length (c.in_ok-stopped.ensures.back ∙ pushed) ∙ length_push c.args.keys.now c.loop-met.met.key in
     omega (arith, long)
 
+pub close-requires-clause-places : goal.close-requires-clause-places
+close-requires-clause-places g t c =
+    let inv = c.loop-met.invariant in
+    let at_key : c.loop-met.met.key < 2 ^ 128 - 1 = omega arith in
+    let same : c.way.inside.plan.now ≡ c.args.way.now.plan = ap (λ (w : WayView). w.plan) c.way.view_is in
+    closing_places c.args.way.now c.way.inside.plan.now c.args.keys.now c.at_level.result.now c.args.iters.now c.loop-met.iters c.descend.new.iters c.loop-met.met.key c.loop-met.met.turn same c.at_level.ensures.within c.at_level.ensures.rising c.in_ok-stopped.ensures.iters (inv.going.stands at_key)
+
+pub close-requires-clause-opened : goal.close-requires-clause-opened
+close-requires-clause-opened g t c =
+    let inv = c.loop-met.invariant in
+    let at_key : c.loop-met.met.key < 2 ^ 128 - 1 = omega arith in
+    let same : c.way.inside.plan.now ≡ c.args.way.now.plan = ap (λ (w : WayView). w.plan) c.way.view_is in
+    (c.args.iters.now, closing_opened c.args.way.now c.way.inside.plan.now c.args.keys.now c.at_level.result.now c.args.iters.now c.loop-met.iters c.descend.new.iters c.len-depth.result c.loop-met.met.key c.loop-met.met.turn same c.at_level.ensures.value c.len-depth.ensures c.in_ok-stopped.ensures.iters (inv.going.stands at_key))
+
 pub next_key-requires-clause-usable : goal.next_key-requires-clause-usable
 next_key-requires-clause-usable g t c =
     let way : IsWay c.args.way.now = subst IsWay c.way.view_is c.way.invariant.0 in
-    let deeper : length c.args.keys.now < length c.args.way.now.plan.levels = not_full c.args.keys.now c.args.way.now.plan.levels c.len.result c.len-2.result c.requires.reached.within c.len.ensures (c.len-2.ensures ∙ ap (λ (w : WayView). length w.plan.levels) c.way.view_is) c.if-len.false in
+    let deeper : length c.args.keys.now < length c.args.way.now.plan.levels = not_full c.args.keys.now c.args.way.now.plan.levels c.len-depth.result c.len.result c.requires.reached.within c.len-depth.ensures (c.len.ensures ∙ ap (λ (w : WayView). length w.plan.levels) c.way.view_is) c.if-depth-len.false in
     let inv = c.loop-met.invariant in
     let at_key : c.loop-met.met.key < 2 ^ 128 - 1 = omega arith in
     let pushed : c.enter.new.keys ≡ c.args.keys.now ++ c.loop-met.met.key ∷ [] = c.in_ok-enter.ensures.keys ∙ ap (λ (ks : List ℕ). ks ++ c.loop-met.met.key ∷ []) inv.same in
@@ -119,8 +140,14 @@ next_key-requires-clause-at g t c =
     let at_key : c.loop-met.met.key < 2 ^ 128 - 1 = omega arith in
     let pushed : c.enter.new.keys ≡ c.args.keys.now ++ c.loop-met.met.key ∷ [] = c.in_ok-enter.ensures.keys ∙ ap (λ (ks : List ℕ). ks ++ c.loop-met.met.key ∷ []) inv.same in
     let back : c.pop.new.self ≡ c.args.keys.now = popped c.args.keys.now c.loop-met.met.key c.descend.new.keys c.pop.new.self (c.in_ok-stopped.ensures.back ∙ pushed) c.pop.ensures in
-    let stay : c.descend.new.iters ≡ c.loop-met.iters = c.in_ok-stopped.ensures.iters c.if-stopped.false in
+    let stay : c.descend.new.iters ≡ c.loop-met.iters = c.in_ok-stopped.ensures.iters in
     (c.args.iters.now, stands_still c.args.way.now c.loop-met.met.key c.loop-met.met.turn c.pop.new.self c.args.keys.now c.descend.new.iters c.args.iters.now c.loop-met.iters back stay (inv.going.stands at_key))
+
+pub next_key-requires-clause-leaves : goal.next_key-requires-clause-leaves
+next_key-requires-clause-leaves g t c =
+    let pushed : c.enter.new.keys ≡ c.args.keys.now ++ c.loop-met.met.key ∷ [] = c.in_ok-enter.ensures.keys ∙ ap (λ (ks : List ℕ). ks ++ c.loop-met.met.key ∷ []) c.loop-met.invariant.same in
+    let back : c.pop.new.self ≡ c.args.keys.now = popped c.args.keys.now c.loop-met.met.key c.descend.new.keys c.pop.new.self (c.in_ok-stopped.ensures.back ∙ pushed) c.pop.ensures in
+    subst (λ (ks : List ℕ). Leaves c.args.way.now.body c.args.way.now.plan.levels ks c.range_below-range.result) (sym back) c.range_below-range.ensures.leaves
 
 pub next_key-requires-clause-low : goal.next_key-requires-clause-low
 next_key-requires-clause-low g t c =
@@ -146,9 +173,11 @@ loop-met-preserved g t c =
     } in
     let walked = subst (λ (ks : List ℕ). HasWalked c.args.way.now ks c.enter.new.walk.found c.descend.new.walk.found c.loop-met.moves c.descend.new.moves c.in_ok-stopped.stopped) pushed c.in_ok-stopped.ensures.walked in
     let back : c.pop.new.self ≡ c.args.keys.now = popped c.args.keys.now c.loop-met.met.key c.descend.new.keys c.pop.new.self (c.in_ok-stopped.ensures.back ∙ pushed) c.pop.ensures in
-    let stay : c.descend.new.iters ≡ c.loop-met.iters = c.in_ok-stopped.ensures.iters c.if-stopped.false in
+    let stay : c.descend.new.iters ≡ c.loop-met.iters = c.in_ok-stopped.ensures.iters in
     let below = subst (λ (ks : List ℕ). c.descend.new.moves ≤ c.loop-met.moves + cost_from (length c.args.way.now.body.absents) c.args.way.now.state c.args.way.now.plan.guides (drop (length ks) c.args.way.now.plan.levels) (length ks) (at ks)) pushed c.descend.ensures.cost in
-    let explored = explored_key c.args.way.now c.args.keys.now c.loop-met.met.key c.loop-met.walk.found c.enter.new.walk.found c.descend.new.walk.found c.loop-met.moves c.descend.new.moves c.in_ok-stopped.stopped c.if-stopped.false deep walked in
+    let way : IsWay c.args.way.now = subst IsWay c.way.view_is c.way.invariant.0 in
+    let goes = subst (λ n. (c.in_ok-stopped.stopped ≡ false) ⊎ (c.len-depth.result < n)) (ap (λ (w : WayView). w.wanted) c.way.view_is) (c.stops_at.ensures.goes c.if-stops_at.false) in
+    let explored = explored_key c.args.way.now c.args.keys.now c.loop-met.met.key c.loop-met.walk.found c.enter.new.walk.found c.descend.new.walk.found c.loop-met.moves c.descend.new.moves c.in_ok-stopped.stopped (goes_below c.args.way.now c.len-depth.result c.in_ok-stopped.stopped way goes) deep walked in
     record {
       same = back;
       known = IsKnown-above c.args.way.now.plan.levels c.args.keys.now c.loop-met.met.key (values_in c.descend.new.walk.values.cells)
@@ -164,7 +193,7 @@ loop-met-smaller g t c =
     let at_key : c.loop-met.met.key < 2 ^ 128 - 1 = omega arith in
     let pushed : c.enter.new.keys ≡ c.args.keys.now ++ c.loop-met.met.key ∷ [] = c.in_ok-enter.ensures.keys ∙ ap (λ (ks : List ℕ). ks ++ c.loop-met.met.key ∷ []) inv.same in
     let back : c.pop.new.self ≡ c.args.keys.now = popped c.args.keys.now c.loop-met.met.key c.descend.new.keys c.pop.new.self (c.in_ok-stopped.ensures.back ∙ pushed) c.pop.ensures in
-    let stay : c.descend.new.iters ≡ c.loop-met.iters = c.in_ok-stopped.ensures.iters c.if-stopped.false in
+    let stay : c.descend.new.iters ≡ c.loop-met.iters = c.in_ok-stopped.ensures.iters in
     let went = goes_on c.args.way.now c.descend.new.walk.found.sense c.next_key.new.sense c.next_key.new.iters c.loop-met.met.key c.loop-met.met.turn c.descend.new.moves c.next_key.new.moves c.in_ok-met-2.met.key c.in_ok-met-2.met.turn c.pop.new.self c.args.keys.now c.descend.new.iters c.args.iters.now c.loop-met.iters back stay c.in_ok-met-2.ensures.gone (inv.going.stands at_key) inv.going.level inv.going.here (inv.going.done.at_key at_key).1 in
     let reaches = went.reaches in
     omega (arith, reaches)
@@ -180,7 +209,7 @@ returns-clause-known g t c =
 
 pub returns-clause-iters : goal.returns-clause-iters
 returns-clause-iters g t c =
-    λ goes. c.loop-met.invariant.going.ended (omega arith)
+    c.loop-met.invariant.going.ended (omega arith)
 
 pub returns-clause-back : goal.returns-clause-back
 returns-clause-back g t c =
@@ -195,8 +224,8 @@ pub returns-clause-moves : goal.returns-clause-moves
 returns-clause-moves g t c =
     c.loop-met.invariant.going.rises
 
-pub returns-then-stopped-clause-walked : goal.returns-then-stopped-clause-walked
-returns-then-stopped-clause-walked g t c =
+pub returns-then-stops_at-clause-walked : goal.returns-then-stops_at-clause-walked
+returns-then-stops_at-clause-walked g t c =
     let inv = c.loop-met.invariant in
     let at_key : c.loop-met.met.key < 2 ^ 128 - 1 = omega arith in
     let pushed : c.enter.new.keys ≡ c.args.keys.now ++ c.loop-met.met.key ∷ [] = c.in_ok-enter.ensures.keys ∙ ap (λ (ks : List ℕ). ks ++ c.loop-met.met.key ∷ []) inv.same in
@@ -208,32 +237,44 @@ returns-then-stopped-clause-walked g t c =
       rows = c.in_ok-enter.ensures.rows;
     } in
     let walked = subst (λ (ks : List ℕ). HasWalked c.args.way.now ks c.enter.new.walk.found c.descend.new.walk.found c.loop-met.moves c.descend.new.moves c.in_ok-stopped.stopped) pushed c.in_ok-stopped.ensures.walked in
-    walked_stopped c.args.way.now c.args.walk.now.found c.loop-met.walk.found c.args.keys.now c.args.iters.now c.loop-met.iters 0 c.args.moves.now c.loop-met.moves c.loop-met.met.key c.loop-met.met.turn inv.going c.enter.new.walk.found c.descend.new.walk.found c.descend.new.moves c.in_ok-stopped.stopped c.if-stopped.true at_key deep walked
+    let way : IsWay c.args.way.now = subst IsWay c.way.view_is c.way.invariant.0 in
+    let deeper : length c.args.keys.now < length c.args.way.now.plan.levels = not_full c.args.keys.now c.args.way.now.plan.levels c.len-depth.result c.len.result c.requires.reached.within c.len-depth.ensures (c.len.ensures ∙ ap (λ (w : WayView). length w.plan.levels) c.way.view_is) c.if-depth-len.false in
+    let ends = c.stops_at.ensures.ends c.if-stops_at.true in
+    let wanted = ap (λ (w : WayView). w.wanted) c.way.view_is in
+    let within : c.args.way.now.wanted ≤ length c.args.keys.now = omega (arith, ends.1, wanted, c.len-depth.ensures) in
+    walked_stopped c.args.way.now c.args.walk.now.found c.loop-met.walk.found c.args.keys.now c.args.iters.now c.loop-met.iters 0 c.args.moves.now c.loop-met.moves c.loop-met.met.key c.loop-met.met.turn inv.going c.enter.new.walk.found c.descend.new.walk.found c.descend.new.moves c.in_ok-stopped.stopped deeper within ends.0 at_key deep walked
 
-pub returns-then-stopped-clause-known : goal.returns-then-stopped-clause-known
-returns-then-stopped-clause-known g t c =
+pub returns-then-stops_at-clause-iters : goal.returns-then-stops_at-clause-iters
+returns-then-stops_at-clause-iters g t c =
+    let inv = c.loop-met.invariant in
+    let at_key : c.loop-met.met.key < 2 ^ 128 - 1 = omega arith in
+    let same : c.way.inside.plan.now ≡ c.args.way.now.plan = ap (λ (w : WayView). w.plan) c.way.view_is in
+    c.close.ensures c.args.iters.now (closing_opened c.args.way.now c.way.inside.plan.now c.args.keys.now c.at_level.result.now c.args.iters.now c.loop-met.iters c.descend.new.iters c.len-depth.result c.loop-met.met.key c.loop-met.met.turn same c.at_level.ensures.value c.len-depth.ensures c.in_ok-stopped.ensures.iters (inv.going.stands at_key))
+
+pub returns-then-stops_at-clause-known : goal.returns-then-stops_at-clause-known
+returns-then-stops_at-clause-known g t c =
     let inv = c.loop-met.invariant in
     let at_key : c.loop-met.met.key < 2 ^ 128 - 1 = omega arith in
     let pushed : c.enter.new.keys ≡ c.args.keys.now ++ c.loop-met.met.key ∷ [] = c.in_ok-enter.ensures.keys ∙ ap (λ (ks : List ℕ). ks ++ c.loop-met.met.key ∷ []) inv.same in
     IsKnown-above c.args.way.now.plan.levels c.args.keys.now c.loop-met.met.key (values_in c.descend.new.walk.values.cells)
     (subst (λ (ks : List ℕ). IsKnown c.args.way.now.plan.levels ks (values_in c.descend.new.walk.values.cells)) pushed c.in_ok-stopped.ensures.known)
 
-pub returns-then-stopped-clause-back : goal.returns-then-stopped-clause-back
-returns-then-stopped-clause-back g t c =
+pub returns-then-stops_at-clause-back : goal.returns-then-stops_at-clause-back
+returns-then-stops_at-clause-back g t c =
     let inv = c.loop-met.invariant in
     let at_key : c.loop-met.met.key < 2 ^ 128 - 1 = omega arith in
     let pushed : c.enter.new.keys ≡ c.args.keys.now ++ c.loop-met.met.key ∷ [] = c.in_ok-enter.ensures.keys ∙ ap (λ (ks : List ℕ). ks ++ c.loop-met.met.key ∷ []) inv.same in
     let back : c.pop.new.self ≡ c.args.keys.now = popped c.args.keys.now c.loop-met.met.key c.descend.new.keys c.pop.new.self (c.in_ok-stopped.ensures.back ∙ pushed) c.pop.ensures in
     back
 
-pub returns-then-stopped-clause-moves : goal.returns-then-stopped-clause-moves
-returns-then-stopped-clause-moves g t c =
+pub returns-then-stops_at-clause-moves : goal.returns-then-stops_at-clause-moves
+returns-then-stops_at-clause-moves g t c =
     omega (arith, c.loop-met.invariant.going.rises, c.descend.ensures.moves)
 
 pub returns-in_err-met-clause-cost : goal.returns-in_err-met-clause-cost
 returns-in_err-met-clause-cost g t c =
     let way : IsWay c.args.way.now = subst IsWay c.way.view_is c.way.invariant.0 in
-    let deeper : length c.args.keys.now < length c.args.way.now.plan.levels = not_full c.args.keys.now c.args.way.now.plan.levels c.len.result c.len-2.result c.requires.reached.within c.len.ensures (c.len-2.ensures ∙ ap (λ (w : WayView). length w.plan.levels) c.way.view_is) c.if-len.false in
+    let deeper : length c.args.keys.now < length c.args.way.now.plan.levels = not_full c.args.keys.now c.args.way.now.plan.levels c.len-depth.result c.len.result c.requires.reached.within c.len-depth.ensures (c.len.ensures ∙ ap (λ (w : WayView). length w.plan.levels) c.way.view_is) c.if-depth-len.false in
     opened_cost c.args.way.now c.args.keys.now c.args.moves.now c.open.new.moves deeper c.open.ensures.within
 
 pub returns-in_err-enter-clause-cost : goal.returns-in_err-enter-clause-cost
@@ -241,8 +282,8 @@ returns-in_err-enter-clause-cost g t c =
     let inv = c.loop-met.invariant in
     going_cost c.args.way.now c.args.walk.now.found c.loop-met.walk.found c.args.keys.now c.args.iters.now c.loop-met.iters 0 c.args.moves.now c.loop-met.moves c.loop-met.met.key c.loop-met.met.turn inv.going
 
-pub returns-then-stopped-clause-cost : goal.returns-then-stopped-clause-cost
-returns-then-stopped-clause-cost g t c =
+pub returns-then-stops_at-clause-cost : goal.returns-then-stops_at-clause-cost
+returns-then-stops_at-clause-cost g t c =
     let inv = c.loop-met.invariant in
     let at_key : c.loop-met.met.key < 2 ^ 128 - 1 = omega arith in
     let pushed : c.enter.new.keys ≡ c.args.keys.now ++ c.loop-met.met.key ∷ [] = c.in_ok-enter.ensures.keys ∙ ap (λ (ks : List ℕ). ks ++ c.loop-met.met.key ∷ []) inv.same in
@@ -263,7 +304,7 @@ returns-in_err-met-2-clause-cost g t c =
     let at_key : c.loop-met.met.key < 2 ^ 128 - 1 = omega arith in
     let pushed : c.enter.new.keys ≡ c.args.keys.now ++ c.loop-met.met.key ∷ [] = c.in_ok-enter.ensures.keys ∙ ap (λ (ks : List ℕ). ks ++ c.loop-met.met.key ∷ []) inv.same in
     let back : c.pop.new.self ≡ c.args.keys.now = popped c.args.keys.now c.loop-met.met.key c.descend.new.keys c.pop.new.self (c.in_ok-stopped.ensures.back ∙ pushed) c.pop.ensures in
-    let stay : c.descend.new.iters ≡ c.loop-met.iters = c.in_ok-stopped.ensures.iters c.if-stopped.false in
+    let stay : c.descend.new.iters ≡ c.loop-met.iters = c.in_ok-stopped.ensures.iters in
     let below = subst (λ (ks : List ℕ). c.descend.new.moves ≤ c.loop-met.moves + cost_from (length c.args.way.now.body.absents) c.args.way.now.state c.args.way.now.plan.guides (drop (length ks) c.args.way.now.plan.levels) (length ks) (at ks)) pushed c.descend.ensures.cost in
     stopped_cost c.args.way.now c.args.walk.now.found c.loop-met.walk.found c.args.keys.now c.args.iters.now c.loop-met.iters 0 c.args.moves.now c.loop-met.moves c.loop-met.met.key c.loop-met.met.turn inv.going c.descend.new.moves c.next_key.new.moves at_key below
     (moves_on c.args.way.now c.loop-met.met.key c.loop-met.met.turn c.descend.new.moves c.next_key.new.moves c.pop.new.self c.args.keys.now c.descend.new.iters c.loop-met.iters back stay c.next_key.ensures.within)

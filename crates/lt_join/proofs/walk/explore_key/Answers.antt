@@ -1,4 +1,4 @@
-use Rattle.std.proofs.Common.{◌≡◌, ℕ, ◌+◌, ◌<◌, ◌≤◌, false, List, length, drop, Some, slice_get, [], ◌∷◌, ◌++◌, sym, ◌∙◌, ap, arith, subst}
+use Rattle.std.proofs.Common.{◌≡◌, ℕ, ◌+◌, ◌<◌, ◌≤◌, List, length, drop, Some, slice_get, [], ◌∷◌, ◌++◌, sym, ◌∙◌, ap, arith, inl, subst}
 use Rattle.lt_query.specs.declared.plans.Level.{Level}
 use Rattle.lt_join.specs.Cost.{cost_from}
 use Rattle.lt_join.specs.Explored.{Fits}
@@ -10,7 +10,7 @@ use Rattle.lt_join.specs.Walked.{at, IsReached}
 use Rattle.lt_join.specs.Way.{HasWalked}
 use Rattle.lt_join.proofs.Going.{HasEntered, entered_right, explored_key}
 use Rattle.lt_join.proofs.Known.{IsKnown-above}
-use Rattle.lt_join.proofs.Steps.{popped, stays_false}
+use Rattle.lt_join.proofs.Steps.{popped}
 use Rattle.lt_join.proofs.walk.explore_key.Goals as goal
 
 pub enter-requires-clause-deeper : goal.enter-requires-clause-deeper
@@ -73,11 +73,7 @@ returns-clause-back g c =
     popped [] c.args.key c.descend.new.keys c.pop.new.self (c.in_ok-descend.ensures.back ∙ pushed) c.pop.ensures
 
 pub returns-clause-iters : goal.returns-clause-iters
-returns-clause-iters g c =
-    let pushed : c.enter.new.keys ≡ c.args.key ∷ [] = c.in_ok-enter.ensures.keys ∙ ap (λ (ks : List ℕ). ks ++ c.args.key ∷ []) c.requires.at_root in
-    let walked = subst (λ (ks : List ℕ). HasWalked c.args.way.now ks c.enter.new.walk.found c.descend.new.walk.found c.args.moves.now c.descend.new.moves c.in_ok-descend.field-0) pushed c.in_ok-descend.ensures.walked in
-    let goes : c.in_ok-descend.field-0 ≡ false = stays_false c.in_ok-descend.field-0 (λ s. sym c.requires.all ∙ walked.asked s) in
-    c.in_ok-descend.ensures.iters goes
+returns-clause-iters g c = c.in_ok-descend.ensures.iters
 
 pub returns-clause-known : goal.returns-clause-known
 returns-clause-known g c =
@@ -85,8 +81,8 @@ returns-clause-known g c =
     IsKnown-above c.args.way.now.plan.levels [] c.args.key (values_in c.descend.new.walk.values.cells)
     (subst (λ (ks : List ℕ). IsKnown c.args.way.now.plan.levels ks (values_in c.descend.new.walk.values.cells)) pushed c.in_ok-descend.ensures.known)
 
-pub returns-clause-grows : goal.returns-clause-grows
-returns-clause-grows g c =
+pub returns-clause-below : goal.returns-clause-below
+returns-clause-below g c =
     let pushed : c.enter.new.keys ≡ c.args.key ∷ [] = c.in_ok-enter.ensures.keys ∙ ap (λ (ks : List ℕ). ks ++ c.args.key ∷ []) c.requires.at_root in
     let deep : HasEntered c.args.way.now [] c.args.walk.now.found c.enter.new.walk.found = record {
       grows = c.in_ok-enter.ensures.grows;
@@ -96,84 +92,7 @@ returns-clause-grows g c =
       rows = c.in_ok-enter.ensures.rows;
     } in
     let walked = subst (λ (ks : List ℕ). HasWalked c.args.way.now ks c.enter.new.walk.found c.descend.new.walk.found c.args.moves.now c.descend.new.moves c.in_ok-descend.field-0) pushed c.in_ok-descend.ensures.walked in
-    let goes : c.in_ok-descend.field-0 ≡ false = stays_false c.in_ok-descend.field-0 (λ s. sym c.requires.all ∙ walked.asked s) in
-    let explored = explored_key c.args.way.now [] c.args.key c.args.walk.now.found c.enter.new.walk.found c.descend.new.walk.found c.args.moves.now c.descend.new.moves c.in_ok-descend.field-0 goes deep walked in
-    explored.grows
-
-pub returns-clause-right : goal.returns-clause-right
-returns-clause-right g c =
-    let pushed : c.enter.new.keys ≡ c.args.key ∷ [] = c.in_ok-enter.ensures.keys ∙ ap (λ (ks : List ℕ). ks ++ c.args.key ∷ []) c.requires.at_root in
-    let deep : HasEntered c.args.way.now [] c.args.walk.now.found c.enter.new.walk.found = record {
-      grows = c.in_ok-enter.ensures.grows;
-      tight = c.in_ok-enter.ensures.tight;
-      gaps = c.in_ok-enter.ensures.gaps;
-      few = subst (λ (ks : List ℕ). length c.enter.new.walk.found.sense.hits ≤ length c.args.walk.now.found.sense.hits + length (atoms_at c.args.way.now.plan.guides (length ks))) c.requires.at_root c.in_ok-enter.ensures.few;
-      rows = c.in_ok-enter.ensures.rows;
-    } in
-    let walked = subst (λ (ks : List ℕ). HasWalked c.args.way.now ks c.enter.new.walk.found c.descend.new.walk.found c.args.moves.now c.descend.new.moves c.in_ok-descend.field-0) pushed c.in_ok-descend.ensures.walked in
-    let goes : c.in_ok-descend.field-0 ≡ false = stays_false c.in_ok-descend.field-0 (λ s. sym c.requires.all ∙ walked.asked s) in
-    let explored = explored_key c.args.way.now [] c.args.key c.args.walk.now.found c.enter.new.walk.found c.descend.new.walk.found c.args.moves.now c.descend.new.moves c.in_ok-descend.field-0 goes deep walked in
-    explored.right
-
-pub returns-clause-under : goal.returns-clause-under
-returns-clause-under g c =
-    let pushed : c.enter.new.keys ≡ c.args.key ∷ [] = c.in_ok-enter.ensures.keys ∙ ap (λ (ks : List ℕ). ks ++ c.args.key ∷ []) c.requires.at_root in
-    let deep : HasEntered c.args.way.now [] c.args.walk.now.found c.enter.new.walk.found = record {
-      grows = c.in_ok-enter.ensures.grows;
-      tight = c.in_ok-enter.ensures.tight;
-      gaps = c.in_ok-enter.ensures.gaps;
-      few = subst (λ (ks : List ℕ). length c.enter.new.walk.found.sense.hits ≤ length c.args.walk.now.found.sense.hits + length (atoms_at c.args.way.now.plan.guides (length ks))) c.requires.at_root c.in_ok-enter.ensures.few;
-      rows = c.in_ok-enter.ensures.rows;
-    } in
-    let walked = subst (λ (ks : List ℕ). HasWalked c.args.way.now ks c.enter.new.walk.found c.descend.new.walk.found c.args.moves.now c.descend.new.moves c.in_ok-descend.field-0) pushed c.in_ok-descend.ensures.walked in
-    let goes : c.in_ok-descend.field-0 ≡ false = stays_false c.in_ok-descend.field-0 (λ s. sym c.requires.all ∙ walked.asked s) in
-    let explored = explored_key c.args.way.now [] c.args.key c.args.walk.now.found c.enter.new.walk.found c.descend.new.walk.found c.args.moves.now c.descend.new.moves c.in_ok-descend.field-0 goes deep walked in
-    explored.under
-
-pub returns-clause-explored : goal.returns-clause-explored
-returns-clause-explored g c =
-    let pushed : c.enter.new.keys ≡ c.args.key ∷ [] = c.in_ok-enter.ensures.keys ∙ ap (λ (ks : List ℕ). ks ++ c.args.key ∷ []) c.requires.at_root in
-    let deep : HasEntered c.args.way.now [] c.args.walk.now.found c.enter.new.walk.found = record {
-      grows = c.in_ok-enter.ensures.grows;
-      tight = c.in_ok-enter.ensures.tight;
-      gaps = c.in_ok-enter.ensures.gaps;
-      few = subst (λ (ks : List ℕ). length c.enter.new.walk.found.sense.hits ≤ length c.args.walk.now.found.sense.hits + length (atoms_at c.args.way.now.plan.guides (length ks))) c.requires.at_root c.in_ok-enter.ensures.few;
-      rows = c.in_ok-enter.ensures.rows;
-    } in
-    let walked = subst (λ (ks : List ℕ). HasWalked c.args.way.now ks c.enter.new.walk.found c.descend.new.walk.found c.args.moves.now c.descend.new.moves c.in_ok-descend.field-0) pushed c.in_ok-descend.ensures.walked in
-    let goes : c.in_ok-descend.field-0 ≡ false = stays_false c.in_ok-descend.field-0 (λ s. sym c.requires.all ∙ walked.asked s) in
-    let explored = explored_key c.args.way.now [] c.args.key c.args.walk.now.found c.enter.new.walk.found c.descend.new.walk.found c.args.moves.now c.descend.new.moves c.in_ok-descend.field-0 goes deep walked in
-    explored.explored
-
-pub returns-clause-gaps : goal.returns-clause-gaps
-returns-clause-gaps g c =
-    let pushed : c.enter.new.keys ≡ c.args.key ∷ [] = c.in_ok-enter.ensures.keys ∙ ap (λ (ks : List ℕ). ks ++ c.args.key ∷ []) c.requires.at_root in
-    let deep : HasEntered c.args.way.now [] c.args.walk.now.found c.enter.new.walk.found = record {
-      grows = c.in_ok-enter.ensures.grows;
-      tight = c.in_ok-enter.ensures.tight;
-      gaps = c.in_ok-enter.ensures.gaps;
-      few = subst (λ (ks : List ℕ). length c.enter.new.walk.found.sense.hits ≤ length c.args.walk.now.found.sense.hits + length (atoms_at c.args.way.now.plan.guides (length ks))) c.requires.at_root c.in_ok-enter.ensures.few;
-      rows = c.in_ok-enter.ensures.rows;
-    } in
-    let walked = subst (λ (ks : List ℕ). HasWalked c.args.way.now ks c.enter.new.walk.found c.descend.new.walk.found c.args.moves.now c.descend.new.moves c.in_ok-descend.field-0) pushed c.in_ok-descend.ensures.walked in
-    let goes : c.in_ok-descend.field-0 ≡ false = stays_false c.in_ok-descend.field-0 (λ s. sym c.requires.all ∙ walked.asked s) in
-    let explored = explored_key c.args.way.now [] c.args.key c.args.walk.now.found c.enter.new.walk.found c.descend.new.walk.found c.args.moves.now c.descend.new.moves c.in_ok-descend.field-0 goes deep walked in
-    explored.gaps
-
-pub returns-clause-hits : goal.returns-clause-hits
-returns-clause-hits g c =
-    let pushed : c.enter.new.keys ≡ c.args.key ∷ [] = c.in_ok-enter.ensures.keys ∙ ap (λ (ks : List ℕ). ks ++ c.args.key ∷ []) c.requires.at_root in
-    let deep : HasEntered c.args.way.now [] c.args.walk.now.found c.enter.new.walk.found = record {
-      grows = c.in_ok-enter.ensures.grows;
-      tight = c.in_ok-enter.ensures.tight;
-      gaps = c.in_ok-enter.ensures.gaps;
-      few = subst (λ (ks : List ℕ). length c.enter.new.walk.found.sense.hits ≤ length c.args.walk.now.found.sense.hits + length (atoms_at c.args.way.now.plan.guides (length ks))) c.requires.at_root c.in_ok-enter.ensures.few;
-      rows = c.in_ok-enter.ensures.rows;
-    } in
-    let walked = subst (λ (ks : List ℕ). HasWalked c.args.way.now ks c.enter.new.walk.found c.descend.new.walk.found c.args.moves.now c.descend.new.moves c.in_ok-descend.field-0) pushed c.in_ok-descend.ensures.walked in
-    let goes : c.in_ok-descend.field-0 ≡ false = stays_false c.in_ok-descend.field-0 (λ s. sym c.requires.all ∙ walked.asked s) in
-    let explored = explored_key c.args.way.now [] c.args.key c.args.walk.now.found c.enter.new.walk.found c.descend.new.walk.found c.args.moves.now c.descend.new.moves c.in_ok-descend.field-0 goes deep walked in
-    explored.hits
+    explored_key c.args.way.now [] c.args.key c.args.walk.now.found c.enter.new.walk.found c.descend.new.walk.found c.args.moves.now c.descend.new.moves c.in_ok-descend.field-0 (inl c.requires.all) deep walked
 
 pub returns-clause-cost : goal.returns-clause-cost
 returns-clause-cost g c =

@@ -1,4 +1,0 @@
-use Rattle.lt_join.proofs.splitting_slices.SlicingRanged.find.Goals as goal
-
-pub returns-clause-found : goal.returns-clause-found
-returns-clause-found g c = (c.in_ok-found.ensures.slices, c.in_ok-found.ensures.sealed)
