@@ -228,7 +228,7 @@ each_first P (x ∷ xs) ys h = (h.0, each_first P xs ys h.1)
 
 -- what a join answers are the statement's slices
 pub found_are : (stmt : Stmt) (body : Body) (plan : Plan) (terms : List Term) (state : State) (root : Sense) (slices : List Slice) → body ≡ body_of stmt → IsPlanned (body_of stmt) plan → terms ≡ slice_terms stmt
-    → IsRising (slice_keys slices) → AllByRecursion (IsSliceOf terms body (term_at plan.levels 0) state) slices → AreRooted plan root (slice_keys slices) → IsTight (united root slices) state → root.hits ≡ [] → AreRootGaps root
+    → IsRising (slice_keys slices) → AllByRecursion (IsSliceOf terms body (term_at plan.levels 0) state) slices → AreRooted body plan root (slice_keys slices) → IsTight (united root slices) state → root.hits ≡ [] → AreRootGaps root
     → AreSlicesOn (slice_terms stmt) (body_of stmt) (stated_plan (body_of stmt)) state root slices
 found_are stmt body plan terms state root slices is planned terms_are rising each rooted tight none gaps =
     let of_root : IsTight root state = record {

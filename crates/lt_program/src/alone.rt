@@ -15,10 +15,10 @@ ghost use Rattle.lt_program.specs.Split.{statement_cost_by, whole_cost};
 ghost use Rattle.lt_program.specs.Tally.{keyed_on, keys_cost, outcome_on};
 
 use crate::evaluation::keyed;
-use crate::heads::{split_answers, terms_of_both};
+use crate::heads::{have_room, split_answers, terms_of_both};
 use crate::joining::Joiner;
 use crate::part::{Found, Part};
-use crate::slicing::{have_room, is_plain};
+use crate::slicing::is_plain;
 use lt_base::Database;
 use lt_face::items::{Items, RowList};
 use lt_face::memory::NoMemory;

@@ -104,7 +104,7 @@ fn answered<L>(
     Ok(part_whole(alloc, Found::Rows(rows), sense))
 }
 
-/// The answers of the head whose rows go, and of the one whose rows come, by a join for each.
+/// The answers of the head whose rows go, and of the one whose rows come.
 fn replaced<L>(
     alloc: Global,
     tables: &Database,

@@ -1,6 +1,7 @@
 //! The answers of a statement's heads by a join of its body, and those of two heads out of the answers of the terms of both.
 //! What is said of moves holds also where memory is refused.
-ghost use Rattle.std.specs.Prelude.{◌≡◌, ◌+◌, ◌≤◌, ◌++◌, map, take, drop, IfOk};
+ghost use Rattle.std.specs.Prelude.{◌≡◌, ◌+◌, ◌≤◌, ◌++◌, length, map, take, drop, nat_le, IfOk};
+ghost use Rattle.lt_face.specs.Limits.{most_columns};
 ghost use Rattle.lt_model.specs.Answers.{answers as answers_of, ascending as ascending_rows};
 ghost use Rattle.lt_base.specs.Tables.{state_of};
 ghost use Rattle.lt_query.specs.Stated.{stated_plan};
@@ -12,6 +13,7 @@ ghost use Rattle.lt_program.specs.Planned.{ArePicked};
 
 use lt_base::Database;
 use lt_face::items::RowList;
+use lt_face::limits::MOST_COLUMNS;
 use lt_face::memory::NoMemory;
 use lt_face::moves::Moves;
 use lt_face::row::Row;
@@ -49,6 +51,15 @@ pub(crate) fn found<L>(
 {
     let found = answers_unsealed(alloc, body, plan, terms, tables, moves)?;
     Ok(found)
+}
+
+/// Whether the cells of both lists have room in one row.
+pub(crate) fn have_room(first: &TermList, second: &TermList) -> bool
+    requires first { length first.now ≤ most_columns }
+    requires second { length second.now ≤ most_columns }
+    ensures { result ≡ nat_le (length first.now + length second.now) most_columns }
+{
+    first.len() + second.len() <= MOST_COLUMNS
 }
 
 /// The terms of both heads, in this order.
@@ -106,7 +117,7 @@ pub(crate) fn split_answers(
     Ok((first, second))
 }
 
-/// The answers of two heads, by a join for each.
+/// The answers of two heads: by one join for the terms of both, where their cells have room in one row.
 pub(crate) fn found_both<L>(
     alloc: Global,
     tables: &Database,
@@ -126,6 +137,16 @@ pub(crate) fn found_both<L>(
     ensures cost { moves.new ≤ moves.old + (bound body.now (stated_plan body.now) (state_of tables.now) + bound body.now (stated_plan body.now) (state_of tables.now)) }
     ensures moves { moves.old ≤ moves.new }
 {
+    if have_room(first, second) {
+        let terms = terms_of_both(first, second)?;
+        let (rows, sense) = found(alloc, tables, body, plan, &terms, moves)?;
+        let (first, second) = split_answers(alloc, &rows, first.len())?;
+        return Ok(Pair {
+            first,
+            second,
+            sense,
+        });
+    }
     let one = found(alloc, tables, body, plan, first, moves)?;
     let other = found(alloc, tables, body, plan, second, moves)?;
     let (first, sense) = one;

@@ -1,7 +1,6 @@
 //! Statements kept by slices: their evaluation, and how what was kept is mended where rows changed. What is said of moves
 //! holds also where memory is refused.
-ghost use Rattle.std.specs.Prelude.{◌≡◌, ◌+◌, ◌≤◌, true, length, nat_le, IfOk};
-ghost use Rattle.lt_face.specs.Limits.{most_columns};
+ghost use Rattle.std.specs.Prelude.{◌≡◌, ◌+◌, ◌≤◌, true, IfOk};
 ghost use Rattle.lt_face.specs.State.{State};
 ghost use Rattle.lt_model.specs.Answers.{answers as answers_of};
 ghost use Rattle.lt_model.specs.Effect.{is_plain as is_plain_in};
@@ -18,12 +17,11 @@ ghost use Rattle.lt_program.specs.Asked.{CanEvaluate};
 ghost use Rattle.lt_program.specs.Planned.{IsPlanned};
 ghost use Rattle.lt_program.specs.Tally.{IsPartOn, IsMendedPart, has_level as has_level_in, is_sliced as is_sliced_in, slice_terms as slice_terms_of, outcome_on};
 
-use crate::heads::{split_answers, terms_of_both};
+use crate::heads::{have_room, split_answers, terms_of_both};
 use crate::part::{Found, Part};
 use lt_base::Database;
 use lt_face::items::{Items, RowList};
 use lt_face::key::Key;
-use lt_face::limits::MOST_COLUMNS;
 use lt_face::memory::NoMemory;
 use lt_face::moves::Moves;
 use lt_join::{SharedSlices, mend, rows_of_slices, slices_unsealed};
@@ -38,15 +36,6 @@ fn has_level(body: &Body) -> bool
     ensures { result ≡ has_level_in body.now }
 {
     body.atoms.len() > 0
-}
-
-/// Whether the cells of both lists have room in one row.
-pub(crate) fn have_room(first: &TermList, second: &TermList) -> bool
-    requires first { length first.now ≤ most_columns }
-    requires second { length second.now ≤ most_columns }
-    ensures { result ≡ nat_le (length first.now + length second.now) most_columns }
-{
-    first.len() + second.len() <= MOST_COLUMNS
 }
 
 /// Whether all columns of the head's relation are key columns.
