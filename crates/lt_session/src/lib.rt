@@ -1,17 +1,17 @@
 //! The top call: from the words and the bytes to the report, or from the words to the summary of a bench, and to the status.
 #![tactic(auto)]
 
-mod batch;
+pub mod batch;
 mod bench;
 mod beside;
 mod come;
 mod endings;
 mod front;
-mod halt;
+pub mod halt;
 mod input;
 pub mod laws;
 mod line;
-mod options;
+pub mod options;
 mod publishing;
 mod repair;
 mod replay;
@@ -21,6 +21,6 @@ mod session;
 mod status;
 mod stop;
 mod tracing;
-mod world;
+pub mod world;
 
 pub use repair::repair_main;

@@ -1,0 +1,4 @@
+pub mod Feeding
+pub mod Heard
+pub mod Answering
+pub mod Loading
