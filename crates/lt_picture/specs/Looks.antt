@@ -1,5 +1,5 @@
 -- What came of a claim.
-use Rattle.std.specs.Prelude.{ℕ, Bool, if◌then◌else◌}
+use Rattle.std.specs.Prelude.{ℕ, List, Bool, Option, None, if◌then◌else◌, slice_get}
 use Rattle.lt_net.specs.declared.job.JobName.{JobName}
 use Rattle.lt_net.specs.declared.job.JobName.TheVariants as jobs
 use Rattle.lt_circuit.specs.declared.entry.Event.{Event}
@@ -22,3 +22,9 @@ abbrev pub look_by : (ran : ℕ → Bool) → JobName → Event → Look
 look_by ran job Claim = done_look ran job
 look_by ran job Finish = done_look ran job
 look_by ran job Abandon = looks.GivenBack
+
+-- the name of a job's program, where the names of the programs stand in order
+abbrev pub name_by : {Name : Type 0} → List Name → JobName → Option Name
+name_by names (jobs.Leaf program) = slice_get names program
+name_by names (jobs.Merge node) = None
+name_by names (jobs.Correct node) = None

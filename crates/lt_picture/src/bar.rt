@@ -1,7 +1,7 @@
 //! A claim in its lane.
 use crate::batch::{Bar, Look};
-use crate::elements::{Area, put_area, put_number};
-use crate::layout::{BAR, MOST_DRAWN, STEP, lane_top, left_of, right_of};
+use crate::elements::{Area, put_area, put_number, put_words};
+use crate::layout::{BAR, MOST_DRAWN, STEP, lane_top, left_of, right_of, room_for};
 use lt_circuit::JobName;
 use std::alloc::AllocError;
 
@@ -30,17 +30,21 @@ fn outcome_of(look: Look) -> &'static str {
     }
 }
 
-/// Writes the name of a job. Programs count from 1.
-fn put_job(text: &mut String, job: JobName) -> Result<(), AllocError> {
+/// Writes what a job is, with the name of its program, where that is known. Programs count from 1.
+fn put_job(text: &mut String, job: JobName, name: Option<&str>) -> Result<(), AllocError> {
     match job {
-        JobName::Leaf(leaf) => write!(text, "program {}", u64::from(leaf) + 1),
-        JobName::Merge(node) => write!(text, "merge at node {node}"),
-        JobName::Correct(node) => write!(text, "correction at node {node}"),
+        JobName::Leaf(leaf) => write!(text, "program {}", u64::from(leaf) + 1)?,
+        JobName::Merge(node) => write!(text, "merge at node {node}")?,
+        JobName::Correct(node) => write!(text, "correction at node {node}")?,
     }
+    if let Some(name) = name {
+        write!(text, " ({name})")?;
+    }
+    Ok(())
 }
 
 /// Writes what a bar tells where a reader points at it.
-fn put_note(text: &mut String, bar: &Bar) -> Result<(), AllocError> {
+fn put_note(text: &mut String, bar: &Bar, name: Option<&str>) -> Result<(), AllocError> {
     let Bar {
         worker,
         from,
@@ -49,12 +53,12 @@ fn put_note(text: &mut String, bar: &Bar) -> Result<(), AllocError> {
     } = *bar;
     let outcome = outcome_of(bar.look);
     write!(text, "<title>worker {worker}: ")?;
-    put_job(text, bar.job)?;
+    put_job(text, bar.job, name)?;
     write!(text, "{outcome}, entries {from} to {to}</title>")
 }
 
-/// Writes the number of a program in the middle of its bar, where there is room.
-fn put_label(text: &mut String, bar: &Bar) -> Result<(), AllocError> {
+/// Writes a program's name in the middle of its bar, or its number, where there is no room for the name.
+fn put_label(text: &mut String, bar: &Bar, name: Option<&str>) -> Result<(), AllocError> {
     let JobName::Leaf(leaf) = bar.job else {
         return Ok(());
     };
@@ -69,11 +73,17 @@ fn put_label(text: &mut String, bar: &Bar) -> Result<(), AllocError> {
         "dark"
     };
     let line = lane_top(bar.worker) + TO_NUMBER;
-    put_number(text, class, (left + right) / 2, line, u64::from(leaf) + 1)
+    let middle = (left + right) / 2;
+    match name {
+        Some(name) if room_for(name.len()) <= right - left => put_words(
+            text, class, middle, line, name,
+        ),
+        _ => put_number(text, class, middle, line, u64::from(leaf) + 1),
+    }
 }
 
 /// Writes a claim, unless it begins behind the entries that are drawn.
-pub fn put_bar(text: &mut String, bar: &Bar) -> Result<(), AllocError> {
+pub fn put_bar(text: &mut String, bar: &Bar, name: Option<&str>) -> Result<(), AllocError> {
     if bar.from > MOST_DRAWN {
         return Ok(());
     }
@@ -85,8 +95,8 @@ pub fn put_bar(text: &mut String, bar: &Bar) -> Result<(), AllocError> {
         height: BAR,
     };
     text.push_str("<g>")?;
-    put_note(text, bar)?;
+    put_note(text, bar, name)?;
     put_area(text, class_of(bar.look), area)?;
-    put_label(text, bar)?;
+    put_label(text, bar, name)?;
     text.push_str("</g>\n")
 }

@@ -1,6 +1,7 @@
 //! What is drawn of a batch.
-ghost use Rattle.std.specs.Prelude.{◌≡◌, ◌<◌, ◌≤◌, All, count_by};
+ghost use Rattle.std.specs.Prelude.{◌≡◌, ◌<◌, ◌≤◌, length, All, count_by};
 ghost use Rattle.lt_face.specs.Limits.{most_programs, most_workers};
+ghost use Rattle.lt_picture.specs.Looks.{name_by};
 
 use lt_circuit::JobName;
 
@@ -31,22 +32,34 @@ pub struct Bar {
 }
 
 /// A batch: its number, how many programs it has, how many entries its journal has, and the claims, in the order in which
-/// they ended.
+/// they ended. Where the report told the names of its programs, they stand in order, else none does.
 #[derive(Drop)]
-pub struct Batch {
+pub struct Batch<'a> {
     pub number: u32,
     pub programs: u32,
     pub events: u32,
     pub bars: Vec<Bar>,
+    pub names: Vec<&'a str>,
     ghost few: { programs ≤ most_programs },
+    ghost named: { 0 < length names.items → length names.items ≡ programs },
 }
 
-impl Batch {
+impl<'a> Batch<'a> {
     /// How many claims came to this.
     pub fn count(&self, look: Look) -> usize
         ensures { result ≡ count_by (λ bar. ⟦<Look as PartialEq>⟧.eq bar.look look) self.now.bars.items }
     {
         self.bars.iter().filter(|bar| bar.look == look).count()
+    }
+
+    /// The name of the program that a job runs, where it runs one and the report told its name.
+    pub fn name_of(&self, job: JobName) -> Option<&'a str>
+        ensures { result ≡ name_by self.now.names.items job }
+    {
+        match job {
+            JobName::Leaf(leaf) => self.names.get(leaf as usize).copied(),
+            _ => None,
+        }
     }
 
     /// How many lanes the workers need, one at least.

@@ -22,7 +22,7 @@ fn put_count(text: &mut String, count: u64, thing: &str) -> Result<(), AllocErro
 }
 
 /// Writes a batch's title.
-fn put_title(text: &mut String, batch: &Batch) -> Result<(), AllocError> {
+fn put_title(text: &mut String, batch: &Batch<'_>) -> Result<(), AllocError> {
     let number = batch.number;
     write!(text, "<text class='title' x='10' y='22'>batch {number}: ")?;
     put_count(text, u64::from(batch.programs), "program")?;
@@ -66,7 +66,7 @@ fn put_axis(text: &mut String, entries: u32, lanes: u32) -> Result<(), AllocErro
 }
 
 /// Writes how many entries there are of each kind.
-fn put_counts(text: &mut String, batch: &Batch, line: u64) -> Result<(), AllocError> {
+fn put_counts(text: &mut String, batch: &Batch<'_>, line: u64) -> Result<(), AllocError> {
     let events = batch.events;
     let again = batch.count(Look::Again);
     let runs = batch.count(Look::Run);
@@ -90,7 +90,7 @@ fn put_rest(text: &mut String, events: u32, line: u64) -> Result<(), AllocError>
 }
 
 /// Writes a batch, `top` below the upper edge of the picture.
-pub fn put_chart(text: &mut String, batch: &Batch, top: u64) -> Result<(), AllocError> {
+pub fn put_chart(text: &mut String, batch: &Batch<'_>, top: u64) -> Result<(), AllocError> {
     let lanes = batch.lanes();
     let entries = batch.events.min(MOST_DRAWN);
     let bottom = lane_top(lanes);
@@ -101,7 +101,7 @@ pub fn put_chart(text: &mut String, batch: &Batch, top: u64) -> Result<(), Alloc
     }
     put_axis(text, entries, lanes)?;
     for bar in &batch.bars {
-        put_bar(text, bar)?;
+        put_bar(text, bar, batch.name_of(bar.job))?;
     }
     put_counts(text, batch, bottom + TO_COUNTS)?;
     put_rest(text, batch.events, bottom + TO_REST)?;

@@ -22,6 +22,18 @@ pub fn put_area(text: &mut String, class: &str, area: Area) -> Result<(), AllocE
     write!(text, " width='{width}' height='{height}'/>")
 }
 
+/// Writes words, whose line stands at `y`. How they stand about `x` is the class's.
+pub fn put_words(
+    text: &mut String,
+    class: &str,
+    x: u64,
+    y: u64,
+    words: &str,
+) -> Result<(), AllocError> {
+    write!(text, "<text class='{class}' x='{x}' y='{y}'>")?;
+    write!(text, "{words}</text>")
+}
+
 /// Writes a number, whose line stands at `y`. How it stands about `x` is the class's.
 pub fn put_number(
     text: &mut String,

@@ -15,6 +15,9 @@ pub const LANE: u64 = 26;
 
 pub const BAR: u64 = 20;
 
+// How wide a letter is taken to be.
+const LETTER: u64 = 8;
+
 /// What the picture has above its first batch: the legend.
 pub const LEGEND: u64 = 80;
 
@@ -43,6 +46,13 @@ pub fn right_of(entry: u32) -> u64
     ensures within { result ≤ LEFT + STEP * MOST_DRAWN }
 {
     LEFT + STEP * u64::from(entry.min(MOST_DRAWN))
+}
+
+/// How much room words of so many letters take at most.
+pub fn room_for(letters: usize) -> u64
+    ensures { result ≡ LETTER * min letters (MOST_DRAWN * STEP) }
+{
+    LETTER * (letters as u64).min(u64::from(MOST_DRAWN) * STEP)
 }
 
 /// The top of a worker's lane in its batch.

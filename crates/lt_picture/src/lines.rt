@@ -1,6 +1,6 @@
 //! What single lines say.
-ghost use Rattle.std.specs.Prelude.{◌≡◌, ◌++◌, codes, decimal, IfSome};
-ghost use Rattle.lt_picture.specs.Lines.{spaced, header_line, entry_line};
+ghost use Rattle.std.specs.Prelude.{◌≡◌, ◌++◌, codes, decimal, All, IsTrue, IfSome};
+ghost use Rattle.lt_picture.specs.Lines.{spaced, header_line, entry_line, version_line, IsNameCode, IsRun, IsRunOf};
 
 use itoa::Buffer;
 
@@ -60,6 +60,49 @@ pub fn entry_words(line: &str) -> Option<(u32, u32)>
     let worker = number_of(worker)?;
     let code = number_of(code)?;
     Some((worker, code))
+}
+
+/// The number of the batch that a line of a report ends, where it ends one.
+pub fn version_of(line: &str) -> Option<u32>
+    ensures { IfSome result (λ batch. line.now ≡ version_line batch) }
+{
+    number_of(line.strip_prefix("version ")?)
+}
+
+/// Whether a word can be a program's name: it has small letters, digits and `_` alone.
+fn is_name(word: &str) -> bool
+    ensures { IsTrue result → All IsNameCode word.now }
+{
+    !word.is_empty()
+        && word.bytes().all(|byte| byte == b'_'
+            || byte.is_ascii_lowercase()
+            || byte.is_ascii_digit())
+}
+
+/// Whether this is what is said behind its name of a program that ran.
+fn is_run(reply: &str) -> bool
+    ensures { IsTrue result → IsRun reply.now }
+{
+    if reply == "done" {
+        return true;
+    }
+    match words_of(reply) {
+        Some((word, statement)) => word == "refused" && number_of(statement).is_some(),
+        None => false,
+    }
+}
+
+/// The name of the program that ran, where a line of a report that is no row says that one did.
+pub fn run_of(line: &str) -> Option<&str>
+    ensures line { IfSome result (λ name. IsRunOf name.now line.now) }
+    ensures plain { IfSome result (λ name. All IsNameCode name.now) }
+{
+    let (name, reply) = words_of(line)?;
+    if is_name(name) && is_run(reply) {
+        Some(name)
+    } else {
+        None
+    }
 }
 
 /// How many rows follow a line of a report that is no row itself: those that a program printed, or those that are shown.

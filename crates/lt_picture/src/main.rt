@@ -12,6 +12,7 @@ mod input;
 mod layout;
 mod legend;
 mod lines;
+mod names;
 mod picture;
 mod refusal;
 mod stop;

@@ -28,7 +28,7 @@ fn write_all<K: Sink>(sink: &mut K, piece: &[u8]) -> Result<(), Stop>
 }
 
 /// The most entries that a batch has.
-fn most_entries(batches: &[Batch]) -> u32
+fn most_entries(batches: &[Batch<'_>]) -> u32
     ensures { All (λ batch. batch.events ≤ result) batches.now }
 {
     let mut entries = 0;
@@ -39,7 +39,7 @@ fn most_entries(batches: &[Batch]) -> u32
 }
 
 /// How high the picture of these batches is.
-fn height_of(batches: &[Batch]) -> u64 {
+fn height_of(batches: &[Batch<'_>]) -> u64 {
     let mut height = LEGEND;
     for batch in batches {
         height = height.saturating_add(height_over(batch.lanes()));
@@ -57,7 +57,11 @@ fn put_head(text: &mut String, width: u64, height: u64) -> Result<(), AllocError
 }
 
 /// Writes the picture of these batches, one below the other.
-pub fn write_picture<K: Sink>(alloc: Global, batches: &[Batch], sink: &mut K) -> Result<(), Stop>
+pub fn write_picture<K: Sink>(
+    alloc: Global,
+    batches: &[Batch<'_>],
+    sink: &mut K,
+) -> Result<(), Stop>
     ensures { IfErr result (λ stop. IsRefusal stop → ⊥) }
 {
     let mut text = String::new(alloc);

@@ -2,7 +2,7 @@
 //!
 //! The lines of the report come first. One that begins with `print` or `show`, which are no names of programs, says how many
 //! rows follow; these are passed over, since a row can look like any line. The first line `trace K n e` among the others
-//! begins the traces, and nothing but traces follows.
+//! begins the traces, and nothing but traces follows. What the lines before say of programs tells their names.
 ghost use Rattle.std.specs.Prelude.{◌<◌, ◌≤◌, length, IfOk};
 ghost use Rattle.lt_face.specs.Limits.{most_programs, most_workers};
 
@@ -10,6 +10,7 @@ use crate::batch::{Bar, Batch};
 use crate::claims::Claims;
 use crate::entries::{entry_of, flaw_of};
 use crate::lines::{Header, entry_words, header_of, rows_behind};
+use crate::names::Names;
 use crate::refusal::{Flaw, Refusal};
 use crate::stop::Stop;
 use lt_circuit::{Entry, Event};
@@ -19,15 +20,17 @@ use std::mem;
 
 /// What is known behind some lines of a report.
 #[derive(Drop)]
-struct Reader {
+struct Reader<'a> {
     /// The allocator.
     alloc: Global,
     /// The lines so far.
     line: u64,
     /// The rows of the report that follow.
     rows: u32,
+    /// The names that the report told.
+    names: Names<'a>,
     /// The batches whose traces are complete.
-    batches: Vec<Batch>,
+    batches: Vec<Batch<'a>>,
     /// The first line of the last trace.
     header: Header,
     /// How many entries of it were met.
@@ -39,13 +42,14 @@ struct Reader {
     ghost few: { header.programs ≤ most_programs },
 }
 
-impl Reader {
+impl<'a> Reader<'a> {
     /// Before the first line.
-    fn new(alloc: Global) -> Reader {
+    fn new(alloc: Global) -> Reader<'a> {
         Reader {
             alloc,
             line: 0,
             rows: 0,
+            names: Names::new(alloc),
             batches: Vec::new(alloc),
             header: Header {
                 batch: 0,
@@ -64,7 +68,7 @@ impl Reader {
     }
 
     /// Goes on by a line.
-    fn take(&mut self, line: &str) -> Result<(), Stop> {
+    fn take(&mut self, line: &'a str) -> Result<(), Stop> {
         self.line = self.line.saturating_add(1);
         if self.entries < self.header.entries {
             return self.take_entry(line);
@@ -77,6 +81,7 @@ impl Reader {
             Some(header) => self.open(header),
             None if self.batches.is_empty() => {
                 self.rows = rows_behind(line);
+                self.names.take(line)?;
                 Ok(())
             }
             None => Err(self.stop(Flaw::NoHeader)),
@@ -154,17 +159,24 @@ impl Reader {
             return Err(self.stop(Flaw::Unended));
         }
         let bars = mem::replace(&mut self.bars, Vec::new(self.alloc));
+        let Header {
+            batch,
+            programs,
+            ..
+        } = self.header;
+        let names = self.names.of_batch(batch, programs);
         self.batches.push(Batch {
-            number: self.header.batch,
-            programs: self.header.programs,
+            number: batch,
+            programs,
             events: self.header.entries,
             bars,
+            names,
         })?;
         Ok(())
     }
 
     /// The batches, behind the last line.
-    fn end(self) -> Result<Vec<Batch>, Stop>
+    fn end(self) -> Result<Vec<Batch<'a>>, Stop>
         ensures { IfOk result (λ batches. 0 < length batches.items) }
     {
         let Reader {
@@ -184,7 +196,7 @@ impl Reader {
 }
 
 /// The batches whose traces stand at the end of a report.
-pub fn batches_of(alloc: Global, text: &str) -> Result<Vec<Batch>, Stop>
+pub fn batches_of(alloc: Global, text: &str) -> Result<Vec<Batch<'_>>, Stop>
     ensures { IfOk result (λ batches. 0 < length batches.items) }
 {
     if text.is_empty() {
