@@ -151,6 +151,50 @@ fn bodies_have_their_answers(rt: HostRuntime) -> Result<(), NoMemory> {
             "print (x) where r(x), x = 1;",
             [1].as_slice(),
         ),
+        // both bounds, by a constant and by a variable of an earlier level, on either side
+        (
+            "insert r(1); insert r(3); insert r(5); insert r(7); insert r(9);",
+            "print (x) where r(x), 3 < x, x <= 7;",
+            [5, 7].as_slice(),
+        ),
+        (
+            "insert r(2); insert r(3); insert e(2, 1); insert e(2, 3); insert e(3, 1); insert e(3, 5);",
+            "print (y) where r(x), e(x, y), x < y;",
+            [3, 5].as_slice(),
+        ),
+        // a range between two unequal keys, and one without a key
+        (
+            "insert r(1); insert r(3); insert r(9);",
+            "print (x) where r(x), x != 3, x >= 3;",
+            [9].as_slice(),
+        ),
+        (
+            "insert r(1); insert r(9);",
+            "print (x) where r(x), x > 3, x < 2;",
+            [].as_slice(),
+        ),
+        // a key that is reckoned from one above, and a bound that is
+        (
+            "insert r(1); insert r(2); insert r(4); insert r(5);",
+            "print (y) where r(x), r(y), y = x + 1;",
+            [2, 5].as_slice(),
+        ),
+        (
+            "insert r(1); insert r(2); insert r(4); insert r(5);",
+            "print (y) where r(x), r(y), m = x + 2, y > m;",
+            [4, 5].as_slice(),
+        ),
+        // the least, and those for which another is there
+        (
+            "insert r(4); insert r(7); insert r(9);",
+            "print (x) where r(x), r(y), y < x;",
+            [7, 9].as_slice(),
+        ),
+        (
+            "insert e(1, 1); insert e(1, 2); insert e(2, 5); insert r(1); insert r(2);",
+            "print (x) where r(x), e(x, y), not e(y, x);",
+            [1, 2].as_slice(),
+        ),
         // a sum past the range of ints
         (
             "insert r(7); insert r(9223372036854775807);",
@@ -297,15 +341,26 @@ fn evaluations_leave_their_gaps_and_hits(rt: HostRuntime) -> Result<(), NoMemory
                 covers: (true, false),
             },
         ),
-        // one without an answer passes all
+        // one without an answer passes all of the range
         (
             "insert r(1); insert r(2); insert r(3);",
             "require some r(x), x > 3;",
             false,
             Sensitive {
                 gaps: &[(0, ONE), (ONE + 3, END)],
-                hits: &[1, 2, 3],
+                hits: &[1],
                 covers: (true, true),
+            },
+        ),
+        // a range ends at its upper bound
+        (
+            "insert r(1); insert r(9);",
+            "print (x) where r(x), x <= 3;",
+            true,
+            Sensitive {
+                gaps: &[(0, ONE), (ONE + 1, NINE)],
+                hits: &[1],
+                covers: (true, false),
             },
         ),
         // a requirement that is met by an absent row keeps its gap, and what it met before, each row once

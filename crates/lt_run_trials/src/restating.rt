@@ -109,7 +109,7 @@ fn touches_by_name<R: Threads + Sync>(
     Ok(count)
 }
 
-/// An insert into a gap touches, one past a pinned key doesn't, and one past the last edge of a triangle does.
+/// An insert into a gap touches, one past a pinned key doesn't, nor one past a range; one past the last edge of a triangle does.
 #[test]
 fn changed_rows_touch_by_name(rt: HostRuntime) -> Result<(), NoMemory> {
     let alloc = rt.alloc();
@@ -120,11 +120,16 @@ fn changed_rows_touch_by_name(rt: HostRuntime) -> Result<(), NoMemory> {
     let pinned = "print (x) where r(x), x = 1;";
     same(&rt, touches_by_name(&rt, alloc, two, above, FIVE)?, 1);
     same(&rt, touches_by_name(&rt, alloc, two, pinned, TWENTY)?, 0);
-    same(
-        &rt,
-        touches_by_name(&rt, alloc, edges, triangle, "insert e(3, 4);")?,
-        1,
-    );
+    // other nights of the same room
+    let nights =
+        "insert e(1, 5); insert e(1, 6); insert e(1, 10); insert e(1, 11); insert e(1, 20);";
+    let three = "print (d) where e(1, d), d >= 10, d < 13;";
+    let others = "insert e(1, 8); insert e(1, 21); insert e(2, 11);";
+    same(&rt, touches_by_name(&rt, alloc, nights, three, others)?, 0);
+    let twelfth = "insert e(1, 12);";
+    same(&rt, touches_by_name(&rt, alloc, nights, three, twelfth)?, 1);
+    let last = "insert e(3, 4);";
+    same(&rt, touches_by_name(&rt, alloc, edges, triangle, last)?, 1);
     Ok(())
 }
 

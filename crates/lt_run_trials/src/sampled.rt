@@ -78,11 +78,14 @@ fn head(random: &mut Random) -> &'static str {
 
 /// A body with a comparison, a sum or a negated atom.
 fn body(random: &mut Random) -> &'static str {
-    match random.below(10) {
+    match random.below(13) {
         0 => "e(x, y), e(y, z), e(?, ?), # = ? + ?; ",
         1 => "e(x, y), e(y, z), e(?, ?), # = ? - ?; ",
         2 => "e(x, y), e(y, z), not e(?, ?); ",
         3 => "e(x, y), not e(?, ?), e(y, z), not e(w, #), w = ? + ?; ",
+        4 => "e(x, y), e(y, z), w = # + $, ? ~ w, ? ~ ?; ",
+        5 => "e(x, y), e(y, z), # ~ 9223372036854775807, # >= -9223372036854775808, ? ~ ?; ",
+        6 => "e(x, y), e(y, z), # ~ ?, # ~ ?; ",
         _ => "e(x, y), e(y, z), e(?, ?), ? ~ ?; ",
     }
 }

@@ -47,7 +47,7 @@ one_does_not_stay = refl
 without_two_rows : kept three ((9 ∷ []) ∷ (1 ∷ []) ∷ []) ≡ (5 ∷ []) ∷ []
 without_two_rows = refl
 
--- ---- marks: in relation 0 row 5 goes and row 7 comes, in relation 1 row 1 comes
+-- ---- marks: a row of one relation goes and another comes, and a row of a second relation comes
 
 abbrev marks : Marks
 marks =
