@@ -42,8 +42,8 @@ fn reason(status: u8) -> Option<&'static str> {
     }
 }
 
-// The exit status, and a line on standard error that says why, where there is a reason.
-fn ended<R: Eprint>(rt: &R, status: u8) -> ExitCode {
+// Writes a line on standard error that says why a run ended, where there is a reason, and gives the exit status.
+fn end_with<R: Eprint>(rt: &R, status: u8) -> ExitCode {
     if let Some(reason) = reason(status) {
         let _ = eprintln!(rt; "lt_shell: {reason}");
     }
@@ -52,14 +52,14 @@ fn ended<R: Eprint>(rt: &R, status: u8) -> ExitCode {
 
 fn main(rt: HostRuntime) -> ExitCode {
     let Ok(words) = words_of(&rt) else {
-        return ended(&rt, NO_MEMORY);
+        return end_with(&rt, NO_MEMORY);
     };
     // A report line is short: many of them go out by one system call. What fails then shows at a later write or a flush.
     let Ok(writer) = BufWriter::new(rt.alloc(), rt.stdout()) else {
-        return ended(&rt, NO_MEMORY);
+        return end_with(&rt, NO_MEMORY);
     };
     let mut source = StdSource::new(rt.stdin());
     let mut sink = StdSink::new(writer);
     let status = repair_main(&rt, rt.alloc(), &words, &mut source, &mut sink, &OpenGate);
-    ended(&rt, status)
+    end_with(&rt, status)
 }
