@@ -75,7 +75,7 @@ read_form n level _ = None
 word_first : (x : List ℕ) (us a b r : List Shape) → us ≡ a ++ b → a ≡ word x ∷ [] → us ++ r ≡ word x ∷ (b ++ r)
 word_first x us a b r e f = ap (λ (u : List Shape). u ++ r) e ∙ append_assoc a b r ∙ ap (λ (u : List Shape). u ++ (b ++ r)) f
 
-form_again : (n : ℕ) (level : Level) (s : Statement) (us r : List Shape) → length us < n → SpellsForm level s us → read_form n level (us ++ r) ≡ Some (s, r)
+pub form_again : (n : ℕ) (level : Level) (s : Statement) (us r : List Shape) → length us < n → SpellsForm level s us → read_form n level (us ++ r) ≡ Some (s, r)
 form_again n level (Insert head body) us r small h =
     let a : length h.1 ≤ length us = back_len us h.0 h.1 h.2 in
     ap (read_form n level) (word_first (codes "insert") us h.0 h.1 r h.2 h.3) ∙ ruled_again n level Insert head body h.1 r (omega (arith, a, small)) h.4

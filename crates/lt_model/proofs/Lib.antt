@@ -15,3 +15,8 @@ pub mod Choices
 pub mod Examples
 pub mod Digits
 pub mod Names
+pub mod OnCells
+pub mod Filled
+pub mod Numbers
+pub mod Alike
+pub mod Told

@@ -1,5 +1,5 @@
 -- Laws that tie the definitions to plain words. Each is proved in `proofs/`.
-use Rattle.std.specs.Prelude.{◌≡◌, ◌≢◌, ℕ, ◌<◌, ◌==◌, ◌&&◌, Bool, true, List, [], ◌∷◌, ◌++◌, length, Option, Some, None, unwrap_or, if◌then◌else◌}
+use Rattle.std.specs.Prelude.{◌≡◌, ◌≢◌, ℕ, ◌^◌, ◌<◌, ◌==◌, ◌&&◌, Bool, true, List, [], ◌∷◌, ◌++◌, length, Option, Some, None, unwrap_or, if◌then◌else◌}
 use Rattle.std.specs.List.{AllByRecursion}
 use Rattle.std.specs.Ordering.{is_eq}
 use Rattle.lt_face.specs.Rows.{row_cmp, has_row, IsAscending}
@@ -15,7 +15,9 @@ use Rattle.lt_model.specs.Faults.{IsOpen, Faulty, NoFault}
 use Rattle.lt_model.specs.Script.{Script, Close}
 use Rattle.lt_model.specs.Schema.{Schema}
 use Rattle.lt_model.specs.Variables.{variables, body_of}
-use Rattle.lt_model.specs.Check.{choice_fits, choice_for, kind_of, term, normal_body}
+use Rattle.lt_model.specs.Within.{IsStatementWithin}
+use Rattle.lt_model.specs.Check.{choice_fits, choice_for, kind_of, term, normal_body, code_of, normal}
+use Rattle.lt_model.specs.Forms.{on_statement, on_stmt, filled, filled_stmt, cells_of, numbered, IsFormOf}
 use Rattle.lt_face.specs.State.{Row, Relation, State, rows_in}
 use Rattle.lt_model.specs.Marks.{Marks, AreMarks, and_then, laid}
 use Rattle.lt_model.specs.Serial.{serial}
@@ -76,3 +78,29 @@ LaidTwice = (state : State) (a b : Marks) → Rises state → AreMarks a → lai
 -- programs after programs: the later ones run on what the earlier ones left
 abbrev pub SerialJoins : Type 0
 SerialJoins = (a b : List (List Stmt)) (state : State) → serial (a ++ b) state ≡ ((serial a state).0 ++ (serial b (serial a state).1).0, (serial b (serial a state).1).1)
+
+-- a statement with other constants has the same code
+abbrev pub CodeStays : Type 0
+CodeStays = (schema : Schema) (s : Statement) (f : ℕ → ℕ) → code_of schema (on_statement f s) ≡ code_of schema s
+
+-- and its normal form is that of the first with these constants
+abbrev pub NormalFollows : Type 0
+NormalFollows = (schema : Schema) (s : Statement) (f : ℕ → ℕ) → normal schema (on_statement f s) ≡ on_stmt f (normal schema s)
+
+-- so a form that is good stays good with whatever constants, and its normal form is filled with these
+abbrev pub FormsStayGood : Type 0
+FormsStayGood =
+    (schema : Schema) (s : Statement) (cells : List ℕ) → code_of schema s ≡ None →
+    (code_of schema (filled s cells) ≡ None) × (normal schema (filled s cells) ≡ filled_stmt (normal schema s) cells)
+
+-- a statement is its form with its own constants
+abbrev pub FormsFill : Type 0
+FormsFill = (s : Statement) → filled (numbered s) (cells_of s) ≡ s
+
+-- a text has one form at most
+abbrev pub OneForm : Type 0
+OneForm = (text : List ℕ) (a b : Statement) → IsFormOf text a → IsFormOf text b → a ≡ b
+
+-- the form of a statement within the limits is within them, as its numbers are cells
+abbrev pub NumbersWithin : Type 0
+NumbersWithin = (s : Statement) → IsStatementWithin s → length (cells_of s) < 2 ^ 120 → IsStatementWithin (numbered s)

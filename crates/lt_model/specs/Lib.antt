@@ -3,6 +3,7 @@ pub mod Names
 pub mod Tokens
 pub mod Schema
 pub mod Variables
+pub mod Sentences
 pub mod Grammar
 pub mod Faults
 pub mod Script
@@ -17,6 +18,10 @@ pub mod Run
 pub mod Serial
 pub mod Report
 pub mod Keyed
+pub mod Within
 pub mod Limits
 pub mod Plain
 pub mod Laws
+pub mod Forms
+pub mod Kept
+pub mod Alike

@@ -1,5 +1,6 @@
 //! Laws of the language: what its definitions leave no choice in. The laws of marks stand with the marks, in `lt_delta`.
-ghost use Rattle.lt_model.specs.Laws.{OneDerivation, OneFault, NoFaultAhead, OneReading, OneReport, SomeChoice, FoundChoice, KindsDetermined, SerialJoins};
+ghost use Rattle.lt_model.specs.Alike.{AlikeTokens, TokensTellCells};
+ghost use Rattle.lt_model.specs.Laws.{OneDerivation, OneFault, NoFaultAhead, OneReading, OneReport, SomeChoice, FoundChoice, KindsDetermined, SerialJoins, CodeStays, NormalFollows, FormsStayGood, FormsFill, OneForm, NumbersWithin};
 
 /// Tokens spell at most one list of items. Bytes have at most one reading: the same items, and the same end or fault.
 /// So they have at most one report, with marks and without.
@@ -27,4 +28,27 @@ pub fn kinds()
 /// state that the earlier ones left.
 pub fn serial()
     ensures { SerialJoins }
+{}
+
+/// The check looks at no constant: a statement with others has the same code, and its normal form is the first one's with
+/// these.
+pub fn forms()
+    ensures code { CodeStays }
+    ensures normal { NormalFollows }
+    ensures filled { FormsStayGood }
+{}
+
+/// A statement is its form, filled with its constants. A text has one form at most. The
+/// form of a statement within the limits is within them.
+pub fn texts_of_forms()
+    ensures fill { FormsFill }
+    ensures one { OneForm }
+    ensures within { NumbersWithin }
+{}
+
+/// Tokens that are a statement's but for constants are a statement of the same form. A statement's constants are told from its
+/// tokens, from the left.
+pub fn tokens_of_forms()
+    ensures alike { AlikeTokens }
+    ensures cells { TokensTellCells }
 {}
