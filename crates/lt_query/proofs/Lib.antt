@@ -23,3 +23,6 @@ pub mod Wide
 pub mod Displaced
 pub mod KeysStay
 pub mod Neighbours
+pub mod OnShapes
+pub mod Refilled
+pub mod KeptPlans

@@ -11,3 +11,4 @@ pub mod Planned
 pub mod Runnable
 pub mod Shape
 pub mod Stated
+pub mod Filling

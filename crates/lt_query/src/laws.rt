@@ -1,4 +1,5 @@
 //! Laws of the plans of a body, in whatever order of its variables, and of its answers.
+ghost use Rattle.lt_query.specs.Filling.{ShapeStays, RouteStays, WidthsStay, PlanFollows};
 ghost use Rattle.lt_query.specs.Keyed.{WritesStayKeyed, KeyAnswers, NeighboursClash};
 ghost use Rattle.lt_query.specs.Laws.{FittingHasWidths, PlansAreRunnable, OneStatedPlan, AnswersAscend, AnswersAreCells, SomeIsSatisfied, OneAscending, PlanOfShape, FilledIsPlan};
 
@@ -24,6 +25,15 @@ pub fn answers_of_bodies()
 pub fn plans_of_shapes()
     ensures blank { PlanOfShape }
     ensures filled { FilledIsPlan }
+{}
+
+/// A plan looks at no constant: a body with others has the same shape, a statement the same route and atoms as wide, and the plan
+/// is the first one's with these.
+pub fn plans_of_forms()
+    ensures shape { ShapeStays }
+    ensures route { RouteStays }
+    ensures widths { WidthsStay }
+    ensures plan { PlanFollows }
 {}
 
 /// Where each relation of a state has one row for a key at most, so it has when what a statement writes is laid on it. The rows

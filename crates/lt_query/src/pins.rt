@@ -1,6 +1,8 @@
 //! The keys that a level has to be each of.
-ghost use Rattle.std.specs.Prelude.{◌≡◌, ◌++◌, [], ◌∷◌, length, OnOk, OnErr, IfOk};
+ghost use Rattle.std.specs.Prelude.{◌≡◌, ◌++◌, [], ◌∷◌, length, map, OnOk, OnErr, IfOk, IsTrue};
+ghost use Rattle.lt_model.specs.Forms.{put as put_cell};
 
+use crate::filling::put;
 use lt_face::key::Key;
 use lt_face::memory::NoMemory;
 use smallvec::SmallVec;
@@ -20,6 +22,16 @@ impl Model for Pins {
     ghost Value = { List ℕ };
 
     ghost view = { λ p. p.pins.items };
+}
+
+/// Makes each key the constant of the form's number at its place.
+fn put_all(keys: &mut [Key], of_form: &[Key], cells: &[Key])
+    requires { length keys.old ≡ length of_form.now }
+    ensures { keys.new ≡ map (put_cell cells.now) of_form.now }
+{
+    for i in 0..of_form.len() {
+        keys[i] = put(cells, of_form[i]);
+    }
 }
 
 impl Pins {
@@ -61,5 +73,18 @@ impl Pins {
     {
         let pins = SmallVec::from_slice(*self.pins.allocator(), self.pins.as_slice())?;
         Ok(Pins { pins })
+    }
+
+    /// Makes them those of a form, with the k-th of these cells, from 1, for the number k. It takes no memory. False where there
+    /// aren't as many.
+    pub(crate) fn refill(&mut self, of_form: &[Key], cells: &[Key]) -> bool
+        ensures { IsTrue result → self.new ≡ map (put_cell cells.now) of_form.now }
+    {
+        let keys = self.pins.as_mut_slice();
+        if keys.len() != of_form.len() {
+            return false;
+        }
+        put_all(keys, of_form, cells);
+        true
     }
 }

@@ -1,6 +1,6 @@
 use Rattle.std.proofs.Common.{◌∙◌, ap, map}
 use Rattle.lt_model.specs.declared.normal.Body.{Body}
-use Rattle.lt_query.specs.Needs.{body_of, first_index, with_names}
+use Rattle.lt_query.specs.Needs.{first_index, with_names}
 use Rattle.lt_query.proofs.Needed.{first_step}
 use Rattle.lt_query.proofs.indexes.add_firsts.Goals as goal
 

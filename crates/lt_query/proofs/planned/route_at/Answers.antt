@@ -1,6 +1,5 @@
 use Rattle.std.proofs.Common.{◌∙◌, sym, ap}
 use Rattle.std.specs.Arc.{arc_value}
-use Rattle.lt_query.specs.Needs.{body_of}
 use Rattle.lt_query.specs.Planned.{route_of, routes_of}
 use Rattle.lt_query.proofs.ByShape.{route_there, one_route}
 use Rattle.lt_query.proofs.planned.route_at.Goals as goal

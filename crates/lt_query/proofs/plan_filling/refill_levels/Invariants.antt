@@ -1,0 +1,11 @@
+use Rattle.std.proofs.Common.{◌≡◌, map, take, length}
+use Rattle.lt_model.specs.Forms.{put}
+use Rattle.lt_query.specs.Filling.{on_level}
+use Rattle.lt_query.proofs.plan_filling.refill_levels.Given as goal
+
+abbrev pub invariant-loop-i : goal.invariant-loop-i
+invariant-loop-i l =
+    record {
+      long : length l.list.items ≡ length l.of_form;
+      same : take l.i l.list.items ≡ map (on_level (put l.cells)) (take l.i l.of_form);
+    }
