@@ -11,3 +11,4 @@ pub mod Looks
 pub mod Bodies
 pub mod Heads
 pub mod Formed
+pub mod Wordings

@@ -1,19 +1,23 @@
 //! The check of a program.
 ghost use Rattle.std.specs.List.{AllByRecursion};
-ghost use Rattle.std.specs.Prelude.{◌≡◌, IfOk, IfErr};
-ghost use Rattle.lt_model.specs.Check.{checked, Good};
+ghost use Rattle.std.specs.Prelude.{◌≡◌, None, IfOk, IfErr};
+ghost use Rattle.lt_model.specs.Check.{checked, Good, code_of, normal};
 ghost use Rattle.lt_face.specs.State.{State};
 ghost use Rattle.lt_model.specs.Fits.{Fits};
 ghost use Rattle.lt_model.specs.Keyed.{keys_in, InsertsBy};
 ghost use Rattle.lt_model.specs.Limits.{IsProgramWithin};
+ghost use Rattle.lt_model.specs.Within.{IsStatementWithin};
 ghost use Rattle.lt_check.specs.States.{IsStateOf};
-ghost use Rattle.lt_check.specs.Outcome.{IsFault};
+ghost use Rattle.lt_check.specs.Outcome.{IsFault, IsCode};
 
 use crate::schema::Schema;
 use crate::statement::{Desk, check_statement};
 use lt_face::memory::NoMemory;
-use lt_model::normal::Prog;
+use lt_model::form::{Kept, Wording};
+use lt_model::normal::{Prog, Stmt};
 use lt_model::syntax::Program;
+use lt_model::theorems::forms;
+use lt_query::filled;
 use std::alloc::Global;
 
 /// Why a program is not checked.
@@ -49,6 +53,31 @@ pub fn check(alloc: Global, program: &Program, schema: &Schema) -> Result<Prog, 
     check_at(alloc, program, schema, &mut desk)
 }
 
+/// The normal form of the statement of this number, in whatever way it is kept, or its first code.
+fn check_wording<'a>(
+    alloc: Global,
+    schema: &'a Schema,
+    wording: &'a Wording,
+    number: u32,
+    desk: &mut Desk<'a>,
+) -> Result<Stmt, CheckFault>
+    requires { IsStatementWithin wording.now }
+    ensures good { IfOk result (λ stmt. (code_of schema.now wording.now ≡ None) × (stmt ≡ normal schema.now wording.now)) }
+    ensures bad { IfErr result (λ fault. IsCode (code_of schema.now wording.now) number fault) }
+{
+    match wording.kept() {
+        Kept::Whole(statement) => check_statement(alloc, schema, statement, number, desk),
+        Kept::Filled(form, cells) => {
+            forms();
+            let numbered = check_statement(alloc, schema, form.statement(), number, desk)?;
+            let stmt = filled(&numbered, cells.as_slice());
+            drop(numbered);
+            let stmt = stmt?;
+            Ok(stmt)
+        }
+    }
+}
+
 /// The same, at a desk whose room serves the next program.
 pub fn check_at<'a>(
     alloc: Global,
@@ -65,7 +94,7 @@ pub fn check_at<'a>(
     let _keyed = schema.headings();
     let mut prog = Prog::new(alloc);
     for (place, statement) in program.statements.as_slice().iter().enumerate() {
-        let stmt = check_statement(alloc, schema, statement, place as u32 + 1, desk)?;
+        let stmt = check_wording(alloc, schema, statement, place as u32 + 1, desk)?;
         prog.push(stmt)?;
     }
     Ok(prog)
