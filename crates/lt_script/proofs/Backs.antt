@@ -46,7 +46,7 @@ sign_back : (o : Option (List ℕ)) (bytes left : List ℕ) (s : tokens.Shape) �
 sign_back None bytes left s e = absurd cc
 sign_back (Some text) bytes left s e = let same : drop (length text) bytes ≡ left = cc in back_of (drop (length text) bytes) left bytes same (back_drop (length text) bytes)
 
-class_back : (c : Class) (b : ℕ) (bytes left : List ℕ) (s : tokens.Shape) → IsToken (first_by c b bytes) s left → IsBack left (b ∷ bytes)
+pub class_back : (c : Class) (b : ℕ) (bytes left : List ℕ) (s : tokens.Shape) → IsToken (first_by c b bytes) s left → IsBack left (b ∷ bytes)
 class_back white b bytes left s e = absurd cc
 class_back feed b bytes left s e = absurd cc
 class_back hash b bytes left s e = absurd cc

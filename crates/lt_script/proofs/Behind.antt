@@ -1,8 +1,9 @@
 -- The place behind the tokens that a cursor has passed, whatever comes behind its source.
-use Rattle.std.proofs.Common.{◌⊎◌, inl, inr, ◌≡◌, ℕ, ◌+◌, ◌-◌, ◌^◌, ◌<◌, Bool, true, false, cond, List, [], ◌∷◌, ◌++◌, length, take, drop, Option, Some, refl, sym, ap, subst, ◌∙◌, append_assoc, arith}
+use Rattle.std.proofs.Common.{◌⊎◌, inl, inr, ◌≡◌, ◌≢◌, ℕ, ◌+◌, ◌-◌, ◌^◌, ◌<◌, Bool, true, false, cond, List, [], ◌∷◌, ◌++◌, length, take, drop, Option, Some, refl, sym, ap, subst, ◌∙◌, append_assoc, arith}
 use Rattle.std.specs.Prelude.{nat_lt}
 use Rattle.std.specs.List.{prefix_len}
-use Rattle.std.proofs.lemmas.List.{append-nil, append_cancel_right, length-drop}
+use Rattle.std.proofs.lemmas.List.{append-nil, append_cancel_right, length-append, length-drop, take-append-le}
+use Rattle.std.proofs.Math.Seq.{take-length}
 use Rattle.lt_model.specs.Grammar.{semicolon}
 use Rattle.lt_model.specs.Tokens as tokens
 use Rattle.lt_model.specs.Tokens.{Class, white, feed, hash, letter, digit, quote, other, class_of, in_word, First}
@@ -12,12 +13,12 @@ use Rattle.lt_script.specs.declared.lexer.Lexed.{Lexed}
 use Rattle.lt_script.specs.declared.lexer.Lexed.TheVariants.{Token as One, End, Broken}
 use Rattle.lt_script.specs.View.{shape, view, IsNext}
 use Rattle.lt_script.specs.Pieces.{IsBack, Leads, Passes, begins_longer, goes_on_by, goes_on as may_go_on, first_by, first_at, Opened}
-use Rattle.lt_script.specs.Ahead.{Source, source_of, read_all, Place, ahead, behind, passed_tokens, read_from, place_of, IsBehind, decided, undecided, EndsSo, Stood}
+use Rattle.lt_script.specs.Ahead.{Source, source_of, read_all, Place, ahead, shapes, behind, passed_tokens, read_from, place_of, IsBehind, decided, undecided, EndsSo, IsPlace, Stood}
 use Rattle.lt_script.proofs.Pieces.{leads_then, leads_token, tokens_first}
 use Rattle.lt_script.proofs.Backs.{back_same, back_on, token_back, semicolon_back}
 use Rattle.lt_script.proofs.Passing.{passes_none, passes_leads, passes_on, passes_token}
 use Rattle.lt_script.proofs.Skips.{run_whole, is_empty}
-use Rattle.lt_script.proofs.Places.{parts, ahead_behind, goes_on, goes_in_step}
+use Rattle.lt_script.proofs.Places.{parts, ahead_behind, sees_none}
 
 -- ---- nothing is left behind a token that more bytes may make longer
 
@@ -98,7 +99,7 @@ by_tail source passed after tail left s false goes back h e =
     decided (back_on left tail source.bytes further back) (passes_on source.line after after left tail source.bytes passed (record { shape = s; line = after } ∷ []) further back h (passes_token after tail left s e goes further))
 
 -- to where the next token begins
-to_token : (source : Source) (passed : List tokens.Token) (line after : ℕ) (left tail : List ℕ) (back : IsBack left source.bytes) → Passes source.line back.front passed line left → (on : IsBack tail left) → Passes line on.front [] after tail
+pub to_token : (source : Source) (passed : List tokens.Token) (line after : ℕ) (left tail : List ℕ) (back : IsBack left source.bytes) → Passes source.line back.front passed line left → (on : IsBack tail left) → Passes line on.front [] after tail
     → Passes source.line (back.front ++ on.front) passed after tail
 to_token source passed line after left tail back h on k =
     subst (λ (ts : List tokens.Token). Passes source.line (back.front ++ on.front) ts after tail) (append-nil passed) (passes_on source.line line after tail left source.bytes passed [] on back h k)
@@ -129,7 +130,7 @@ ends_next source passed line after left rest t is (decided back h) o =
       leads = subst (λ (u : tokens.Token). Leads source.line (front ++ 59 ∷ []) (passed ++ u ∷ []) after []) same (leads_then source.line after after (front ++ 59 ∷ []) (59 ∷ []) [] passed (token ∷ []) cut (leads_token after (59 ∷ []) [] semicolon refl refl));
     }
 
-source_same : (p : Place) → (behind p).source ≡ p.source
+pub source_same : (p : Place) → (behind p).source ≡ p.source
 unfolding behind
 source_same p = refl
 
@@ -155,41 +156,90 @@ none_last : (before : List tokens.Token) (last : tokens.Token) → [] ≡ before
 none_last [] last e = absurd cc
 none_last (t ∷ before) last e = absurd cc
 
-module _ (start : Lexer) (next : Lexed) (lexer : Lexer) (h : IsNext next lexer.line lexer.rest.now (tokens.tokens_at start.line start.rest.now)) where
-  abbrev all : tokens.Read
-  all = read_all (source_of start)
+abbrev read_of : List tokens.Token → tokens.Ending → tokens.Read
+read_of ts ending = (ts, ending)
 
-  none_passed : length all.0 - length (read_from next lexer).0 ≡ 0
-  none_passed = let e : length (read_from next lexer).0 ≡ length all.0 = ap (λ (r : tokens.Read). length r.0) (read_same next lexer all h) in omega (arith, e)
+behind_front : {A : Type 0} (xs ys : List A) → drop (length xs) (xs ++ ys) ≡ ys
+behind_front [] ys = refl
+behind_front (x ∷ xs) ys = behind_front xs ys
 
-  -- before the first token
-  pub stood_first : (fits : start.line + length start.rest.now < 2 ^ 64) → lexer.line + length lexer.rest.now < 2 ^ 64 → Opened next start.line start.rest.now lexer.line lexer.rest.now → Stood (source_of start) start next lexer
-  stood_first fits later o = record {
-    at = record { fits = later; is = read_same next lexer all h ∙ ap (λ (n : ℕ). let r : tokens.Read = (drop n all.0, all.1) in r) (sym none_passed) };
+-- before the first token
+place_first : (start : Lexer) → IsPlace (source_of start) [] start.line start.rest.now
+place_first start = record { back = back_same start.rest.now; behind = behind_first start; ends = λ before last is shape. absurd (none_last before last is); reads = refl }
+
+-- a cursor that was brought to a place
+module _ (source : Source) (passed : List tokens.Token) (place : Lexer) (w : IsPlace source passed place.line place.rest.now) (next : Lexed) (lexer : Lexer) (h : IsNext next lexer.line lexer.rest.now (tokens.tokens_at place.line place.rest.now)) where
+  all_are : read_all source ≡ read_of (passed ++ (read_from next lexer).0) (read_from next lexer).1
+  all_are = w.reads ∙ ap (λ (r : tokens.Read). read_of (passed ++ r.0) r.1) (sym (read_same next lexer (tokens.tokens_at place.line place.rest.now) h))
+
+  count_is : length (read_all source).0 - length (read_from next lexer).0 ≡ length passed
+  count_is = omega (arith, ap (λ (r : tokens.Read). length r.0) all_are, length-append passed (read_from next lexer).0)
+
+  pub passed_is : passed_tokens (place_of source next lexer) ≡ passed
+  passed_is =
+      ap (λ (n : ℕ). take n (read_all source).0) count_is ∙ ap (λ (r : tokens.Read). take (length passed) r.0) all_are
+      ∙ take-append-le (length passed) passed (read_from next lexer).0 (omega arith) ∙ take-length passed
+
+  pub stood_at : (fits : place.line + length place.rest.now < 2 ^ 64) → lexer.line + length lexer.rest.now < 2 ^ 64 → Opened next place.line place.rest.now lexer.line lexer.rest.now → Stood source place next lexer
+  stood_at fits later o = record {
+    at = record {
+      fits = later;
+      is = sym (
+          ap (λ (n : ℕ). read_of (drop n (read_all source).0) (read_all source).1) count_is
+          ∙ ap (λ (r : tokens.Read). read_of (drop (length passed) r.0) r.1) all_are
+          ∙ ap (λ (ts : List tokens.Token). read_of ts (read_from next lexer).1) (behind_front passed (read_from next lexer).0));
+    };
     fits = fits;
-    behind = subst (λ (n : ℕ). IsBehind (source_of start) (take n all.0) start.line start.rest.now) (sym none_passed) (behind_first start);
-    back = back_same start.rest.now;
-    ends = λ before last is shape. absurd (none_last before last (sym (ap (λ (n : ℕ). take n all.0) none_passed) ∙ is));
+    place = subst (λ (ts : List tokens.Token). IsPlace source ts place.line place.rest.now) (sym passed_is) w;
     opened = o;
   }
 
--- behind one token more
+pub stood_first : (start : Lexer) (next : Lexed) (lexer : Lexer) → IsNext next lexer.line lexer.rest.now (tokens.tokens_at start.line start.rest.now) → (fits : start.line + length start.rest.now < 2 ^ 64) → lexer.line + length lexer.rest.now < 2 ^ 64
+    → Opened next start.line start.rest.now lexer.line lexer.rest.now → Stood (source_of start) start next lexer
+stood_first start next lexer h fits later o = stood_at (source_of start) [] start (place_first start) next lexer h fits later o
+
+-- ---- behind one token more
+
+module _ (source : Source) (since : Lexer) (next : Lexed) (lexer : Lexer) (p : Place) (s : Stood source since next lexer) (there : place_of source next lexer ≡ p) (t : Token) (is : next ≡ One t) where
+  seen : ahead p ≡ read_from (One t) lexer
+  seen = ap ahead (sym there) ∙ sym s.at.is ∙ ap (λ (m : Lexed). read_from m lexer) is
+
+  passed_now : passed_tokens (behind p) ≡ passed_tokens p ++ view t ∷ []
+  passed_now = passed_next p (view t) _ _ seen
+
+  first : IsBehind source (passed_tokens p) since.line since.rest.now
+  first = subst (λ (q : Place). IsBehind source (passed_tokens q) since.line since.rest.now) there s.place.behind
+
+  opened : Opened (One t) since.line since.rest.now lexer.line lexer.rest.now
+  opened = subst (λ (m : Lexed). Opened m since.line since.rest.now lexer.line lexer.rest.now) is s.opened
+
+  reads_now : read_all source ≡ read_of ((passed_tokens p ++ view t ∷ []) ++ (tokens.tokens_at lexer.line lexer.rest.now).0) (tokens.tokens_at lexer.line lexer.rest.now).1
+  reads_now =
+      ap (λ (q : Place). read_all q.source) there ∙ parts p ∙ ap (λ (r : tokens.Read). read_of (passed_tokens p ++ r.0) r.1) seen
+      ∙ ap (λ (ts : List tokens.Token). read_of ts (tokens.tokens_at lexer.line lexer.rest.now).1) (sym (append_assoc (passed_tokens p) (view t ∷ []) (tokens.tokens_at lexer.line lexer.rest.now).0))
+
+  pub place_next : IsPlace source (passed_tokens (behind p)) lexer.line lexer.rest.now
+  place_next = subst (λ (ts : List tokens.Token). IsPlace source ts lexer.line lexer.rest.now) (sym passed_now) (record {
+    back = back_on lexer.rest.now since.rest.now source.bytes (back_on lexer.rest.now opened.tail since.rest.now (token_back opened.tail lexer.rest.now (shape t) opened.is.0) opened.back) s.place.back;
+    behind = behind_next source (passed_tokens p) since.line lexer.line since.rest.now lexer.rest.now t first opened;
+    ends = λ before last are shape_is.
+        ends_next source (passed_tokens p) since.line lexer.line since.rest.now lexer.rest.now t
+        (ap (λ (u : tokens.Token). u.shape) (sym (same_last before (passed_tokens p) last (view t) (sym are))) ∙ shape_is) first opened;
+    reads = reads_now;
+  })
+
 pub stood_next : (source : Source) (since : Lexer) (next : Lexed) (lexer : Lexer) (p : Place) → Stood source since next lexer → place_of source next lexer ≡ p → (t : Token) → next ≡ One t → (n : Lexed) (l : Lexer) → l.line + length l.rest.now < 2 ^ 64
     → IsNext n l.line l.rest.now (tokens.tokens_at lexer.line lexer.rest.now) → Opened n lexer.line lexer.rest.now l.line l.rest.now → Stood source lexer n l
-stood_next source since next lexer p s there t is n l fits h o =
-    let seen : ahead p ≡ read_from (One t) lexer = ap ahead (sym there) ∙ sym s.at.is ∙ ap (λ (m : Lexed). read_from m lexer) is in
-    let there_now : place_of source n l ≡ behind p = goes_on source next lexer p s.at there t is n l h in
-    let passed_now : passed_tokens (place_of source n l) ≡ passed_tokens p ++ view t ∷ [] = ap passed_tokens there_now ∙ passed_next p (view t) _ _ seen in
-    let first : IsBehind source (passed_tokens p) since.line since.rest.now = subst (λ (q : Place). IsBehind source (passed_tokens q) since.line since.rest.now) there s.behind in
-    let opened : Opened (One t) since.line since.rest.now lexer.line lexer.rest.now = subst (λ (m : Lexed). Opened m since.line since.rest.now lexer.line lexer.rest.now) is s.opened in
-    record {
-      at = record { fits = fits; is = goes_in_step source next lexer p s.at there t is n l h };
-      fits = s.at.fits;
-      back = back_on lexer.rest.now since.rest.now source.bytes (back_on lexer.rest.now opened.tail since.rest.now (token_back opened.tail lexer.rest.now (shape t) opened.is.0) opened.back) s.back;
-      ends = λ before last are shape_is.
-          subst (λ (ts : List tokens.Token). EndsSo source ts lexer.line lexer.rest.now) (sym passed_now)
-          (ends_next source (passed_tokens p) since.line lexer.line since.rest.now lexer.rest.now t
-          (ap (λ (u : tokens.Token). u.shape) (sym (same_last before (passed_tokens p) last (view t) (sym are ∙ passed_now))) ∙ shape_is) first opened);
-      behind = subst (λ (ts : List tokens.Token). IsBehind source ts lexer.line lexer.rest.now) (sym passed_now) (behind_next source (passed_tokens p) since.line lexer.line since.rest.now lexer.rest.now t first opened);
-      opened = o;
-    }
+stood_next source since next lexer p s there t is n l fits h o = stood_at source (passed_tokens (behind p)) lexer (place_next source since next lexer p s there t is) n l h s.at.fits fits o
+
+-- some token stands next
+pub next_place : (source : Source) (since : Lexer) (next : Lexed) (lexer : Lexer) (p : Place) → Stood source since next lexer → place_of source next lexer ≡ p → shapes p ≢ [] → IsPlace p.source (passed_tokens (behind p)) lexer.line lexer.rest.now
+next_place source since next lexer p s there some = subst (λ (x : Source). IsPlace x (passed_tokens (behind p)) lexer.line lexer.rest.now) (ap (λ (q : Place). q.source) there) (go next refl)
+  where
+    other : (n m : Lexed) → next ≡ n → next ≡ m → n ≡ m
+    other n m a b = sym a ∙ b
+
+    go : (n : Lexed) → next ≡ n → IsPlace source (passed_tokens (behind p)) lexer.line lexer.rest.now
+    go (One t) is = place_next source since next lexer p s there t is
+    go End is = absurd (some (sees_none source next lexer p s.at there (λ t e. let no : End ≡ One t = other End (One t) is e in absurd cc)))
+    go (Broken code) is = absurd (some (sees_none source next lexer p s.at there (λ t e. let no : Broken code ≡ One t = other (Broken code) (One t) is e in absurd cc)))

@@ -431,6 +431,13 @@ item_tree ts x rest e = tree_of item_value item_at valued_item_at items ts x res
 pub item_stop : (ts : List Shape) (stop : Stop Shape) → valued_item_at ts ≡ Err stop → item_at ts ≡ Err stop
 item_stop ts stop e = stop_of item_value item_at valued_item_at items ts stop e
 
+pub statement_tree : (ts : List Shape) (x : Statement) (rest : List Shape) → valued_statement_at ts ≡ Ok (x, rest) → Tree statement_value statement_at ts x rest
+statement_tree ts x rest e = tree_of statement_value statement_at valued_statement_at statements ts x rest e
+
+-- what a tree's tokens are read as
+pub statement_read : (ts : List Shape) (s : grammar.Statement) (rest : List Shape) → statement_at ts ≡ Ok (s, rest) → valued_statement_at ts ≡ Ok (statement_value s, rest)
+statement_read ts s rest e = statements.at ts ∙ ap (seen statement_value) e
+
 -- ---- each reader that a loop calls takes at least one token
 
 pub terms_shrink : Shrinks (led same_shape comma valued_term_at)

@@ -2,7 +2,7 @@
 use Rattle.std.proofs.Common.{◌≡◌, ℕ, zero, suc, ◌+◌, ◌==◌, Bool, true, false, List, [], ◌∷◌, ◌++◌, length, take, drop, Option, Some, None, refl, sym, subst, arith}
 use Rattle.std.specs.Prelude.{◌&&◌, ◌||◌, not, nat_lt, nat_eq, find, if◌then◌else◌}
 use Rattle.std.specs.List.{AllByRecursion, list_all, prefix_len, starts_with}
-use Rattle.lt_model.specs.Tokens.{Shape, word, number, symbol, sign, Token, Class, white, feed, hash, letter, digit, quote, other, class_of, in_word, between, First, token, fault, word_at, number_at, symbol_at, close_symbol, sign_at, sign_found, signs, Read, more, by_class, tokens_from}
+use Rattle.lt_model.specs.Tokens.{Shape, word, number, symbol, sign, Token, Class, white, feed, hash, letter, digit, quote, other, class_of, in_word, between, First, token, fault, word_at, number_at, symbol_at, close_symbol, sign_at, sign_found, signs, Read, more, by_class, tokens_from, tokens_at}
 use Rattle.lt_model.specs.Script as script
 use Rattle.lt_values.specs.Symbols.{is_symbol}
 use Rattle.lt_script.specs.Ahead.{Place, read_all, shapes}
@@ -90,6 +90,9 @@ good_from : (n line : ℕ) (bytes : List ℕ) → AreGoodRead (tokens_from n lin
 good_from zero line bytes = tt
 good_from (suc n) line [] = tt
 good_from (suc n) line (b ∷ bytes) = good_class (tokens_from n) (good_from n) line b bytes (class_of b)
+
+pub tokens_good : (line : ℕ) (bytes : List ℕ) → AreGood (script.shapes (tokens_at line bytes).0)
+tokens_good line bytes = good_from (length bytes + 1) line bytes
 
 good_drop : (n : ℕ) (ts : List Token) → AreGood (script.shapes ts) → AreGood (script.shapes (drop n ts))
 good_drop zero ts h = h

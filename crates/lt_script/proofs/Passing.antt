@@ -1,13 +1,14 @@
 -- A front of bytes whose tokens are decided by the byte that comes next.
-use Rattle.std.proofs.Common.{◌≡◌, ℕ, suc, ◌+◌, ◌<◌, ◌≤◌, Bool, true, false, cond, ◌&&◌, List, [], ◌∷◌, ◌++◌, length, take, drop, Option, Some, None, refl, sym, ap, subst, ◌∙◌, append_assoc, arith}
+use Rattle.std.proofs.Common.{inl, inr, ◌≡◌, ℕ, suc, ◌+◌, ◌<◌, ◌≤◌, Bool, true, false, cond, ◌&&◌, List, [], ◌∷◌, ◌++◌, length, take, drop, Option, Some, None, refl, sym, ap, subst, ◌∙◌, append_assoc, arith}
 use Rattle.std.specs.Prelude.{nat_lt, nat_eq, find}
 use Rattle.std.specs.List.{prefix_len, list_all, starts_with, AllByRecursion}
 use Rattle.std.proofs.lemmas.List.{append-nil, append_cancel_right, take-append-drop, length-append, length-drop}
 use Rattle.lt_model.specs.Tokens as tokens
 use Rattle.lt_model.specs.Tokens.{Token, Read, Class, white, feed, hash, letter, digit, quote, other, class_of, in_word, is_digit, First, signs, tokens_at}
-use Rattle.lt_script.specs.Pieces.{IsBack, Leads, BeginsAs, Passes, goes_on_by, goes_on, first_by, first_at}
+use Rattle.lt_script.specs.Pieces.{IsBack, Leads, IsLike, BeginsAs, Passes, goes_on_by, goes_on, first_by, first_at}
 use Rattle.lt_script.proofs.Pieces.{found_in, first_stays, with_more_too, tokens_first}
 use Rattle.lt_script.proofs.Backs.{symbol_back}
+use Rattle.lt_script.proofs.Digit.{digit_instead}
 
 -- ---- a front and what it leads to
 
@@ -16,11 +17,11 @@ read_of ts ending = (ts, ending)
 
 begins_itself : (left more : List ℕ) → BeginsAs left (left ++ more)
 begins_itself [] more = tt
-begins_itself (b ∷ left) more = (left ++ more, refl)
+begins_itself (b ∷ left) more = (b, left ++ more, refl, inl refl)
 
 begins_on : (front left bytes : List ℕ) → BeginsAs left bytes → BeginsAs (front ++ left) (front ++ bytes)
 begins_on [] left bytes h = h
-begins_on (b ∷ front) left bytes h = (front ++ bytes, refl)
+begins_on (b ∷ front) left bytes h = (b, front ++ bytes, refl, inl refl)
 
 pub passes_none : (line : ℕ) (bytes : List ℕ) → Passes line [] [] line bytes
 unfolding Passes
@@ -40,21 +41,29 @@ passes_on line after last left mid bytes ts us f g h k = λ more begins.
 
 -- ---- runs
 
-cut_none : (b : Bool) (n m : ℕ) → cond b (1 + n) 0 ≡ 0 → cond b (1 + m) 0 ≡ 0
-cut_none true n m h = absurd (omega (arith, h))
-cut_none false n m h = refl
+cut_none : (b d : Bool) (n m : ℕ) → (b ≡ false → d ≡ false) → cond b (1 + n) 0 ≡ 0 → cond d (1 + m) 0 ≡ 0
+cut_none true d n m like h = absurd (omega (arith, h))
+cut_none false d n m like h = rw (like refl) refl
 
 cut_more : (b : Bool) (n m k : ℕ) → (n ≡ k → m ≡ k) → cond b (1 + n) 0 ≡ suc k → cond b (1 + m) 0 ≡ suc k
 cut_more true n m k same h = omega (arith, same (omega (arith, h)))
 cut_more false n m k same h = absurd (omega (arith, h))
 
--- where a run ends at a byte, what comes behind that byte doesn't matter
-run_cut : (p : ℕ → Bool) (front : List ℕ) (c : ℕ) (rest more : List ℕ) → prefix_len p (front ++ c ∷ rest) ≡ length front → prefix_len p (front ++ c ∷ more) ≡ length front
-run_cut p [] c rest more h = cut_none (p c) (prefix_len p rest) (prefix_len p more) h
-run_cut p (x ∷ front) c rest more h = cut_more (p x) (prefix_len p (front ++ c ∷ rest)) (prefix_len p (front ++ c ∷ more)) (length front) (run_cut p front c rest more) h
+-- where a run ends at a byte, it does so at another that isn't in it, whatever comes behind
+run_cut : (p : ℕ → Bool) (front : List ℕ) (c d : ℕ) (rest more : List ℕ) → (p c ≡ false → p d ≡ false) → prefix_len p (front ++ c ∷ rest) ≡ length front → prefix_len p (front ++ d ∷ more) ≡ length front
+run_cut p [] c d rest more like h = cut_none (p c) (p d) (prefix_len p rest) (prefix_len p more) like h
+run_cut p (x ∷ front) c d rest more like h = cut_more (p x) (prefix_len p (front ++ c ∷ rest)) (prefix_len p (front ++ d ∷ more)) (length front) (run_cut p front c d rest more like) h
 
-pub cut_there : (p : ℕ → Bool) (xs more : List ℕ) → prefix_len p xs < length xs → BeginsAs (drop (prefix_len p xs) xs) more → prefix_len p (take (prefix_len p xs) xs ++ more) ≡ length (take (prefix_len p xs) xs)
-cut_there p xs more lt begins = go (drop n xs) refl begins
+-- all digits are in the run
+abbrev pub TakesDigits : (ℕ → Bool) → Type 0
+TakesDigits p = (b : ℕ) → is_digit b ≡ true → p b ≡ true
+
+both_out : (p : ℕ → Bool) (c d : ℕ) → TakesDigits p → IsLike c d → p c ≡ false → p d ≡ false
+both_out p c d takes (inl same) out = ap p same ∙ out
+both_out p c d takes (inr digits) out = let in_run : p c ≡ true = takes c digits.0 in absurd cc
+
+pub cut_there : (p : ℕ → Bool) (xs more : List ℕ) → TakesDigits p → prefix_len p xs < length xs → BeginsAs (drop (prefix_len p xs) xs) more → prefix_len p (take (prefix_len p xs) xs ++ more) ≡ length (take (prefix_len p xs) xs)
+cut_there p xs more takes lt begins = go (drop n xs) refl begins
   where
     n : ℕ
     n = prefix_len p xs
@@ -65,7 +74,7 @@ cut_there p xs more lt begins = go (drop n xs) refl begins
         let all : length (take n xs ++ drop n xs) ≡ length xs = ap (λ (us : List ℕ). length us) (take-append-drop n xs) in
         let short : n ≡ length (take n xs) = omega (arith, lt, all, length-append (take n xs) (drop n xs), length-drop n xs) in
         let whole : take n xs ++ c ∷ rest ≡ xs = ap (λ (us : List ℕ). take n xs ++ us) (sym is) ∙ take-append-drop n xs in
-        ap (λ (us : List ℕ). prefix_len p (take n xs ++ us)) b.1 ∙ run_cut p (take n xs) c rest b.0 (ap (λ (us : List ℕ). prefix_len p us) whole ∙ short)
+        ap (λ (us : List ℕ). prefix_len p (take n xs ++ us)) b.2 ∙ run_cut p (take n xs) c b.0 rest b.1 (both_out p c b.0 takes b.3) (ap (λ (us : List ℕ). prefix_len p us) whole ∙ short)
 
 reach_case : (p : ℕ → Bool) (x : ℕ) (xs more : List ℕ) (b : Bool) → p x ≡ b → (list_all p xs ≡ true → length xs ≤ prefix_len p (xs ++ more)) → list_all p (x ∷ xs) ≡ true → length (x ∷ xs) ≤ prefix_len p (x ∷ (xs ++ more))
 reach_case p x xs more true e far h = let rest : list_all p xs ≡ true = subst (λ (c : Bool). (c && list_all p xs) ≡ true) e h in rw e (omega (arith, far rest))
@@ -148,10 +157,15 @@ token_cut tail front (c ∷ rest) more s parts is stops begins = go (goes_on hea
 
     go : (b : Bool) → goes_on head ≡ b → IsToken (first_at (front ++ more)) s more
     go true e = absurd (omega (arith, goes_beyond front c rest (c ∷ rest) s e found))
-    go false e =
-        let at : IsToken (first_at head) s (c ∷ []) = shorter (first_at head) (sym (first_stays head rest e) ∙ found) in
-        let there : IsToken (first_at (front ++ c ∷ begins.0)) s (c ∷ begins.0) = ap first_at (sym (append_assoc front (c ∷ []) begins.0)) ∙ first_stays head begins.0 e ∙ ap (λ o. with_more_too o begins.0) at in
-        subst (λ (us : List ℕ). IsToken (first_at (front ++ us)) s us) (sym begins.1) there
+    go false e = subst (λ (us : List ℕ). IsToken (first_at (front ++ us)) s us) (sym begins.2) (there begins.0 begins.1 begins.3)
+      where
+        at : IsToken (first_at head) s (c ∷ [])
+        at = shorter (first_at head) (sym (first_stays head rest e) ∙ found)
+
+        there : (d : ℕ) (others : List ℕ) → IsLike c d → IsToken (first_at (front ++ d ∷ others)) s (d ∷ others)
+        there d others (inl same) =
+            subst (λ (k : ℕ). IsToken (first_at (front ++ k ∷ others)) s (k ∷ others)) (sym same) (ap first_at (sym (append_assoc front (c ∷ []) others)) ∙ first_stays head others e ∙ ap (λ o. with_more_too o others) at)
+        there d others (inr digits) = digit_instead front c d others s digits.0 digits.1 e at
 
 pub passes_token : (line : ℕ) (tail left : List ℕ) (s : tokens.Shape) → IsToken (first_at tail) s left → goes_on tail ≡ false → (back : IsBack left tail) → Passes line back.front (record { shape = s; line = line } ∷ []) line left
 unfolding Passes

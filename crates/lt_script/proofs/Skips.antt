@@ -4,7 +4,7 @@ use Rattle.std.specs.Prelude.{not}
 use Rattle.std.specs.List.{prefix_len, list_all}
 use Rattle.std.proofs.lemmas.List.{length-drop, take-append-drop}
 use Rattle.std.proofs.Transfers.{drop-appended}
-use Rattle.lt_model.specs.Tokens.{class_of, white, tokens_at}
+use Rattle.lt_model.specs.Tokens.{class_of, white, is_digit, tokens_at}
 use Rattle.lt_script.specs.Pieces.{IsBack, Passes, goes_on, Skipped}
 use Rattle.lt_script.proofs.Pieces.{run_ends}
 use Rattle.lt_script.proofs.Backs.{back_same, back_on, back_tail}
@@ -41,6 +41,9 @@ skip_feed first line all bytes h = over first line (line + 1) 10 all bytes bytes
 abbrev in_line : ℕ → Bool
 in_line c = not (c == 10)
 
+digit_in_line : (b : ℕ) → is_digit b ≡ true → in_line b ≡ true
+digit_in_line b h = Prim.grind arith
+
 len_case : (p : ℕ → Bool) (x : ℕ) (xs : List ℕ) (b : Bool) → p x ≡ b → (list_all p xs ≡ true → prefix_len p xs ≡ length xs) → list_all p (x ∷ xs) ≡ true → prefix_len p (x ∷ xs) ≡ length (x ∷ xs)
 len_case p x xs true e same h = let rest : list_all p xs ≡ true = subst (λ (c : Bool). (c && list_all p xs) ≡ true) e h in rw e (omega (arith, same rest))
 len_case p x xs false e same h = let no_run : (false && list_all p xs) ≡ true = subst (λ (c : Bool). (c && list_all p xs) ≡ true) e h in absurd cc
@@ -69,5 +72,5 @@ skip_comment first line all bytes h = go (list_all in_line bytes) refl
       ends = λ none. e;
     }
     go false e = over first line line 35 all bytes (drop n bytes) h (record { front = 35 ∷ take n bytes; parts = ap (λ (us : List ℕ). 35 ∷ us) (sym (take-append-drop n bytes)) })
-        (λ more begins. over_comment line (take n bytes ++ more) ∙ ap (λ k. tokens_at line (drop k (take n bytes ++ more))) (cut_there in_line bytes more (run_ends in_line bytes e) begins)
+        (λ more begins. over_comment line (take n bytes ++ more) ∙ ap (λ k. tokens_at line (drop k (take n bytes ++ more))) (cut_there in_line bytes more digit_in_line (run_ends in_line bytes e) begins)
         ∙ ap (tokens_at line) (drop-appended (take n bytes) (take n bytes ++ more) more refl))

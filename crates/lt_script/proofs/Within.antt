@@ -108,7 +108,7 @@ form_within (print t ts l ls) h g =
     let b = body_within l ls h.0.1 m.1.1 in
     record { heads = tt; printed = terms_within t ts h.0.0 (good_inside (with_commas term_tokens t ts) m.0.1); literals = b.0; few_literals = b.1; few_variables = to_few full (print t ts l ls) h.1 }
 
-statement_within : (s : Statement) → grammar.IsStatement full s → AreGood (statement_tokens s) → IsStatementWithin (statement_value s)
+pub statement_within : (s : Statement) → grammar.IsStatement full s → AreGood (statement_tokens s) → IsStatementWithin (statement_value s)
 statement_within s h g = form_within s h (both_good (form_tokens s) (only semicolon) g).0
 
 program_within : (p : Program) → grammar.IsProgram full p → AreGood (program_tokens p) → IsProgramWithin (program_value p)

@@ -98,13 +98,18 @@ pub record EndsSo (source : Source) (passed : List tokens.Token) (line : ℕ) (l
 abbrev pub IsBehindSemicolon : Source → List tokens.Token → ℕ → List ℕ → Type 0
 IsBehindSemicolon source passed line left = (before : List tokens.Token) (last : tokens.Token) → passed ≡ before ++ last ∷ [] → last.shape ≡ semicolon → EndsSo source passed line left
 
+-- the bytes of a place in a source, behind these tokens; theirs are the others
+pub record IsPlace (source : Source) (passed : List tokens.Token) (line : ℕ) (left : List ℕ) : Type 0 where
+  pub back : IsBack left source.bytes
+  pub behind : IsBehind source passed line left
+  pub ends : IsBehindSemicolon source passed line left
+  pub reads : read_all source ≡ (passed ++ (tokens.tokens_at line left).0, (tokens.tokens_at line left).1)
+
 -- the place of a cursor, and the way from there to its next token
 pub record Stood (source : Source) (since : Lexer) (next : Lexed) (lexer : Lexer) : Type 0 where
   pub at : IsAt source next lexer
   pub fits : since.line + length since.rest.now < 2 ^ 64
-  pub behind : IsBehind source (passed_tokens (place_of source next lexer)) since.line since.rest.now
-  pub back : IsBack since.rest.now source.bytes
-  pub ends : IsBehindSemicolon source (passed_tokens (place_of source next lexer)) since.line since.rest.now
+  pub place : IsPlace source (passed_tokens (place_of source next lexer)) since.line since.rest.now
   pub opened : Opened next since.line since.rest.now lexer.line lexer.rest.now
 
 -- Nothing that is decided stands next: these tokens are decided, and behind them is a tail that more bytes may make

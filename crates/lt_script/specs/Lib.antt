@@ -8,4 +8,8 @@ pub mod Parsed
 pub mod Taken
 pub mod Reading
 pub mod Feed
+pub mod Placed
+pub mod Forms
+pub mod Lexed
+pub mod Constants
 pub mod Laws

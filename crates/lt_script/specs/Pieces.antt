@@ -1,5 +1,5 @@
 -- Bytes behind which more may come: which of their tokens are decided.
-use Rattle.std.specs.Prelude.{◌≡◌, ◌≢◌, ℕ, List, [], ◌∷◌, ◌++◌, Bool, true, false, not, ◌==◌, ◌||◌, Option, Some, None}
+use Rattle.std.specs.Prelude.{◌≡◌, ◌≢◌, ◌⊎◌, ℕ, List, [], ◌∷◌, ◌++◌, Bool, true, false, not, ◌==◌, ◌||◌, Option, Some, None}
 use Rattle.std.specs.List.{list_all}
 use Rattle.lt_script.specs.declared.lexer.Lexed.{Lexed}
 use Rattle.lt_script.specs.declared.lexer.Lexed.TheVariants.{Token as One, End, Broken}
@@ -10,10 +10,14 @@ use Rattle.lt_model.specs.Tokens.{Token, token, fault, Class, white, feed, hash,
 abbrev pub Leads : ℕ → List ℕ → List Token → ℕ → List ℕ → Type 0
 Leads line bytes ts after left = (more : List ℕ) → tokens_at line (bytes ++ more) ≡ (ts ++ (tokens_at after (left ++ more)).0, (tokens_at after (left ++ more)).1)
 
+-- the same byte, or a digit for a digit
+abbrev pub IsLike : ℕ → ℕ → Type 0
+IsLike b c = (c ≡ b) ⊎ ((is_digit b ≡ true) × (is_digit c ≡ true))
+
 -- these bytes begin as those that are left do, or in any way where none is left
 abbrev pub BeginsAs : List ℕ → List ℕ → Type 0
 BeginsAs [] bytes = Unit {0}
-BeginsAs (b ∷ left) bytes = (others : List ℕ) × (bytes ≡ b ∷ others)
+BeginsAs (b ∷ left) bytes = (c : ℕ) × (others : List ℕ) × (bytes ≡ c ∷ others) × IsLike b c
 
 -- Where bytes come behind this front that begin as those that are left do, the front is these tokens, and theirs follow, from a line on.
 unfoldable pub Passes : ℕ → List ℕ → List Token → ℕ → List ℕ → Type 0

@@ -1,6 +1,7 @@
 //! A place among the tokens of a source. Tokens are read one at a time, so memory doesn't grow with the source.
-ghost use Rattle.std.specs.Prelude.{◌≡◌, ◌+◌, ◌<◌, ◌^◌, length};
-ghost use Rattle.lt_script.specs.Ahead.{source_of, passed_tokens, behind, Stands, StandsAs, IsBehind, IsBehindSemicolon, MayChange};
+ghost use Rattle.std.specs.Prelude.{◌≡◌, ◌≢◌, ◌+◌, ◌<◌, ◌^◌, List, [], length};
+ghost use Rattle.lt_model.specs.Tokens.{Token as ScriptToken};
+ghost use Rattle.lt_script.specs.Ahead.{source_of, passed_tokens, behind, shapes, Stands, StandsAs, IsBehind, IsBehindSemicolon, IsPlace, MayChange};
 
 use crate::lexer::{Lexed, Lexer};
 use crate::standing::Standing;
@@ -88,6 +89,7 @@ impl<'a> Cursor<'a> {
     pub fn rest(&self) -> Lexer<'a>
         ensures place { IsBehind self.now.source (passed_tokens self.now) result.line result.rest.now }
         ensures ends { IsBehindSemicolon self.now.source (passed_tokens self.now) result.line result.rest.now }
+        ensures whole { IsPlace self.now.source (passed_tokens self.now) result.line result.rest.now }
         ensures fits { result.line + length result.rest.now < 2 ^ 64 }
     {
         self.since
@@ -100,6 +102,27 @@ impl<'a> Cursor<'a> {
         let mut lexer = self.rest();
         lexer.skip_gap();
         goes_on(lexer.rest)
+    }
+
+    /// The bytes behind the next token, with their line. There is one.
+    pub fn behind_next(&self) -> Lexer<'a>
+        requires { shapes self.now ≢ [] }
+        ensures place { IsPlace self.now.source (passed_tokens (behind self.now)) result.line result.rest.now }
+        ensures fits { result.line + length result.rest.now < 2 ^ 64 }
+    {
+        self.lexer
+    }
+
+    /// Goes to this place of the source, right behind some of its tokens.
+    pub fn go_to(&mut self, place: Lexer<'a>)
+        requires place { (passed : List ScriptToken) × IsPlace self.old.source passed place.line place.rest.now }
+        requires fits { place.line + length place.rest.now < 2 ^ 64 }
+        ensures source { self.new.source ≡ self.old.source }
+        ensures passed { (passed : List ScriptToken) → IsPlace self.old.source passed place.entry.line place.entry.rest.now → passed_tokens self.new ≡ passed }
+    {
+        self.since = place;
+        self.lexer = place;
+        self.next = self.lexer.next();
     }
 
     /// Goes past the next token, if there is one.

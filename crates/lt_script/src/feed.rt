@@ -8,7 +8,9 @@ ghost use Rattle.lt_script.specs.Pieces.{Leads};
 ghost use Rattle.lt_script.specs.Feed.{Finds};
 
 use crate::cursor::Cursor;
+use crate::forms::Forms;
 use crate::lexer::Lexer;
+use crate::spare::Spare;
 use crate::step::Step;
 use lt_face::memory::NoMemory;
 use lt_model::syntax::Item;
@@ -29,6 +31,8 @@ pub struct Feed {
     line: u64,
     ended: bool,
     fault: Option<Fault>,
+    forms: Forms,
+    spare: Spare,
 }
 
 /// What stands next in a script that comes in pieces.
@@ -73,12 +77,12 @@ impl<'a> Cursor<'a> {
 }
 
 // What these bytes begin with, which begin on the lexer's line.
-fn read_front(alloc: Global, start: Lexer, ended: bool) -> Found
+fn read_front(alloc: Global, start: Lexer, ended: bool, forms: &mut Forms) -> Found
     requires { start.line + length start.rest.now < 2 ^ 64 }
     ensures { (bytes : List ℕ) (done : List ScriptToken) (items : List ScriptItem) → Leads 1 bytes done start.entry.line start.entry.rest.now → Derives legal (shapes done) items → Finds bytes done items start.entry.line start.entry.rest.now ended result }
 {
     let mut cursor = Cursor::over(start);
-    match cursor.take_item(alloc) {
+    match cursor.take_item(alloc, forms) {
         Step::Item(item) => {
             let rest = cursor.rest();
             Found::Item {
@@ -117,6 +121,8 @@ impl Feed {
             line: 1,
             ended: false,
             fault: None,
+            forms: Forms::new(alloc),
+            spare: Spare::new(alloc),
         }
     }
 
@@ -147,8 +153,7 @@ impl Feed {
             return Ok(());
         }
         let answered = self.from.min(self.bytes.len());
-        let rest = self.bytes.split_off(answered)?;
-        self.bytes = rest;
+        self.spare.give_up(&mut self.bytes, answered)?;
         self.from = 0;
         Ok(())
     }
@@ -169,20 +174,13 @@ impl Feed {
         self.bytes.len().saturating_sub(self.from)
     }
 
-    // The bytes that were pushed since then.
-    fn kept_bytes(&self) -> &[u8]
-        ensures { result.now ≡ kept_of self.now }
+    // What the bytes that are kept begin with. Lines are counted in 64 bits.
+    fn look(&mut self, alloc: Global) -> Found
+        ensures found { (bytes : List ℕ) (done : List ScriptToken) (items : List ScriptItem) → Leads 1 bytes done self.old.line (kept_of self.old) → Derives legal (shapes done) items → Finds bytes done items self.old.line (kept_of self.old) self.old.ended result }
+        ensures same { self.new ≡ self.old }
     {
         let answered = self.from.min(self.bytes.len());
         let (_, kept) = self.bytes.as_slice().split_at(answered);
-        kept
-    }
-
-    // What the bytes that are kept begin with. Lines are counted in 64 bits.
-    fn look(&self, alloc: Global) -> Found
-        ensures { (bytes : List ℕ) (done : List ScriptToken) (items : List ScriptItem) → Leads 1 bytes done self.now.line (kept_of self.now) → Derives legal (shapes done) items → Finds bytes done items self.now.line (kept_of self.now) self.now.ended result }
-    {
-        let kept = self.kept_bytes();
         if kept.len() as u64 > u64::MAX - self.line {
             return Found::NoMemory;
         }
@@ -190,7 +188,7 @@ impl Feed {
             rest: kept,
             line: self.line,
         };
-        read_front(alloc, start, self.ended)
+        read_front(alloc, start, self.ended, &mut self.forms)
     }
 
     /// The next item, how the script ends, or that more is wanted. An end and a fault are answered again. A call that gives

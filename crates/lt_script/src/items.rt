@@ -10,6 +10,7 @@ ghost use Rattle.lt_script.specs.Valued.{valued_number_at, valued_program_at, va
 ghost use Rattle.lt_script.specs.Parsed.{Parses, Refuses, further};
 
 use crate::cursor::Cursor;
+use crate::forms::Forms;
 use crate::refusal::{Cause, Refusal};
 use crate::reserved::{Reserved, Sign};
 use lt_face::limits::{MOST_COLUMNS, MOST_PROGRAMS};
@@ -18,14 +19,13 @@ use lt_model::syntax::{Item, Program, ProgramList, StatementList};
 use std::alloc::Global;
 
 // The kinds of the key columns, and behind them those of the value columns.
-fn join_kinds(alloc: Global, keys: &[Kind], values: &[Kind]) -> Result<KindList, Refusal>
-    requires { length keys.now + length values.now ≤ most_columns }
-    ensures gives { IfOk result (λ kinds. kinds ≡ keys.now ++ values.now) }
+fn join_kinds(alloc: Global, keys: Vec<Kind>, values: Vec<Kind>) -> Result<KindList, Refusal>
+    requires { length keys.items + length values.items ≤ most_columns }
+    ensures gives { IfOk result (λ kinds. kinds ≡ keys.items ++ values.items) }
     ensures refused { IfErr result (λ refusal. refusal ≡ Refusal.NoMemory) }
 {
-    let mut kinds = Vec::with_capacity(alloc, keys.len() + values.len())?;
-    kinds.extend_from_slice(keys)?;
-    kinds.extend_from_slice(values)?;
+    let mut kinds = keys;
+    kinds.extend_from_slice(&values)?;
     Ok(KindList::from_kinds(alloc, kinds.as_slice()))
 }
 
@@ -130,12 +130,13 @@ impl<'a> Cursor<'a> {
     }
 
     #[tactic(auto, unfolding(crate::specs::Valued::valued_program_at))]
-    fn program(&mut self, alloc: Global) -> Result<Program, Refusal>
+    fn program(&mut self, alloc: Global, forms: &mut Forms) -> Result<Program, Refusal>
         ensures { Parses (λ x. x) result self.old self.new valued_program_at }
     {
         self.word(Reserved::Program)?;
-        let name = self.name()?;
-        let statements = self.statements(alloc)?;
+        let mut statements = Vec::new(alloc);
+        let name = self.title(alloc, forms, &mut statements)?;
+        self.statements(alloc, forms, &mut statements)?;
         self.word(Reserved::End)?;
         self.sign(Sign::Semicolon)?;
         Ok(Program {
@@ -145,7 +146,7 @@ impl<'a> Cursor<'a> {
     }
 
     // The programs of a batch, at most two hundred and fifty-six.
-    fn programs(&mut self, alloc: Global) -> Result<Vec<Program>, Refusal>
+    fn programs(&mut self, alloc: Global, forms: &mut Forms) -> Result<Vec<Program>, Refusal>
         ensures { Parses (λ v. v.items) result self.old self.new (many is_program valued_program_at at_once most_programs) }
     {
         let mut programs = Vec::new(alloc);
@@ -153,18 +154,18 @@ impl<'a> Cursor<'a> {
             if programs.len() == MOST_PROGRAMS {
                 return Err(Refusal::Fault(Cause::TooMany));
             }
-            let program = self.program(alloc)?;
+            let program = self.program(alloc, forms)?;
             programs.push(program)?;
         }
         Ok(programs)
     }
 
     #[tactic(auto, unfolding(crate::specs::Valued::valued_batch_at))]
-    fn batch(&mut self, alloc: Global) -> Result<Item, Refusal>
+    fn batch(&mut self, alloc: Global, forms: &mut Forms) -> Result<Item, Refusal>
         ensures { Parses (λ x. x) result self.old self.new (given batch_of valued_batch_at) }
     {
         self.word(Reserved::Batch)?;
-        let programs = self.programs(alloc)?;
+        let programs = self.programs(alloc, forms)?;
         self.word(Reserved::Commit)?;
         self.sign(Sign::Semicolon)?;
         Ok(Item::Batch {
@@ -183,11 +184,12 @@ impl<'a> Cursor<'a> {
         self.sign(Sign::Close)?;
         self.sign(Sign::Semicolon)?;
         let (keys, values) = columns;
-        let kinds = join_kinds(alloc, &keys, &values)?;
+        let key_columns = keys.len() as u32;
+        let kinds = join_kinds(alloc, keys, values)?;
         Ok(Item::Relation {
             name: name.to_name(alloc),
             kinds,
-            keys: keys.len() as u32,
+            keys: key_columns,
         })
     }
 
@@ -220,14 +222,14 @@ impl<'a> Cursor<'a> {
 
     /// Reads the next item. At a fault the cursor stands at the token that isn't allowed, or at the end where one is missing.
     #[tactic(auto, using(crate::proofs::Choice::item_relation, crate::proofs::Choice::item_batch, crate::proofs::Choice::item_show))]
-    pub fn item(&mut self, alloc: Global) -> Result<Item, Refusal>
+    pub fn item(&mut self, alloc: Global, forms: &mut Forms) -> Result<Item, Refusal>
         ensures { Parses (λ x. x) result self.old self.new valued_item_at }
     {
         if self.word_stands(Reserved::Relation) {
             return self.relation(alloc);
         }
         if self.word_stands(Reserved::Batch) {
-            return self.batch(alloc);
+            return self.batch(alloc, forms);
         }
         self.show(alloc)
     }

@@ -47,6 +47,7 @@ impl<'a> Lexer<'a> {
         requires { self.old.line + length self.old.rest.now < 2 ^ 64 }
         ensures next { IsNext result self.new.line self.new.rest.now (tokens_at self.old.line self.old.rest.now) }
         ensures opened { Opened result self.old.line self.old.rest.now self.new.line self.new.rest.now }
+        ensures down { self.old.line ≤ self.new.line }
         ensures fits { self.new.line + length self.new.rest.now < 2 ^ 64 }
     {
         self.skip_gap();
@@ -71,6 +72,7 @@ impl<'a> Lexer<'a> {
         ensures same { tokens_at self.new.line self.new.rest.now ≡ tokens_at self.old.line self.old.rest.now }
         ensures gapless { IsGapless self.new.rest.now }
         ensures skipped { Skipped self.old.line self.old.rest.now self.new.line self.new.rest.now }
+        ensures down { self.old.line ≤ self.new.line }
         ensures fits { self.new.line + length self.new.rest.now < 2 ^ 64 }
     {
         'bytes: while let Some((first, rest)) = self.rest.split_first() {

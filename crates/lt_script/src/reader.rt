@@ -3,6 +3,7 @@ ghost use Rattle.std.specs.Prelude.{◌≡◌, [], List};
 ghost use Rattle.lt_model.specs.declared.syntax.Item.{Item as ScriptItem};
 
 use crate::cursor::Cursor;
+use crate::forms::Forms;
 use crate::lexer::Lexer;
 use crate::step::Step;
 use std::alloc::Global;
@@ -32,7 +33,8 @@ impl<'a> Reader<'a> {
         ensures bytes { bytes_of self.new ≡ bytes_of self.old }
     {
         let mut ahead = self.cursor.copy();
-        match ahead.take_item(alloc) {
+        let mut forms = Forms::new(alloc);
+        match ahead.take_item(alloc, &mut forms) {
             Step::Item(item) => {
                 self.cursor = ahead;
                 Step::Item(item)

@@ -8,7 +8,7 @@ use lt_face::memory::NoMemory;
 use std::alloc::{AllocError, AllocFailed};
 
 /// Why a token isn't allowed where it stands.
-#[derive(Clone, Copy, Debug, PartialEq, Eq)]
+#[derive(Clone, Copy)]
 pub enum Cause {
     NotAllowed,
     TooMany,
@@ -17,7 +17,7 @@ pub enum Cause {
 }
 
 /// Why nothing was read.
-#[derive(Clone, Copy, Debug, PartialEq, Eq)]
+#[derive(Clone, Copy)]
 pub enum Refusal {
     NoMemory,
     Fault(Cause),

@@ -7,7 +7,7 @@ ghost use Rattle.lt_script.specs.Reserved.{reserved_of, first_sign};
 use lt_reading::texts::are_same;
 
 /// A word that is no name.
-#[derive(Clone, Copy, Debug, PartialEq, Eq)]
+#[derive(Clone, Copy, PartialEq, Eq)]
 pub enum Reserved {
     Relation,
     Batch,
@@ -31,7 +31,7 @@ pub enum Reserved {
 }
 
 /// A sign.
-#[derive(Clone, Copy, Debug, PartialEq, Eq)]
+#[derive(Clone, Copy, PartialEq, Eq)]
 pub enum Sign {
     NotEqual,
     LessOrEqual,

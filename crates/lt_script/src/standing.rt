@@ -1,7 +1,7 @@
 //! What stands at a place in a source.
 
 /// What stands next, and its line.
-#[derive(Clone, Copy, Debug, PartialEq, Eq)]
+#[derive(Clone, Copy)]
 pub enum Standing {
     /// A token.
     Token { line: u64 },

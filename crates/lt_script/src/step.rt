@@ -2,6 +2,7 @@
 ghost use Rattle.std.specs.Prelude.{◌≢◌, []};
 
 use crate::cursor::Cursor;
+use crate::forms::Forms;
 use crate::refusal::Refusal;
 use crate::standing::Standing;
 use lt_model::syntax::Item;
@@ -45,22 +46,22 @@ impl<'a> Cursor<'a> {
     ghost use Rattle.lt_script.specs.Taken.{IsTaken};
 
     /// Goes past the next item. At a fault it stands at the token that has it, or at the end where one is missing.
-    pub fn take_item(&mut self, alloc: Global) -> Step
+    pub fn take_item(&mut self, alloc: Global, forms: &mut Forms) -> Step
         ensures { IsTaken self.old self.new result }
     {
         match self.standing() {
-            Standing::Token { .. } => self.take_some(alloc),
+            Standing::Token { .. } => self.take_some(alloc, forms),
             Standing::End { .. } => Step::End,
             Standing::Broken { line, code } => Step::Fault { line, code },
         }
     }
 
     // The item that begins with the next token.
-    fn take_some(&mut self, alloc: Global) -> Step
+    fn take_some(&mut self, alloc: Global, forms: &mut Forms) -> Step
         requires { (ahead self.old).0 ≢ [] }
         ensures { IsTaken self.old self.new result }
     {
-        match self.item(alloc) {
+        match self.item(alloc, forms) {
             Ok(item) => Step::Item(item),
             Err(refusal) => Step::refused(refusal, self.standing()),
         }

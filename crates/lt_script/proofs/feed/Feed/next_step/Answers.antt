@@ -1,10 +1,11 @@
-use Rattle.std.proofs.Common.{◌≡◌, ◌-◌, List, ℕ, Some, length, refl, ◌∙◌, ap, arith}
+use Rattle.std.proofs.Common.{◌≡◌, ◌-◌, List, ℕ, Some, length, refl, sym, ◌∙◌, ap, subst, arith}
+use Rattle.lt_model.specs.Script as script
 use Rattle.std.proofs.lemmas.List.{drop_all}
 use Rattle.lt_model.specs.declared.syntax.Item.{Item}
 use Rattle.lt_script.specs.declared.feed.Feed.{Feed}
 use Rattle.lt_script.specs.declared.feed.Fault.{Fault}
 use Rattle.lt_script.specs.Pieces.{Leads}
-use Rattle.lt_script.specs.Feed.{kept_of, HasFed, IsOpenAt}
+use Rattle.lt_script.specs.Feed.{kept_of, HasFed, IsClosed, IsOpenAt}
 use Rattle.lt_script.proofs.Feeds.{leads_all, open_by, closed_by, kept_none, same_fault, answered, gives, none_by, not_none}
 use Rattle.lt_script.proofs.feed.Feed.next_step.Goals as goal
 
@@ -36,33 +37,35 @@ returns-in-Some-clause-decided c = λ bytes items h none. absurd (not_none c.arg
 pub returns-in-Item-clause-step : goal.returns-in-Item-clause-step
 returns-in-Item-clause-step c = λ bytes items h.
     let o = open_of c.args.self.now bytes items c.in_default.not-Some h in
-    let n : c.len-all.result ≡ length c.args.self.now.bytes.items = omega (arith, c.len-all.ensures) in
-    gives c.args.self.now _ bytes items c.in-Item.item c.in-Item.left c.in-Item.line o (c.in-Item.ensures bytes o.done items (all_of c.args.self.now bytes items o) o.derived) refl (c.saturating_sub-self.ensures ∙ ap (λ (k : ℕ). k - c.in-Item.left) n) refl (none_by c.args.self.now.fault c.in_default.not-Some)
+    let same : c.look.new.self ≡ c.args.self.now = c.look.ensures.same in
+    let n : c.len-all.result ≡ length c.args.self.now.bytes.items = omega (arith, c.len-all.ensures, ap (λ (f : Feed). length f.bytes.items) same) in
+    gives c.args.self.now _ bytes items c.in-Item.item c.in-Item.left c.in-Item.line o (c.in-Item.ensures.found bytes o.done items (all_of c.args.self.now bytes items o) o.derived) (ap (λ (f : Feed). f.bytes.items) same) (c.saturating_sub-self.ensures ∙ ap (λ (k : ℕ). k - c.in-Item.left) n) refl (ap (λ (f : Feed). f.fault) same ∙ none_by c.args.self.now.fault c.in_default.not-Some)
 
 pub returns-in-Fault-clause-step : goal.returns-in-Fault-clause-step
 returns-in-Fault-clause-step c = λ bytes items h.
     let o = open_of c.args.self.now bytes items c.in_default.not-Some h in
-    let n : c.len-all-in-Fault.result ≡ length c.args.self.now.bytes.items = omega (arith, c.len-all-in-Fault.ensures) in
-    let f = c.in-Fault.ensures bytes o.done items (all_of c.args.self.now bytes items o) o.derived in
-    let none = drop_all c.len-all-in-Fault.result c.args.self.now.bytes.items (omega (arith, n)) in
-    (f.0, (none, f.0), record { fault = c.in-Fault.fault; is = refl; line_is = refl; code_is = refl; nothing = none })
+    let n : c.len-all-in-Fault.result ≡ length c.look.new.self.bytes.items = omega (arith, c.len-all-in-Fault.ensures) in
+    let f = c.in-Fault.ensures.found bytes o.done items (all_of c.args.self.now bytes items o) o.derived in
+    let none = drop_all c.len-all-in-Fault.result c.look.new.self.bytes.items (omega (arith, n)) in
+    let there = subst (λ (x : Feed). IsClosed x.ended bytes items (script.Fault c.in-Fault.fault.line c.in-Fault.fault.code)) (sym c.look.ensures.same) f.0 in
+    (f.0, (none, there), record { fault = c.in-Fault.fault; is = refl; line_is = refl; code_is = refl; nothing = none })
 
 pub returns-in-Fault-clause-decided : goal.returns-in-Fault-clause-decided
 returns-in-Fault-clause-decided c = λ bytes items h none.
     let o = open_of c.args.self.now bytes items c.in_default.not-Some h in
-    (c.in-Fault.ensures bytes o.done items (all_of c.args.self.now bytes items o) o.derived).1
+    (c.in-Fault.ensures.found bytes o.done items (all_of c.args.self.now bytes items o) o.derived).1
 
 pub returns-in-End-clause-step : goal.returns-in-End-clause-step
 returns-in-End-clause-step c = λ bytes items h.
     let o = open_of c.args.self.now bytes items c.in_default.not-Some h in
-    let e = c.in-End.ensures bytes o.done items (all_of c.args.self.now bytes items o) o.derived in
-    (e.0, e.1, refl)
+    let e = c.in-End.ensures.found bytes o.done items (all_of c.args.self.now bytes items o) o.derived in
+    (e.0, e.1, c.look.ensures.same)
 
 pub returns-in-More-clause-step : goal.returns-in-More-clause-step
 returns-in-More-clause-step c = λ bytes items h.
     let o = open_of c.args.self.now bytes items c.in_default.not-Some h in
-    let m = c.in-More.ensures bytes o.done items (all_of c.args.self.now bytes items o) o.derived in
-    (m.0, m.1, refl)
+    let m = c.in-More.ensures.found bytes o.done items (all_of c.args.self.now bytes items o) o.derived in
+    (m.0, m.1, c.look.ensures.same)
 
 pub returns-in-Item-clause-again : goal.returns-in-Item-clause-again
 returns-in-Item-clause-again c = λ line code h. absurd (c.in_default.not-Some h.fault h.is)

@@ -1,4 +1,4 @@
-use Rattle.std.proofs.Common.{subst, ap, ◌∙◌}
+use Rattle.std.proofs.Common.{refl, subst, ap, ◌∙◌}
 use Rattle.lt_script.specs.Ahead.{Source, Place}
 use Rattle.lt_script.specs.Taken.{Takes, IsTaken}
 use Rattle.lt_script.proofs.Reading.{read_item, read_other}
@@ -10,5 +10,8 @@ returns-in-Item-clause-next c = λ items d. read_item c.args.self.now _ items c.
 pub returns-in-Item-clause-bytes : goal.returns-in-Item-clause-bytes
 returns-in-Item-clause-bytes c = ap (λ (s : Source). s.bytes) c.in-Item.ensures.same ∙ ap (λ (p : Place). p.source.bytes) c.copy-ahead.ensures
 
-pub returns-in_default-clause-next : goal.returns-in_default-clause-next
-returns-in_default-clause-next c = λ items d. read_other c.args.self.now c.take_item.new.self items c.take_item.result d (subst (λ (p : Place). IsTaken p c.take_item.new.self c.take_item.result) c.copy-ahead.ensures c.take_item.ensures) (λ item. c.in_default.not-Item item)
+pub returns : goal.returns
+returns c = record {
+  next = λ items d. read_other c.args.self.now c.take_item.new.self items c.take_item.result d (subst (λ (p : Place). IsTaken p c.take_item.new.self c.take_item.result) c.copy-ahead.ensures c.take_item.ensures) (λ item. c.in_default.not-Item item);
+  bytes = refl;
+}
