@@ -1,9 +1,9 @@
 -- Edits of one entry of a list.
-use Rattle.std.proofs.Common.{◌≡◌, ℕ, zero, suc, ◌+◌, ◌-◌, ◌/◌, ◌<◌, ◌≤◌, Bool, true, false, ◌||◌, length, get_or, take, drop, set, List, [], ◌∷◌, ◌++◌, refl, sym, ap, ◌∙◌, subst, arith, append_assoc, length-append, Result, Ok, Err, OnErr}
+use Rattle.std.proofs.Common.{◌≡◌, ℕ, zero, suc, ◌+◌, ◌<◌, Bool, true, false, ◌||◌, length, get_or, take, drop, set, List, [], ◌∷◌, ◌++◌, refl, sym, ap, ◌∙◌, subst, arith, append_assoc, Result, Ok, Err, OnErr}
 use Rattle.std.specs.List.{insert, remove, list_any}
 use Rattle.lt_shared.specs.declared.entry.Put.TheVariants.{Was, Fits, Halves}
 use Rattle.lt_shared.specs.declared.entry.Taken.TheVariants.{Missing, Out, Last}
-use Rattle.lt_shared.specs.Entries.{joined, IsPlace, IsPut, IsTaken, two_for, AreHalves}
+use Rattle.lt_shared.specs.Entries.{joined, IsPlace, IsPut, IsTaken, two_for}
 use Rattle.lt_shared.proofs.Joins.{joined-append, joined-at, has-at, with-at, without-at}
 
 pub two_for-length : {X : Type 0} (xs : List X) (at : ℕ) (a b : X) → at < length xs → length (two_for xs at a b) ≡ suc (length xs)
@@ -15,20 +15,6 @@ pub set-insert : {X : Type 0} (xs : List X) (at : ℕ) (a b : X) → at < length
 set-insert [] at a b lt = absurd (omega arith)
 set-insert (x ∷ xs) zero a b lt = refl
 set-insert (x ∷ xs) (suc at) a b lt = ap (λ t. x ∷ t) (set-insert xs at a b (omega arith))
-
-pub halves_split : {X : Type 0} (first second xs : List X) (at : ℕ) (a b : X) (middle : ℕ) → at < length xs → first ++ second ≡ two_for xs at a b → AreHalves middle first second
-    → middle ≡ (length xs - 1) / 2 + 1 → record { some : 0 < length first; more : 0 < length second; bound : length first ≤ length xs; bound_more : length second ≤ length xs }
-halves_split first second xs at a b middle lt all halves is =
-    let sum : length first + length second ≡ suc (length xs) = sym (length-append first second) ∙ ap length all ∙ two_for-length xs at a b lt in
-    let none : length first < middle → length second ≡ 0 = λ h. ap length (halves.later h) in
-    let bound : length first ≤ middle = halves.bound in
-    let full : length first ≡ middle = grind arith in
-    record {
-      some = omega arith;
-      more = omega arith;
-      bound = omega arith;
-      bound_more = omega arith;
-    }
 
 pub two_for-set : {X : Type 0} (xs : List X) (at : ℕ) (a b y : X) → two_for (set xs at y) at a b ≡ two_for xs at a b
 two_for-set [] zero a b y = refl
@@ -146,21 +132,6 @@ take-entry f xs at x y row place is taken = record {
   was = taken.was ∙ sym (has-at f xs row at x place is);
   kept = tt;
 }
-
--- the entry is to go, and it is the only one
-pub take-all : {X : Type 0} (f : X → List (List ℕ)) (xs : List X) (at : ℕ) (x : X) (y new : List (List ℕ)) (row : List ℕ) → IsPlace f xs row at → x ≡ get_or xs at x
-    → IsTaken Last (f x) y row → length xs ≡ 1 → new ≡ joined f xs → IsTaken Last (joined f xs) new row
-take-all f xs at x y new row place is taken one same = record {
-  rows = sym (none xs at one place.within) ∙ ap (λ t. joined f (take at xs) ++ (t ++ joined f (drop (suc at) xs))) taken.rows ∙ sym (without-at f xs row at x place is);
-  was = taken.was ∙ sym (has-at f xs row at x place is);
-  kept = same;
-}
-  where
-    none : (zs : List _) (i : ℕ) → length zs ≡ 1 → i < length zs → joined f (take i zs) ++ ([] ++ joined f (drop (suc i) zs)) ≡ []
-    none [] i e lt = absurd (omega arith)
-    none (z ∷ []) zero e lt = refl
-    none (z ∷ []) (suc i) e lt = absurd (omega arith)
-    none (z ∷ (w ∷ zs)) i e lt = absurd (omega arith)
 
 pub remove-length : {X : Type 0} (xs : List X) (at : ℕ) → at < length xs → length (remove xs at) + 1 ≡ length xs
 remove-length [] at lt = absurd (omega arith)

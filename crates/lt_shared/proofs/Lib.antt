@@ -3,3 +3,4 @@ pub mod Edits
 pub mod Counts
 pub mod Gathered
 pub mod Runs
+pub mod Parts

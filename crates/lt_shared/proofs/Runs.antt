@@ -1,9 +1,9 @@
 -- Runs of rows in lists of entries.
-use Rattle.std.proofs.Common.{◌≡◌, ℕ, suc, ◌-◌, ◌<◌, ◌≤◌, length, get_or, take, drop, slice_get, List, [], ◌∷◌, ◌++◌, Some, refl, sym, ap, ◌∙◌, arith, append_assoc}
+use Rattle.std.proofs.Common.{◌≡◌, ℕ, suc, ◌-◌, ◌<◌, length, get_or, take, drop, slice_get, List, [], ◌∷◌, ◌++◌, sym, ap, ◌∙◌, arith, append_assoc}
 use Rattle.std.proofs.lemmas.List.{append-nil, take_rest}
 use Rattle.lt_face.specs.Rows.{IsRun}
 use Rattle.lt_face.proofs.Walked.{first_dropped}
-use Rattle.lt_shared.specs.Entries.{joined, IsFirst, IsOrNext}
+use Rattle.lt_shared.specs.Entries.{joined}
 use Rattle.lt_shared.proofs.Joins.{joined-at}
 
 -- what follows one another in one entry follows one another in all
@@ -23,33 +23,6 @@ run-at f xs at x run lt is here =
 
 pub run-all : (rows : List (List ℕ)) → IsRun rows rows
 run-all rows = record { before = []; after = []; whole = sym (append-nil rows) }
-
-pub run-none : (rows : List (List ℕ)) → IsRun rows []
-run-none rows = record { before = []; after = rows; whole = refl }
-
-is_first : (rows run : List (List ℕ)) → 0 < length run → slice_get run 0 ≡ slice_get rows 0 → (r : List ℕ) × (slice_get run 0 ≡ Some r) × IsFirst rows r
-is_first rows [] some e = absurd (omega arith)
-is_first [] (r ∷ run) some e = absurd cc
-is_first (x ∷ rows) (r ∷ run) some e = (r, refl, sym (same r x e))
-  where
-    same : (a b : List ℕ) → Some a ≡ Some b → a ≡ b
-    same a b h = cc
-
--- where nothing was found in an entry, what begins with the first row of the next
-pub next-found : {X : Type 0} (f : X → List (List ℕ)) (xs : List X) (at : ℕ) (y : X) (found run : List (List ℕ)) → length found ≡ 0 → suc at < length xs → y ≡ get_or xs (suc at) y
-    → 0 < length run → slice_get run 0 ≡ slice_get (f y) 0 → IsOrNext f xs at (slice_get found 0) (slice_get run 0)
-next-found f xs at y [] run none lt is some e =
-    let first = is_first (f y) run some e in
-    rw first.1 (lt, (y, is, first.2))
-next-found f xs at y (r ∷ found) run none lt is some e = absurd (omega arith)
-
-pub here-found : {X : Type 0} (f : X → List (List ℕ)) (xs : List X) (at : ℕ) (found : List (List ℕ)) → 0 < length found → IsOrNext f xs at (slice_get found 0) (slice_get found 0)
-here-found f xs at [] some = absurd (omega arith)
-here-found f xs at (r ∷ found) some = refl
-
-pub none-found : {X : Type 0} (f : X → List (List ℕ)) (xs : List X) (at : ℕ) (found : List (List ℕ)) → length found ≡ 0 → length xs ≤ suc at → IsOrNext f xs at (slice_get found 0) (slice_get found 0)
-none-found f xs at [] none le = le
-none-found f xs at (r ∷ found) none le = absurd (omega arith)
 
 -- the first of those from a place on
 pub head_within : (at : ℕ) (rows : List (List ℕ)) → slice_get (take (length rows - at) (drop at rows)) 0 ≡ slice_get rows at

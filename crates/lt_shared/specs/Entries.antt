@@ -14,6 +14,10 @@ abbrev pub joined : {X : Type 0} → (X → List (List ℕ)) → List X → List
 joined f [] = []
 joined f (x ∷ xs) = f x ++ joined f xs
 
+-- the rows of a list of lists of entries
+abbrev pub below_rows : {X : Type 0} → (X → List (List ℕ)) → List (List X) → List (List ℕ)
+below_rows f levels = joined (λ level. joined f level) levels
+
 -- the row is the first
 abbrev pub IsFirst : List (List ℕ) → List ℕ → Type 0
 IsFirst [] r = ⊥
@@ -101,14 +105,8 @@ pub record IsTaken (taken : Taken) (old new : List (List ℕ)) (row : List ℕ) 
 abbrev pub two_for : {X : Type 0} → List X → ℕ → X → X → List X
 two_for xs at a b = take at xs ++ (a ∷ (b ∷ drop (suc at) xs))
 
--- two lists that are filled one after the other: the second is empty until the first has this many
-pub record AreHalves {X : Type 0} (middle : ℕ) (first second : List X) : Type 0 where
-  pub bound : length first ≤ middle
-  pub later : length first < middle → second ≡ []
-
--- a full list was parted in two, neither of them empty
-pub record AreSplit (limit old first second : ℕ) : Type 0 where
-  pub full : limit ≤ old
+-- a list was parted in two, neither of them empty
+pub record AreParts (old first second : ℕ) : Type 0 where
   pub some_first : 0 < first
   pub some_second : 0 < second
   pub bound_first : first ≤ old

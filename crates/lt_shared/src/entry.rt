@@ -1,15 +1,16 @@
-//! `Entry`: what a list of entries asks of each, and a row as the least of them.
-ghost use Rattle.std.specs.Prelude.{◌≡◌, ◌<◌, ◌≤◌, ◌+◌, ℕ, Bool, true, nat_lt, List, [], ◌∷◌, ◌++◌, length, slice_get, IfOk, OnErr};
+//! `Entry` and `Listed`: what is asked of the entries of a list, and of a list of them. A row is the least entry.
+ghost use Rattle.std.specs.Prelude.{◌≡◌, ◌<◌, ◌≤◌, ◌+◌, ℕ, Bool, true, List, [], ◌∷◌, ◌++◌, length, slice_get, IfOk, OnOk, OnErr};
 ghost use Rattle.std.specs.List.{AllByRecursion};
 ghost use Rattle.std.specs.Option.{option_copied};
+ghost use Rattle.std.specs.Arc.{arc_value};
 ghost use Rattle.lt_face.specs.Rows.{IsAscending, IsRun, has_row, first_from};
-ghost use Rattle.lt_shared.specs.Entries.{joined, IsFirst, IsPut, IsTaken, IfHalves};
+ghost use Rattle.lt_shared.specs.Entries.{joined, AreParts, IsFirst, IsPut, IsTaken, IfHalves, Shrinks};
 
 use lt_face::{Fraction, Key, Moves, Near, NoMemory, Row};
 use lt_flat::place_near;
-use std::cmp::Ordering;
+use std::sync::Arc;
 
-/// How a row went into an entry.
+/// How a row went into an entry, or into a list of entries.
 #[derive(Drop)]
 pub enum Put<T> {
     /// It was there.
@@ -20,7 +21,7 @@ pub enum Put<T> {
     Halves(T, T),
 }
 
-/// How a row went out of an entry.
+/// How a row went out of an entry, or out of a list of entries.
 #[derive(Drop)]
 pub enum Taken {
     /// It was not there.
@@ -35,20 +36,6 @@ pub enum Taken {
 pub trait Entry: Sized + Drop {
     /// The rows.
     ghost rows: { Self → List (List ℕ) };
-
-    /// Whether it may be parted in two.
-    ghost is_full: { Self → Bool };
-
-    /// Whether a list of so many such entries may be parted in two.
-    ghost is_many: { ℕ → Bool };
-
-    /// The most entries that one edit of it puts into lists.
-    ghost most: { ℕ };
-
-    /// A list of so many entries that other sets have, too, is parted in two at a put: only one half is then copied later.
-    fn shared_limit() -> usize
-        ensures bound { result ≤ 64 }
-        ensures many { (n : ℕ) → result ≤ n → n ≤ 64 → is_many n ≡ true };
 
     /// The first row.
     fn first(&self) -> &Row
@@ -83,38 +70,53 @@ pub trait Entry: Sized + Drop {
     fn row_about(&self, along: Fraction) -> &Row
         ensures { has_row (rows self.now) result.now ≡ true };
 
-    /// A second owner of the same entry.
-    fn share(&self) -> Result<Self, NoMemory>
-        ensures { IfOk result (λ entry. entry ≡ self.now) };
+    /// Puts the same entry at the end of a list.
+    fn copy_into(&self, list: &mut Vec<Self>) -> Result<(), NoMemory>
+        ensures { OnOk result (list.new.items ≡ list.old.items ++ self.now ∷ []) };
+}
+
+/// An entry of a page or of a node: a list of such entries can be edited.
+pub trait Listed: Entry {
+    /// Whether a list of so many may be parted in two.
+    ghost is_many: { ℕ → Bool };
+
+    /// The most entries that one edit of a list of at most 64 puts into lists.
+    ghost most: { ℕ };
 
     /// Puts a row in.
-    fn put<L>(&mut self, row: Row, made: &mut Moves<L>) -> Result<Put<Self>, NoMemory>
-        requires { IsAscending (rows self.old) }
-        ensures ok { IfOk result (λ put. IsPut rows put (rows self.old) (rows self.new) row) }
-        ensures err { OnErr result (rows self.new ≡ rows self.old) }
-        ensures full { IfOk result (λ put. IfHalves put (λ a b. is_full self.old ≡ true)) }
+    fn put_among<L>(
+        entries: &mut Arc<Vec<Self>>,
+        row: &Row,
+        made: &mut Moves<L>,
+    ) -> Result<Put<Vec<Self>>, NoMemory>
+        requires rises { IsAscending (joined Self.rows (arc_value entries.old).items) }
+        requires some { 0 < length (arc_value entries.old).items }
+        requires bound { length (arc_value entries.old).items ≤ 64 }
+        ensures ok { IfOk result (λ put. IsPut (λ v. joined Self.rows v.items) put (joined Self.rows (arc_value entries.old).items) (joined Self.rows (arc_value entries.new).items) row.now) }
+        ensures err { OnErr result (joined Self.rows (arc_value entries.new).items ≡ joined Self.rows (arc_value entries.old).items) }
+        ensures some { 0 < length (arc_value entries.new).items }
+        ensures bound { length (arc_value entries.new).items ≤ 64 }
+        ensures many { IfOk result (λ put. IfHalves put (λ a b. is_many (length (arc_value entries.old).items) ≡ true)) }
+        ensures halves { IfOk result (λ put. IfHalves put (λ a b. AreParts (length (arc_value entries.old).items) (length a.items) (length b.items))) }
         ensures made { made.new ≤ made.old + most };
 
     /// Takes a row out.
-    fn take_out<L>(&mut self, row: &Row, made: &mut Moves<L>) -> Result<Taken, NoMemory>
-        requires { IsAscending (rows self.old) }
-        ensures ok { IfOk result (λ taken. IsTaken taken (rows self.old) (rows self.new) row.now) }
-        ensures err { OnErr result (rows self.new ≡ rows self.old) }
+    fn take_among<L>(
+        entries: &mut Arc<Vec<Self>>,
+        row: &Row,
+        made: &mut Moves<L>,
+    ) -> Result<Taken, NoMemory>
+        requires rises { IsAscending (joined Self.rows (arc_value entries.old).items) }
+        requires some { 0 < length (arc_value entries.old).items }
+        requires bound { length (arc_value entries.old).items ≤ 64 }
+        ensures ok { IfOk result (λ taken. IsTaken taken (joined Self.rows (arc_value entries.old).items) (joined Self.rows (arc_value entries.new).items) row.now) }
+        ensures err { OnErr result (joined Self.rows (arc_value entries.new).items ≡ joined Self.rows (arc_value entries.old).items) }
+        ensures shrinks { Shrinks (arc_value entries.old).items (arc_value entries.new).items }
         ensures made { made.new ≤ made.old + most };
 }
 
 impl Entry for Row {
     ghost rows = { λ r. r ∷ [] };
-
-    ghost is_full = { λ r. true };
-
-    ghost is_many = { λ n. nat_lt 24 n };
-
-    ghost most = { 0 };
-
-    fn shared_limit() -> usize {
-        25
-    }
 
     fn first(&self) -> &Row {
         self
@@ -146,25 +148,8 @@ impl Entry for Row {
         self
     }
 
-    fn share(&self) -> Result<Row, NoMemory> {
-        Ok(self.copy_row())
-    }
-
-    fn put<L>(&mut self, row: Row, _made: &mut Moves<L>) -> Result<Put<Row>, NoMemory> {
-        let here: &Row = self;
-        match here.cmp(&row) {
-            Ordering::Less => Ok(Put::Halves(here.copy_row(), row)),
-            Ordering::Equal => Ok(Put::Was),
-            Ordering::Greater => Ok(Put::Halves(row, here.copy_row())),
-        }
-    }
-
-    fn take_out<L>(&mut self, row: &Row, _made: &mut Moves<L>) -> Result<Taken, NoMemory> {
-        let here: &Row = self;
-        if here.cmp(row).is_eq() {
-            Ok(Taken::Last)
-        } else {
-            Ok(Taken::Missing)
-        }
+    fn copy_into(&self, list: &mut Vec<Row>) -> Result<(), NoMemory> {
+        list.push(self.copy_row())?;
+        Ok(())
     }
 }

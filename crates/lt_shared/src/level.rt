@@ -1,11 +1,11 @@
 //! A list of 1 to 64 entries that may have several owners: a page is one of rows, a node one of pages.
-ghost use Rattle.std.specs.Prelude.{◌≡◌, ◌<◌, ◌≤◌, ◌+◌, ◌==◌, ◌++◌, ◌∷◌, [], true, false, length, take, drop, slice_get, IfOk};
+ghost use Rattle.std.specs.Prelude.{◌≡◌, ◌<◌, ◌≤◌, ◌+◌, ◌==◌, ◌++◌, ◌∷◌, [], true, false, length, take, drop, slice_get, IfOk, OnErr};
 ghost use Rattle.std.specs.List.{AllByRecursion};
 ghost use Rattle.lt_face.specs.Rows.{IsAscending, IsRun};
-ghost use Rattle.lt_shared.specs.Entries.{joined, AreAllBelow, AreNoneBelow, IsFirst, IsNear, IsOrNext};
+ghost use Rattle.lt_shared.specs.Entries.{joined, AreAllBelow, AreNoneBelow, IfHalves, IsFirst, IsNear, IsOrNext, IsPut, IsTaken};
 
-use crate::edit::{put_among, take_among};
-use crate::entry::{Entry, Put, Taken};
+use crate::edit::{put_below, take_below};
+use crate::entry::{Entry, Listed, Put, Taken};
 use crate::search::{has_among, least_among, row_along};
 use lt_face::{Fraction, Key, Moves, Near, NoMemory, Row};
 use lt_flat::is_below;
@@ -58,12 +58,54 @@ impl<T: Entry> Level<T> {
         &self.entries
     }
 
+    /// A second owner of the same entries.
+    pub fn share(&self) -> Result<Level<T>, NoMemory>
+        ensures { IfOk result (λ level. level ≡ self.now) }
+    {
+        let entries = self.entries.clone()?;
+        Ok(Level { entries })
+    }
+
     /// The first row of the first entry.
     fn first_row(&self) -> &Row
         ensures { IsFirst (joined T.rows self.now) result.now }
     {
         let entry = &self.entries[0];
         entry.first()
+    }
+}
+
+impl<T: Listed> Level<T> {
+    /// Puts a row in.
+    pub fn put<L>(&mut self, row: &Row, made: &mut Moves<L>) -> Result<Put<Level<T>>, NoMemory>
+        requires { IsAscending (joined T.rows self.old) }
+        ensures ok { IfOk result (λ put. IsPut (λ level. joined T.rows level) put (joined T.rows self.old) (joined T.rows self.new) row.now) }
+        ensures err { OnErr result (joined T.rows self.new ≡ joined T.rows self.old) }
+        ensures full { IfOk result (λ put. IfHalves put (λ a b. T.is_many (length self.old) ≡ true)) }
+        ensures made { made.new ≤ made.old + T.most }
+    {
+        let alloc = *self.entries.allocator();
+        let put = T::put_among(&mut self.entries, row, made)?;
+        match put {
+            Put::Was => Ok(Put::Was),
+            Put::Fits => Ok(Put::Fits),
+            Put::Halves(a, b) => {
+                let first = Level::of(alloc, a)?;
+                let second = Level::of(alloc, b)?;
+                Ok(Put::Halves(first, second))
+            }
+        }
+    }
+
+    /// Takes a row out.
+    pub fn take_out<L>(&mut self, row: &Row, made: &mut Moves<L>) -> Result<Taken, NoMemory>
+        requires { IsAscending (joined T.rows self.old) }
+        ensures ok { IfOk result (λ taken. IsTaken taken (joined T.rows self.old) (joined T.rows self.new) row.now) }
+        ensures err { OnErr result (joined T.rows self.new ≡ joined T.rows self.old) }
+        ensures made { made.new ≤ made.old + T.most }
+    {
+        let taken = T::take_among(&mut self.entries, row, made)?;
+        Ok(taken)
     }
 }
 
@@ -184,16 +226,6 @@ fn above(lower: &Near) -> usize {
 impl<T: Entry> Entry for Level<T> {
     ghost rows = { λ s. joined T.rows s };
 
-    ghost is_full = { λ s. T.is_many (length s) };
-
-    ghost is_many = { λ n. n == 64 };
-
-    ghost most = { 65 + T.most };
-
-    fn shared_limit() -> usize {
-        LIMIT
-    }
-
     fn first(&self) -> &Row {
         self.first_row()
     }
@@ -234,27 +266,33 @@ impl<T: Entry> Entry for Level<T> {
         row_along(&self.entries, along)
     }
 
-    fn share(&self) -> Result<Level<T>, NoMemory> {
-        let entries = self.entries.clone()?;
-        Ok(Level { entries })
+    fn copy_into(&self, list: &mut Vec<Level<T>>) -> Result<(), NoMemory> {
+        let same = self.share()?;
+        list.push(same)?;
+        Ok(())
+    }
+}
+
+impl<T: Listed> Listed for Level<T> {
+    ghost is_many = { λ n. n == 64 };
+
+    ghost most = { 65 + T.most };
+
+    fn put_among<L>(
+        entries: &mut Arc<Vec<Level<T>>>,
+        row: &Row,
+        made: &mut Moves<L>,
+    ) -> Result<Put<Vec<Level<T>>>, NoMemory> {
+        let put = put_below(entries, row, LIMIT, made)?;
+        Ok(put)
     }
 
-    fn put<L>(&mut self, row: Row, made: &mut Moves<L>) -> Result<Put<Level<T>>, NoMemory> {
-        let alloc = *self.entries.allocator();
-        let put = put_among(&mut self.entries, row, LIMIT, T::shared_limit(), made)?;
-        match put {
-            Put::Was => Ok(Put::Was),
-            Put::Fits => Ok(Put::Fits),
-            Put::Halves(a, b) => {
-                let first = Level::of(alloc, a)?;
-                let second = Level::of(alloc, b)?;
-                Ok(Put::Halves(first, second))
-            }
-        }
-    }
-
-    fn take_out<L>(&mut self, row: &Row, made: &mut Moves<L>) -> Result<Taken, NoMemory> {
-        let taken = take_among(&mut self.entries, row, made)?;
+    fn take_among<L>(
+        entries: &mut Arc<Vec<Level<T>>>,
+        row: &Row,
+        made: &mut Moves<L>,
+    ) -> Result<Taken, NoMemory> {
+        let taken = take_below(entries, row, made)?;
         Ok(taken)
     }
 }

@@ -27,6 +27,20 @@ pub fn place<T: Entry>(entries: &[T], row: &Row) -> usize
     low.saturating_sub(1)
 }
 
+/// The same, where the last entry is tried first.
+pub fn place_behind<T: Entry>(entries: &[T], row: &Row) -> usize
+    requires rises { IsAscending (joined T.rows entries.now) }
+    requires some { 0 < length entries.now }
+    ensures { IsPlace T.rows entries.now row.now result }
+{
+    let last = entries.len() - 1;
+    let entry = &entries[last];
+    if entry.first().cmp(row).is_gt() {
+        return place(entries, row);
+    }
+    last
+}
+
 /// Whether some entry has the row.
 pub fn has_among<T: Entry>(entries: &[T], row: &Row) -> bool
     requires { IsAscending (joined T.rows entries.now) }

@@ -82,7 +82,7 @@ impl SharedRows {
             Some(count) => count,
             None => return Err(NoMemory),
         };
-        let new = put_in(&mut self.nodes, row, made)?;
+        let new = put_in(&mut self.nodes, &row, made)?;
         if new {
             self.count = count;
         }
