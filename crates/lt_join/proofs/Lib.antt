@@ -15,7 +15,6 @@ pub mod Deeper
 pub mod Hitting
 pub mod Roots
 pub mod Usable
-pub mod SortedRows
 pub mod KnownValues
 pub mod Prepared
 pub mod Pinned
@@ -24,7 +23,6 @@ pub mod KeyByKey
 pub mod MendedGaps
 pub mod MendLaws
 pub mod Spotted
-pub mod SlicedRows
 pub mod MendKeys
 pub mod MendMerge
 pub mod MendWith

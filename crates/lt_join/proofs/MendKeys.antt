@@ -30,7 +30,7 @@ use Rattle.lt_join.specs.Sliced.{united}
 use Rattle.lt_join.proofs.Spotted.{covered_root, covered_slice}
 use Rattle.lt_join.proofs.Lists.{take_more, take_all}
 use Rattle.lt_join.proofs.Repair.{All_at, list_any_from, list_any_of}
-use Rattle.lt_join.proofs.SortedRows.{eq_nat}
+use Rattle.lt_answers.proofs.SortedRows.{eq_nat}
 
 -- ---- what comes
 

@@ -14,10 +14,10 @@ ghost use Rattle.lt_join.specs.Cost.{bound};
 ghost use Rattle.lt_join.specs.Holders.{IsPrepared};
 
 use crate::Found;
-use crate::ascending::ascending;
 use crate::walk::{Walk, walk_all};
 use crate::wanted::wanted_by;
 use crate::way::Way;
+use lt_answers::ascending::ascending;
 use lt_face::indexes::Indexes;
 use lt_face::items::RowList;
 use lt_face::memory::NoMemory;

@@ -1,8 +1,26 @@
 //! The leapfrog triejoin: the answers of a body over a state, and what they were sensitive to.
+//!
+//! The files follow the walk: `way` (what a walk goes by), `atom_iter` (an atom's iterator, whose gaps go to the sense), `path` (the keys
+//! of the levels above, which stand in clauses alone: at run time the values of the variables have them), `level` (a level is opened and
+//! goes to its next key: the iterators of the atoms that hold it go one level down in place, each opened at the key of the one before, and
+//! meet there; a level with a pin or a tie is opened at its one key, and is over at the first atom that lacks it), `walk` (the levels
+//! below some keys; below the levels that decide the terms, `wanted`, it may end at an answer), `narrowing` (what conditions leave of a
+//! level's keys, and whether one fails already; `hints` has where that is worth a look), `leaf`, `conditions` and `values` (what the keys
+//! of all levels give), `looking_up` (negated atoms), `answer` (the rows, or the truth, for which no row is made: with a
+//! sense, or alone), `covering` (what a sense is for), `slicing` (answers and senses key by key of the first variable, and what they make
+//! together). The iterators of one or two atoms lie on the stack, so a join of these takes memory for its answers alone. A body by parts
+//! (`splitting`, with a sense or without one, and key by key `splitting_slices`): `bounds` cuts the keys of the first level into ranges at
+//! keys of one of its indexes, `parts` does the ranges by halves, each half in a thread of its own where there can be one, `ranging` walks
+//! over one range, `slicing` gathers the slices of one, and neighbouring parts are put together: rows, slices and senses one behind the
+//! other. `Parts` has what a part is. `slicing` answers a body key by key of its first variable, and `mending` says what slices stay on
+//! another state (read `specs/Sliced`, then `specs/Mended`). `mending_touched` finds the touched keys, `mending_join` joins their slices
+//! by a body and a plan that `mending_copy` pins to the key, `mending_merged` puts them in their places, `mending_read` reads slices;
+//! slices are shared (`mending_shared`). `values` and `conditions` are public: the nested loops of `lt_reference` use them.
+//! Of its specs read `Certify` (when a sense stands for the answers), `Cost` (the bound), `Explored` (what a walk has established),
+//! `Level` (a level that is open), `Way` (what a walk leaves), `Sliced` (a body with a term pinned, its slices).
 #![tactic(auto)]
 
 mod answer;
-pub mod ascending;
 mod atom_iter;
 mod bounds;
 pub mod conditions;

@@ -5,8 +5,8 @@ ghost use Rattle.lt_sense.specs.Sense.{covers};
 ghost use Rattle.lt_sense.specs.Spots.{IsSpotOf};
 ghost use Rattle.lt_join.specs.Sliced.{united, sliced_rows};
 
-use crate::ascending::ascending;
 use crate::mending_shared::SharedSlice;
+use lt_answers::ascending::ascending;
 use lt_face::items::RowList;
 use lt_face::memory::NoMemory;
 use lt_face::row::Row;

@@ -31,7 +31,6 @@ ghost use Rattle.lt_join.specs.Parts.{IsAtMost, IsJoinable, AreSlicesWithin};
 ghost use Rattle.lt_join.specs.Sliced.{pinned, slice_keys, united, sliced_rows, AreSealed, CertifiesBut, IsSliceOf, AreRooted, AreRootGaps, AreFoundKeys};
 
 use crate::Found;
-use crate::ascending::ascending;
 use crate::atom_iter::AtomIter;
 use crate::level::{next_key, open};
 use crate::mending_shared::{SharedSlice, SharedSlices};
@@ -39,6 +38,7 @@ use crate::path::Path;
 use crate::values::Values;
 use crate::walk::{Walk, explore_key};
 use crate::way::Way;
+use lt_answers::ascending::ascending;
 use lt_face::indexes::Indexes;
 use lt_face::items::{Items, RowList};
 use lt_face::key::{END, Key};

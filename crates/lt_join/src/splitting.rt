@@ -9,9 +9,9 @@ ghost use Rattle.lt_join.specs.Cost.{bound};
 
 use crate::Found;
 use crate::answer::answers_prepared;
-use crate::ascending::ascending;
 use crate::parts::{Ranged, find_whole};
 use crate::ranging::explore_range;
+use lt_answers::ascending::ascending;
 use lt_edges::Gate;
 use lt_face::indexes::Indexes;
 use lt_face::items::{Items, RowList};

@@ -1,6 +1,6 @@
 use Rattle.std.proofs.Common.{sym, ◌∙◌}
-use Rattle.lt_join.proofs.SlicedRows.{ascends_one, ascends_more, is_less}
-use Rattle.lt_join.proofs.ascending.are_ascending.Goals as goal
+use Rattle.lt_answers.proofs.AscendingRows.{ascends_one, ascends_more, is_less}
+use Rattle.lt_answers.proofs.ascending.are_ascending.Goals as goal
 
 pub loop-i-init : goal.loop-i-init
 loop-i-init c = ascends_one c.args.rows.now

@@ -2,9 +2,9 @@ use Rattle.std.proofs.Common.{◌∙◌, subst}
 use Rattle.std.specs.Cmp.Lexicographic.{pointwise}
 use Rattle.std.specs.Prelude.{nat_eq}
 use Rattle.lt_face.specs.Rows.{IsAscending}
-use Rattle.lt_join.proofs.SlicedRows.{ascending_itself}
-use Rattle.lt_join.proofs.SortedRows.{rows_tie, sorted_is}
-use Rattle.lt_join.proofs.ascending.ascending.Goals as goal
+use Rattle.lt_answers.proofs.AscendingRows.{ascending_itself}
+use Rattle.lt_answers.proofs.SortedRows.{rows_tie, sorted_is}
+use Rattle.lt_answers.proofs.ascending.ascending.Goals as goal
 
 pub returns-then-are_ascending : goal.returns-then-are_ascending
 returns-then-are_ascending c =

@@ -1,0 +1,2 @@
+mod AscendingRows
+pub mod SortedRows
