@@ -36,3 +36,5 @@ pub mod ReadingMarked
 pub mod SplitCosts
 pub mod Undone
 pub mod InUse
+pub mod Followed
+pub mod NothingAsked

@@ -17,6 +17,12 @@ pub record IsPlanned (body : Body) (plan : Plan) : Type 0 where
   pub of_body : IsPlanOf body plan
   pub runnable : IsRunnable body plan
 
+-- no literal asks anything
+pub record IsEmpty (body : Body) : Type 0 where
+  pub atoms : length body.atoms ≡ 0
+  pub absents : length body.absents ≡ 0
+  pub tests : length body.tests ≡ 0
+
 -- at most 8 terms of the body, each bound by it
 pub record ArePicked (body : Body) (terms : List Term) : Type 0 where
   pub narrow : length terms ≤ most_columns

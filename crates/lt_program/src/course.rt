@@ -6,7 +6,6 @@ ghost use Rattle.lt_model.specs.Fits.{FitMarks};
 ghost use Rattle.lt_model.specs.Marks.{Marks as MarksView, AreMarks, and_then, laid};
 ghost use Rattle.lt_base.specs.Tables.{Table, state_of, has_index};
 ghost use Rattle.lt_query.specs.Needs.{body_of as body_in};
-ghost use Rattle.lt_query.specs.Planned.{route_of};
 ghost use Rattle.lt_query.specs.Lists.{IsRising};
 ghost use Rattle.lt_query.specs.Stated.{stated_plan};
 ghost use Rattle.lt_join.specs.Mended.{HaveTouched};
@@ -31,7 +30,7 @@ use lt_face::memory::NoMemory;
 use lt_face::moves::Moves;
 use lt_model::normal::Stmt;
 use lt_model::reply::{Printed, Reply};
-use lt_query::Route;
+use lt_query::Plan;
 use lt_sense::Sense;
 use std::alloc::Global;
 use std::mem;
@@ -311,10 +310,10 @@ impl Course {
         base: &Database,
         number: u32,
         stmt: &Stmt,
-        route: &Route,
+        plan: &Plan,
         moves: &mut Moves<L>,
     ) -> Result<(), NoMemory>
-        requires route { route.now ≡ route_of (body_in stmt.now) }
+        requires plan { plan.now ≡ stated_plan (body_in stmt.now) }
         requires going { is_refused self.old.reply ≡ false }
         requires reads { reads_rows stmt.now ≡ false }
         requires can_evaluate { CanEvaluate base.now stmt.now }
@@ -326,7 +325,7 @@ impl Course {
         ensures err { OnErr result (self.new ≡ self.old) }
     {
         let alloc = self.parts.allocator();
-        let step = evaluated(alloc, base, stmt, route, moves)?;
+        let step = evaluated(alloc, base, stmt, plan, moves)?;
         let Step { part, effect } = step;
         let part = SharedPart::new(alloc, insensitive(alloc, part))?;
         self.accept(number, part, effect)?;
@@ -370,10 +369,10 @@ impl Course {
         base: &Database,
         number: u32,
         stmt: &Stmt,
-        route: &Route,
+        plan: &Plan,
         moves: &mut Moves<L>,
     ) -> Result<(), NoMemory>
-        requires route { route.now ≡ route_of (body_in stmt.now) }
+        requires plan { plan.now ≡ stated_plan (body_in stmt.now) }
         requires going { is_refused self.old.reply ≡ false }
         requires can_evaluate { CanEvaluate base.now stmt.now }
         requires marks { FitMarks (state_of base.now) self.old.marks }
@@ -388,7 +387,7 @@ impl Course {
     {
         let alloc = self.parts.allocator();
         let tables = self.take_laid(base)?;
-        let step = evaluated(alloc, &tables, stmt, route, moves)?;
+        let step = evaluated(alloc, &tables, stmt, plan, moves)?;
         self.take_step(base, number, stmt, tables, step)?;
         Ok(())
     }
@@ -399,12 +398,12 @@ impl Course {
         base: &Database,
         number: u32,
         stmt: &Stmt,
-        route: &Route,
+        plan: &Plan,
         old: &Part,
         keys: &Items<Key>,
         moves: &mut Moves<L>,
     ) -> Result<(), NoMemory>
-        requires route { route.now ≡ route_of (body_in stmt.now) }
+        requires plan { plan.now ≡ stated_plan (body_in stmt.now) }
         requires going { is_refused self.old.reply ≡ false }
         requires can_evaluate { CanEvaluate base.now stmt.now }
         requires marks { FitMarks (state_of base.now) self.old.marks }
@@ -423,7 +422,7 @@ impl Course {
     {
         let alloc = self.parts.allocator();
         let tables = self.take_laid(base)?;
-        let step = mended(alloc, &tables, stmt, route, old, keys, moves)?;
+        let step = mended(alloc, &tables, stmt, plan, old, keys, moves)?;
         self.take_step(base, number, stmt, tables, step)?;
         Ok(())
     }
@@ -456,10 +455,10 @@ impl Course {
         base: &Database,
         number: u32,
         stmt: &Stmt,
-        route: &Route,
+        plan: &Plan,
         moves: &mut Moves<L>,
     ) -> Result<(), NoMemory>
-        requires route { route.now ≡ route_of (body_in stmt.now) }
+        requires plan { plan.now ≡ stated_plan (body_in stmt.now) }
         requires going { is_refused self.old.reply ≡ false }
         requires can_evaluate { CanEvaluate base.now stmt.now }
         requires marks { FitMarks (state_of base.now) self.old.marks }
@@ -473,9 +472,9 @@ impl Course {
         ensures marks_kept { OnErr result (self.new.marks ≡ self.old.marks) }
     {
         if reads_some(stmt) {
-            self.evaluate_laid(base, number, stmt, route, moves)?;
+            self.evaluate_laid(base, number, stmt, plan, moves)?;
         } else {
-            self.evaluate_alone(base, number, stmt, route, moves)?;
+            self.evaluate_alone(base, number, stmt, plan, moves)?;
         }
         Ok(())
     }

@@ -15,6 +15,7 @@ ghost use Rattle.lt_join.specs.Walked.{Grows};
 ghost use Rattle.lt_program.specs.Displacing.{AreOwn, HaveOneWidth, has_key_of, with_key};
 
 use crate::noting::{Place, front, note_others};
+use lt_answers::ascending::ascending;
 use lt_base::{Database, Rows};
 use lt_face::items::{Items, RowList};
 use lt_face::memory::NoMemory;
@@ -23,7 +24,6 @@ use lt_face::near::Near;
 use lt_face::row::Row;
 use lt_face::row_set::RowReads;
 use lt_face::walk::row_above;
-use lt_join::ascending::ascending;
 use lt_query::own_columns;
 use lt_sense::Sense;
 use std::alloc::Global;

@@ -5,11 +5,10 @@ ghost use Rattle.lt_face.specs.Rows.{IsAscending, IsRow};
 ghost use Rattle.lt_face.specs.State.{State};
 ghost use Rattle.lt_model.specs.Answers.{answers as answers_of, some_answer};
 ghost use Rattle.lt_model.specs.Effect.{effect as effect_of, is_plain as is_plain_in};
-ghost use Rattle.lt_model.specs.Fits.{IsWide, IsBodyOf, IsHeadOf, AreKeysOf};
+ghost use Rattle.lt_model.specs.Fits.{IsWide, IsHeadOf, AreKeysOf};
 ghost use Rattle.lt_base.specs.Tables.{state_of};
 ghost use Rattle.lt_query.specs.Lists.{IsRising};
 ghost use Rattle.lt_query.specs.Needs.{body_of as body_in};
-ghost use Rattle.lt_query.specs.Planned.{route_of};
 ghost use Rattle.lt_query.specs.Runnable.{AreWide};
 ghost use Rattle.lt_query.specs.Stated.{stated_plan};
 ghost use Rattle.lt_sense.specs.Sense.{IsTight};
@@ -36,9 +35,7 @@ use lt_face::memory::NoMemory;
 use lt_face::moves::Moves;
 use lt_join::some_unsealed;
 use lt_model::normal::{Atom, Body, Stmt, TermList};
-use lt_query::laws::plans_of_bodies;
-use lt_query::planning::plan_by;
-use lt_query::{Plan, Route, body_of};
+use lt_query::Plan;
 use lt_sense::Sense;
 use std::alloc::Global;
 
@@ -349,34 +346,22 @@ fn evaluate_part<L>(
     Ok(part)
 }
 
-/// The plan of a body that fits, by its shape's route.
-pub(crate) fn planned(route: &Route, body: &Body) -> Result<Plan, NoMemory>
-    requires fits { (state : State) × AreWide state × IsBodyOf state body.now }
-    requires route { route.now ≡ route_of body.now }
-    ensures { IfOk result (IsPlanned body.now) }
-{
-    plans_of_bodies();
-    let plan = plan_by(route, body)?;
-    Ok(plan)
-}
-
 /// The part of the statement on the database, and its effect there.
 pub(crate) fn evaluated<L>(
     alloc: Global,
     tables: &Database,
     stmt: &Stmt,
-    route: &Route,
+    plan: &Plan,
     moves: &mut Moves<L>,
 ) -> Result<Step, NoMemory>
-    requires route { route.now ≡ route_of (body_in stmt.now) }
+    requires plan { plan.now ≡ stated_plan (body_in stmt.now) }
     requires can_evaluate { CanEvaluate tables.now stmt.now }
     ensures part { IfOk result (λ e. IsPartOn stmt.now (state_of tables.now) e.part) }
     ensures effect { IfOk result (λ e. view e.effect ≡ effect_of stmt.now (state_of tables.now)) }
     ensures cost { moves.new ≤ moves.old + statement_cost stmt.now (state_of tables.now) }
     ensures moves { moves.old ≤ moves.new }
 {
-    let plan = planned(route, body_of(stmt))?;
-    let part = evaluate_part(alloc, tables, stmt, &plan, moves)?;
+    let part = evaluate_part(alloc, tables, stmt, plan, moves)?;
     let effect = effect_by(alloc, stmt, &part.outcome)?;
     Ok(Step { part, effect })
 }
@@ -386,12 +371,12 @@ pub(crate) fn mended<L>(
     alloc: Global,
     tables: &Database,
     stmt: &Stmt,
-    route: &Route,
+    plan: &Plan,
     old: &Part,
     keys: &Items<Key>,
     moves: &mut Moves<L>,
 ) -> Result<Step, NoMemory>
-    requires route { route.now ≡ route_of (body_in stmt.now) }
+    requires plan { plan.now ≡ stated_plan (body_in stmt.now) }
     requires can_evaluate { CanEvaluate tables.now stmt.now }
     requires sliced { is_sliced_in stmt.now ≡ true }
     requires old { (state : State) × IsPartOn stmt.now state old.now × HaveTouched keys.now old.now.sense old.now.slices state (state_of tables.now) }
@@ -402,8 +387,7 @@ pub(crate) fn mended<L>(
     ensures cost { moves.new ≤ moves.old + mending_cost keys.now (body_in stmt.now) (stated_plan (body_in stmt.now)) (state_of tables.now) }
     ensures moves { moves.old ≤ moves.new }
 {
-    let plan = planned(route, body_of(stmt))?;
-    let part = mend_slices(alloc, tables, stmt, &plan, old, keys, moves)?;
+    let part = mend_slices(alloc, tables, stmt, plan, old, keys, moves)?;
     let effect = effect_by(alloc, stmt, &part.outcome)?;
     Ok(Step { part, effect })
 }

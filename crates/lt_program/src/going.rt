@@ -16,7 +16,6 @@ ghost use Rattle.lt_program.specs.Undo.{IsBack};
 
 use crate::alone::outcome_alone;
 use crate::course::print;
-use crate::evaluation::planned;
 use crate::joining::{Joiner, Whole};
 use crate::kept::{into_first, refused_by, written_by};
 use crate::part::Found;
@@ -32,7 +31,7 @@ use lt_model::kind::KindList;
 use lt_model::mark::Mark;
 use lt_model::normal::Stmt;
 use lt_model::reply::{Printed, Reply};
-use lt_query::{Planned, Route, body_of};
+use lt_query::{Plan, Planned};
 use std::alloc::Global;
 
 /// What a program answered and wrote.
@@ -197,10 +196,9 @@ impl Going {
         ensures rises { moves.old ≤ moves.new }
     {
         let stmt: &Stmt = &prog.statements()[number];
-        let route: &Route = &prog.routes()[number];
+        let plan: &Plan = &prog.plans()[number];
         let alloc = prog.allocator();
-        let plan = planned(route, body_of(stmt))?;
-        let outcome = outcome_alone(by, alloc, db, stmt, &plan, moves)?;
+        let outcome = outcome_alone(by, alloc, db, stmt, plan, moves)?;
         let place = number as u32 + 1;
         self.accept(alloc, db, place, stmt, outcome, keeps, logs)?;
         Ok(())

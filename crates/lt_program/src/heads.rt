@@ -11,6 +11,7 @@ ghost use Rattle.lt_join.specs.Cost.{bound};
 ghost use Rattle.lt_program.specs.Asked.{CanFollow};
 ghost use Rattle.lt_program.specs.Planned.{ArePicked};
 
+use lt_answers::ascending::ascending;
 use lt_base::Database;
 use lt_face::items::RowList;
 use lt_face::limits::MOST_COLUMNS;
@@ -18,7 +19,6 @@ use lt_face::memory::NoMemory;
 use lt_face::moves::Moves;
 use lt_face::row::Row;
 use lt_join::answers_unsealed;
-use lt_join::ascending::ascending;
 use lt_model::normal::{Body, TermList};
 use lt_query::Plan;
 use lt_sense::Sense;

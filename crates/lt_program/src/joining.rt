@@ -1,19 +1,23 @@
 //! How the joins of a program's statements are done, where nobody will ask what they were sensitive to: each as a whole, or in some
 //! other way. What is said of moves holds also where memory is refused.
-ghost use Rattle.std.specs.Prelude.{◌≡◌, ◌≤◌, ◌+◌, ℕ, IfOk};
+ghost use Rattle.std.specs.Prelude.{◌≡◌, ◌≤◌, ◌+◌, ℕ, ◌∷◌, [], length, IfOk, IsTrue};
+ghost use Rattle.lt_face.specs.Limits.{most_columns};
 ghost use Rattle.lt_face.specs.State.{State};
 ghost use Rattle.lt_model.specs.declared.normal.Body.{Body as BodyView};
-ghost use Rattle.lt_model.specs.Answers.{answers as answers_of};
+ghost use Rattle.lt_model.specs.Answers.{answers as answers_of, cell_of, cells_of};
 ghost use Rattle.lt_base.specs.Tables.{state_of};
 ghost use Rattle.lt_program.specs.Asked.{CanFollow};
-ghost use Rattle.lt_program.specs.Planned.{ArePicked};
+ghost use Rattle.lt_program.specs.Planned.{ArePicked, IsEmpty};
+ghost use Rattle.lt_program.specs.Split.{whole_cost};
 
 use lt_base::Database;
-use lt_face::items::RowList;
+use lt_face::items::{Items, RowList};
+use lt_face::key::Key;
 use lt_face::memory::NoMemory;
 use lt_face::moves::Moves;
+use lt_face::row::Row;
 use lt_join::answers_alone;
-use lt_model::normal::{Body, TermList};
+use lt_model::normal::{Body, Term, TermList};
 use lt_query::Plan;
 use std::alloc::Global;
 
@@ -43,6 +47,60 @@ pub(crate) trait Joiner<L> {
         ensures moves { moves.old ≤ moves.new };
 }
 
+/// Whether the body asks nothing: its one answer is the terms' row, whatever the state.
+fn asks_nothing(body: &Body) -> bool
+    ensures { IsTrue result → IsEmpty body.now }
+{
+    body.atoms.len() == 0 && body.absents.len() == 0 && body.tests.len() == 0
+}
+
+/// The cell of a constant. A variable that nothing binds is 0.
+fn cell_alone(term: Term) -> Key
+    ensures { result ≡ cell_of (λ v. 0) term }
+{
+    match term {
+        Term::Var(_) => 0,
+        Term::Cell(cell) => cell,
+    }
+}
+
+/// The row of the terms' constants, alone.
+fn row_alone(alloc: Global, terms: &TermList) -> Result<RowList, NoMemory>
+    requires { length terms.now ≤ most_columns }
+    ensures { IfOk result (λ rows. rows ≡ cells_of (λ v. 0) terms.now ∷ []) }
+{
+    let mut row = Row::from_cells(alloc, &[]);
+    for term in terms.as_slice() {
+        row.push(cell_alone(*term));
+    }
+    let mut rows = Items::from_vec(Vec::with_capacity(alloc, 1)?);
+    rows.push(row)?;
+    Ok(rows)
+}
+
+/// The terms' answers on the database, by one join; those of a body that asks nothing without one.
+pub(crate) fn answered_alone<L>(
+    alloc: Global,
+    tables: &Database,
+    body: &Body,
+    plan: &Plan,
+    terms: &TermList,
+    moves: &mut Moves<L>,
+) -> Result<RowList, NoMemory>
+    requires can_follow { CanFollow tables.now body.now plan.now }
+    requires terms { ArePicked body.now terms.now }
+    ensures rows { IfOk result (λ rows. rows ≡ answers_of terms.now body.now (state_of tables.now)) }
+    ensures cost { moves.new ≤ moves.old + whole_cost body.now (state_of tables.now) }
+    ensures moves { moves.old ≤ moves.new }
+{
+    if asks_nothing(body) {
+        let rows = row_alone(alloc, terms)?;
+        return Ok(rows);
+    }
+    let rows = answers_alone(alloc, body, plan, terms, tables, moves)?;
+    Ok(rows)
+}
+
 /// Each join is one whole.
 #[derive(Clone, Copy)]
 pub(crate) struct Whole;
@@ -64,7 +122,7 @@ impl<L> Joiner<L> for Whole {
         terms: &TermList,
         moves: &mut Moves<L>,
     ) -> Result<RowList, NoMemory> {
-        let rows = answers_alone(alloc, body, plan, terms, tables, moves)?;
+        let rows = answered_alone(alloc, tables, body, plan, terms, moves)?;
         Ok(rows)
     }
 }

@@ -12,14 +12,14 @@ ghost use Rattle.lt_program.specs.Split.{cost_of_first_by, split_cost};
 ghost use Rattle.lt_program.specs.Tally.{HasIndexes, ends_at};
 
 use crate::going::{Ran, run_by, run_on_share};
-use crate::joining::Joiner;
+use crate::joining::{Joiner, answered_alone};
 use crate::worth::is_worth;
 use lt_base::Database;
 use lt_edges::OpenGate;
 use lt_face::items::RowList;
 use lt_face::memory::NoMemory;
 use lt_face::moves::Moves;
-use lt_join::{answers_alone, answers_split_alone};
+use lt_join::answers_split_alone;
 use lt_model::normal::{Body, TermList};
 use lt_query::{Plan, Planned};
 use std::alloc::Global;
@@ -58,7 +58,7 @@ impl<'a, R: Threads + Wait + Sync, L: Send> Joiner<L> for ByParts<'a, R> {
             )?;
             return Ok(rows);
         }
-        let rows = answers_alone(alloc, body, plan, terms, tables, moves)?;
+        let rows = answered_alone(alloc, tables, body, plan, terms, moves)?;
         Ok(rows)
     }
 }

@@ -26,7 +26,7 @@ use lt_face::moves::Moves;
 use lt_face::row::Row;
 use lt_model::normal::Stmt;
 use lt_model::reply::Reply;
-use lt_query::{Planned, Route};
+use lt_query::{Plan, Planned};
 use std::marker::Model;
 use std::sync::Arc;
 
@@ -105,9 +105,9 @@ impl Tally {
     {
         let number = self.course.parts.len();
         let stmt: &Stmt = &self.prog.statements()[number];
-        let route: &Route = &self.prog.routes()[number];
+        let plan: &Plan = &self.prog.plans()[number];
         self.course
-            .evaluate(&self.base, number as u32 + 1, stmt, route, moves)?;
+            .evaluate(&self.base, number as u32 + 1, stmt, plan, moves)?;
         Ok(())
     }
 
@@ -153,13 +153,13 @@ impl Tally {
     {
         let number = self.course.parts.len();
         let stmt: &Stmt = &self.prog.statements()[number];
-        let route: &Route = &self.prog.routes()[number];
+        let plan: &Plan = &self.prog.plans()[number];
         let kept = &old.parts()[number];
         self.course.mend(
             &self.base,
             number as u32 + 1,
             stmt,
-            route,
+            plan,
             kept.part(),
             keys,
             moves,

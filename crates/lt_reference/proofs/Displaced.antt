@@ -9,7 +9,7 @@ use Rattle.lt_face.specs.Lists.{IsIn}
 use Rattle.lt_face.specs.Rows.{IsCell}
 use Rattle.lt_face.specs.State.{Row, State, Has, rows_in}
 use Rattle.lt_face.proofs.Membership.{IsIn-flat_map, IsIn-flat_map_from}
-use Rattle.lt_join.proofs.SortedRows.{rows_tie}
+use Rattle.lt_answers.proofs.SortedRows.{rows_tie}
 use Rattle.lt_model.specs.declared.normal.Term.TheVariants.{Cell}
 use Rattle.lt_model.specs.Answers.{answers}
 use Rattle.lt_model.specs.Effect.{same_row, contend, fresh, key_terms, key_body, displaced_by, displaced}

@@ -13,7 +13,7 @@ use Rattle.lt_model.specs.declared.normal.Atom.{Atom}
 use Rattle.lt_model.specs.declared.normal.Test.{Test}
 use Rattle.lt_model.specs.Answers.{Values, cells_of, give_all}
 use Rattle.lt_join.specs.Values.{assigned}
-use Rattle.lt_join.proofs.SortedRows.{rows_tie}
+use Rattle.lt_answers.proofs.SortedRows.{rows_tie}
 use Rattle.lt_reference.specs.Values.{matched}
 use Rattle.lt_reference.specs.Walk.{bears, found_from, some_from, leaf}
 use Rattle.lt_reference.proofs.WholePicks.{row_found, row_some, found_rows, some_rows, row_found-missed, row_found-met, row_some-missed, row_some-met, found_end, some_end}

@@ -14,7 +14,7 @@ use Rattle.lt_model.specs.Answers.{Assignment, Values, cell_of, cells_of, rows_u
 use Rattle.lt_join.specs.Values.{assigned, with_value}
 use Rattle.lt_reference.specs.Values.{with_cell, accept, matched}
 use Rattle.lt_reference.specs.Walk.{bears, begun, assignment_from, fits_from, answer_from}
-use Rattle.lt_join.proofs.SortedRows.{eq_nat, eq_then}
+use Rattle.lt_answers.proofs.SortedRows.{eq_nat, eq_then}
 use Rattle.lt_program.proofs.BoundCells.{assigned_has}
 
 -- ---- values and the assignment

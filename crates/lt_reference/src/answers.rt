@@ -9,10 +9,10 @@ ghost use Rattle.lt_join.specs.Values.{values_in, assigned, IsTest};
 ghost use Rattle.lt_reference.specs.Walk.{IsAtom, IsAbsent, AreCells, bare, bears as bears_all, found_from, some_from, leaf};
 
 use crate::matching::matched;
+use lt_answers::ascending::ascending;
 use lt_face::items::RowList;
 use lt_face::memory::NoMemory;
 use lt_face::row::Row;
-use lt_join::ascending::ascending;
 use lt_join::conditions::{all_pass, give_all};
 use lt_join::values::Values;
 use lt_model::normal::{Atom, Body, Term, Test};

@@ -16,7 +16,7 @@ use crate::progress::Progress;
 use lt_delta::Marks;
 use lt_face::items::{Items, RowList};
 use lt_face::memory::NoMemory;
-use lt_model::normal::{Prog, Stmt};
+use lt_model::normal::Stmt;
 use lt_model::reply::Reply;
 use lt_program::copied;
 use std::alloc::Global;
@@ -65,14 +65,13 @@ fn run_on(alloc: Global, prog: &[Stmt], relations: Vec<RowList>) -> Result<(Repl
 }
 
 /// The reply of a program on relations with these rows, and its marks.
-pub fn run_plain(alloc: Global, prog: &Prog, rows: &[RowList]) -> Result<(Reply, Marks), NoMemory>
+pub fn run_plain(alloc: Global, prog: &[Stmt], rows: &[RowList]) -> Result<(Reply, Marks), NoMemory>
     requires { IsFitting rows.now prog.now }
     ensures reply { IfOk result (λ out. (state : State) → lists state ≡ rows.now → out.0 ≡ (run prog.now state).0) }
     ensures marks { IfOk result (λ out. (state : State) → lists state ≡ rows.now → out.1 ≡ (run prog.now state).1) }
     ensures fits { IfOk result (λ out. (fitting : IsFitting rows.now prog.now) → FitMarks fitting.state out.1) }
     ensures printed { IfOk result (λ out. AreReplied out.0) }
 {
-    let prog = prog.as_slice();
     let relations = all_copied(alloc, rows)?;
     let out = run_on(alloc, prog, relations)?;
     Ok(out)

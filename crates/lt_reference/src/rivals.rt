@@ -4,11 +4,11 @@ ghost use Rattle.std.specs.List.{list_any};
 ghost use Rattle.lt_model.specs.Effect.{contend as contend_in, has_clash as clash_in};
 ghost use Rattle.lt_reference.specs.Rivals.{is_rival as is_rival_of, rivals_of};
 
+use lt_answers::ascending::ascending;
 use lt_face::items::RowList;
 use lt_face::key::Key;
 use lt_face::memory::NoMemory;
 use lt_face::row::Row;
-use lt_join::ascending::ascending;
 use std::alloc::Global;
 
 /// The row's first cells, so many, or all where it has fewer.

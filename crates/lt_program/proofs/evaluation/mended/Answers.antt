@@ -1,21 +1,11 @@
-use Rattle.std.proofs.Common.{◌∙◌, sym, ap, subst}
+use Rattle.std.proofs.Common.{◌∙◌}
 use Rattle.lt_base.specs.Tables.{state_of}
-use Rattle.lt_model.specs.declared.normal.Body.{Body}
-use Rattle.lt_model.specs.Fits.{IsBodyOf}
-use Rattle.lt_query.specs.Planned.{route_of}
-use Rattle.lt_program.specs.Planned.{IsPlanned}
-use Rattle.lt_program.proofs.IndexesMade.{body_fits}
+use Rattle.lt_program.proofs.Followed.{planned_on}
 use Rattle.lt_program.proofs.Recalls.{part_ordered, effect_recalled}
 use Rattle.lt_program.proofs.evaluation.mended.Goals as goal
 
-pub planned-requires-clause-fits : goal.planned-requires-clause-fits
-planned-requires-clause-fits g c = (state_of c.args.tables.now, c.requires.can_evaluate.wide, subst (IsBodyOf (state_of c.args.tables.now)) (sym c.body_of.ensures) (body_fits (state_of c.args.tables.now) c.args.stmt.now c.requires.can_evaluate.fits))
-
-pub planned-requires-clause-route : goal.planned-requires-clause-route
-planned-requires-clause-route g c = c.requires.route ∙ ap route_of (sym c.body_of.ensures)
-
 pub mend_slices-requires-clause-plan : goal.mend_slices-requires-clause-plan
-mend_slices-requires-clause-plan g c = subst (λ (b : Body). IsPlanned b c.in_ok-plan.plan) c.body_of.ensures c.in_ok-plan.ensures
+mend_slices-requires-clause-plan g c = planned_on (state_of c.args.tables.now) c.args.stmt.now c.args.plan.now c.requires.can_evaluate.wide c.requires.can_evaluate.fits c.requires.plan
 
 pub effect_by-requires : goal.effect_by-requires
 effect_by-requires g c = part_ordered c.args.stmt.now (state_of c.args.tables.now) c.in_ok-part.part c.in_ok-part.ensures.part

@@ -1,32 +1,19 @@
-use Rattle.std.proofs.Common.{◌≡◌, List, get_or, sym, ap, ◌∙◌, subst, arith}
-use Rattle.std.specs.Arc.{arc_value}
+use Rattle.std.proofs.Common.{◌≡◌, List, get_or, ap, ◌∙◌}
 use Rattle.lt_base.specs.Tables.{state_of}
-use Rattle.lt_model.specs.declared.normal.Body.{Body}
 use Rattle.lt_model.specs.declared.normal.Stmt.{Stmt}
-use Rattle.lt_model.specs.Fits.{IsBodyOf}
-use Rattle.lt_query.specs.Planned.{route_of}
-use Rattle.lt_query.proofs.ByShape.{route_there, as_many}
-use Rattle.lt_program.specs.Planned.{IsPlanned}
+use Rattle.lt_query.proofs.KeptPlans.{plan_there}
+use Rattle.lt_program.proofs.Followed.{planned_on}
 use Rattle.lt_program.proofs.Firsts.{first_there, can_evaluate, cost_here, is_state_now, fits_here, back_here, one_more}
-use Rattle.lt_program.proofs.IndexesMade.{body_fits}
 use Rattle.lt_program.proofs.Recalls.{outcome_ordered}
 use Rattle.lt_program.proofs.going.Going.go_on.Goals as goal
 
-pub planned-requires-clause-fits : goal.planned-requires-clause-fits
-planned-requires-clause-fits g c =
+pub outcome_alone-requires-clause-plan : goal.outcome_alone-requires-clause-plan
+outcome_alone-requires-clause-plan g c =
     let there = first_there c.args.prog.now c.statements.result.now c.args.number c.index-statements-number.result c.statements.ensures c.requires.more c.index-statements-number.is in
     let can = can_evaluate c.args.prog.now c.requires.under_way.0 c.args.keeps c.requires.under_way.1 c.args.number c.args.self.now c.args.db.now c.requires.under_way.2 c.index-statements-number.result there in
-    (state_of c.args.db.now, can.wide, subst (IsBodyOf (state_of c.args.db.now)) (sym c.body_of.ensures) (body_fits (state_of c.args.db.now) c.index-statements-number.result can.fits))
-
-pub planned-requires-clause-route : goal.planned-requires-clause-route
-planned-requires-clause-route g c =
     let at : c.index-statements-number.result ≡ get_or c.args.prog.now c.args.number c.index-statements-number.result = c.index-statements-number.is ∙ ap (λ (xs : List Stmt). get_or xs c.args.number c.index-statements-number.result) c.statements.ensures in
-    c.deref-route.ensures
-    ∙ route_there arc_value c.args.prog.now c.routes.result.now c.args.number c.index-statements-number.result c.index-routes-number.result c.routes.ensures c.requires.more (omega (arith, c.requires.more, as_many arc_value c.args.prog.now c.routes.result.now c.routes.ensures)) at c.index-routes-number.is
-    ∙ ap route_of (sym c.body_of.ensures)
-
-pub outcome_alone-requires-clause-plan : goal.outcome_alone-requires-clause-plan
-outcome_alone-requires-clause-plan g c = subst (λ (b : Body). IsPlanned b c.in_ok-plan.plan) c.body_of.ensures c.in_ok-plan.ensures
+    planned_on (state_of c.args.db.now) c.index-statements-number.result c.index-plans-number.result can.wide can.fits
+    (plan_there c.args.prog.now c.plans.result.now c.args.number c.index-statements-number.result c.index-plans-number.result c.plans.ensures c.requires.more at c.index-plans-number.is)
 
 pub outcome_alone-requires-clause-can_evaluate : goal.outcome_alone-requires-clause-can_evaluate
 outcome_alone-requires-clause-can_evaluate g c =

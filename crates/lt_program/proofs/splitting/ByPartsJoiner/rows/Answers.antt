@@ -13,9 +13,3 @@ answers_split_alone-requires-clause-can_join g c = λ lifetimes outlive. joins_b
 
 pub answers_split_alone-requires-clause-answerable : goal.answers_split_alone-requires-clause-answerable
 answers_split_alone-requires-clause-answerable g c = λ lifetimes outlive. picked_answerable c.args.body.now c.args.terms.now c.requires.terms
-
-pub answers_alone-requires-clause-can_join : goal.answers_alone-requires-clause-can_join
-answers_alone-requires-clause-can_join g c = joins_by c.args.tables.now c.args.body.now c.args.plan.now c.requires.can_follow
-
-pub answers_alone-requires-clause-answerable : goal.answers_alone-requires-clause-answerable
-answers_alone-requires-clause-answerable g c = picked_answerable c.args.body.now c.args.terms.now c.requires.terms

@@ -1,20 +1,20 @@
-use Rattle.std.proofs.Common.{◌≡◌, ◌+◌, ◌<◌, List, map, length, get_or, ap, ◌∙◌, arith}
+use Rattle.std.proofs.Common.{◌≡◌, ◌+◌, ◌<◌, List, length, get_or, ap, ◌∙◌}
 use Rattle.std.proofs.lemmas.Option.{slice_get_within}
 use Rattle.std.specs.Arc.{arc_value}
 use Rattle.lt_model.specs.declared.normal.Stmt.{Stmt}
-use Rattle.lt_query.specs.Planned.{routes_of}
-use Rattle.lt_query.proofs.ByShape.{route_there, as_many}
+use Rattle.lt_query.specs.Planned.{plans_of}
+use Rattle.lt_query.proofs.KeptPlans.{plan_there}
 use Rattle.lt_program.proofs.Sounds.{sound_fits, statement_evaluates, next_is, sound_next, one_more, cost_told}
 use Rattle.lt_program.proofs.tally.Tally.evaluate.Goals as goal
 
-pub evaluate-requires-clause-route : goal.evaluate-requires-clause-route
-evaluate-requires-clause-route g c =
+pub evaluate-requires-clause-plan : goal.evaluate-requires-clause-plan
+evaluate-requires-clause-plan g c =
     let program = arc_value c.self.inside.prog in
     let there = next_is program c.statements.result.now c.self.inside.base c.self.inside.course c.args.self.now c.len-number.result c.index-statements-number.result c.self.view_is c.self.invariant c.requires.going (c.statements.ensures ∙ c.deref.ensures) c.len-number.ensures c.index-statements-number.is in
     let below : c.len-number.result < length program = rw c.len-number.ensures (slice_get_within program (length c.self.inside.course.parts) c.index-statements-number.result there) in
-    let is : map arc_value c.routes.result.now ≡ routes_of program = c.routes.ensures ∙ ap routes_of c.deref-2.ensures in
+    let are : c.plans.result.now ≡ plans_of program = c.plans.ensures ∙ ap plans_of c.deref-2.ensures in
     let at : c.index-statements-number.result ≡ get_or program c.len-number.result c.index-statements-number.result = c.index-statements-number.is ∙ ap (λ (xs : List Stmt). get_or xs c.len-number.result c.index-statements-number.result) (c.statements.ensures ∙ c.deref.ensures) in
-    c.deref-route.ensures ∙ route_there arc_value program c.routes.result.now c.len-number.result c.index-statements-number.result c.index-routes-number.result is below (omega (arith, below, as_many arc_value program c.routes.result.now is)) at c.index-routes-number.is
+    plan_there program c.plans.result.now c.len-number.result c.index-statements-number.result c.index-plans-number.result are below at c.index-plans-number.is
 
 pub evaluate-requires-clause-can_evaluate : goal.evaluate-requires-clause-can_evaluate
 evaluate-requires-clause-can_evaluate g c =
