@@ -1,6 +1,6 @@
 -- Programs one after another, on a database that takes their marks as they come.
 use Rattle.std.proofs.Common.{◌≡◌, ℕ, zero, suc, ◌+◌, ◌<◌, ◌≤◌, Bool, true, false, List, [], ◌∷◌, ◌++◌, length, map, take, drop, get_or, append_assoc, append-nil, length-append, refl, sym, ap, subst, ◌∙◌, arith}
-use Rattle.std.proofs.lemmas.List.{drop-take, map-append, map_more, take_all, take-append-drop, take-take}
+use Rattle.std.proofs.lemmas.List.{drop-take, map-append, take_all, take-append-drop, take-take}
 use Rattle.std.specs.List.{AllByRecursion}
 use Rattle.lt_face.specs.State.{State}
 use Rattle.lt_face.proofs.RowLemmas.{each_weaker}
@@ -134,7 +134,7 @@ alike_more old mid new first more = record {
 
 -- ---- parts of a list
 
-pub each_left : {X Y : Type 0} (P : Y → Type 0) (f : X → Y) (xs : List X) (n : ℕ) → AllByRecursion P (map f xs) → AllByRecursion P (map f (drop n xs))
+each_left : {X Y : Type 0} (P : Y → Type 0) (f : X → Y) (xs : List X) (n : ℕ) → AllByRecursion P (map f xs) → AllByRecursion P (map f (drop n xs))
 each_left P f [] zero all = tt
 each_left P f [] (suc n) all = tt
 each_left P f (x ∷ xs) zero all = all
@@ -153,15 +153,6 @@ taken_more {X} f xs n count =
     ∙ ap (λ (ys : List X). take n (take (n + count) xs) ++ ys) (sym (drop-take n count xs))
     ∙ take-append-drop n (take (n + count) xs) in
     ap (map f) (sym joined) ∙ map-append f (take n xs) (take count (drop n xs))
-
--- one more of a list that is made of another's elements
-pub made_more : {X Y Z : Type 0} (f : X → Z) (g : Y → Z) (out : List X) (ys : List Y) (i : ℕ) (x : X) (y : Y) → i < length ys → y ≡ get_or ys i y → f x ≡ g y → map f out ≡ map g (take i ys)
-    → map f (out ++ x ∷ []) ≡ map g (take (i + 1) ys)
-made_more {X} {Y} {Z} f g out ys i x y lt is one before =
-    map-append f out (x ∷ [])
-    ∙ ap (λ (zs : List Z). zs ++ f x ∷ []) before
-    ∙ ap (λ (z : Z). map g (take i ys) ++ z ∷ []) (one ∙ ap g is)
-    ∙ sym (map_more g ys i y lt)
 
 pub first_taken : {X Y : Type 0} (f : X → Y) (xs : List X) (x : X) → 0 < length xs → x ≡ get_or xs 0 x → map f (take 1 xs) ≡ f x ∷ []
 first_taken f [] x some is = absurd (omega arith)

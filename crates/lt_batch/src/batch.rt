@@ -19,7 +19,7 @@ use lt_base::Database;
 use lt_circuit::Circuit;
 use lt_edges::Gate;
 use lt_face::memory::NoMemory;
-use lt_model::normal::Prog;
+use lt_query::Planned;
 use lt_workers::settle;
 use std::alloc::Global;
 use std::sync::{Arc, Wait};
@@ -30,7 +30,7 @@ fn settled<R: Threads + Wait + Sync, G: Gate>(
     rt: &R,
     alloc: Global,
     db: &Database,
-    progs: &[Arc<Prog>],
+    progs: &[Arc<Planned>],
     workers: u32,
     gate: &G,
 ) -> Result<(Arc<BatchWork>, Circuit<BatchWork>), NoMemory>
@@ -66,7 +66,7 @@ pub fn run_batch<R: Threads + Wait + Sync, G: Gate>(
     rt: &R,
     alloc: Global,
     db: &Database,
-    progs: &[Arc<Prog>],
+    progs: &[Arc<Planned>],
     workers: u32,
     gate: &G,
 ) -> Result<Outcome, NoMemory>

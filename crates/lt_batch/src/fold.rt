@@ -9,7 +9,6 @@ ghost use Rattle.lt_base.specs.Tables.{state_of};
 ghost use Rattle.lt_program.specs.Alone.{kept_if};
 ghost use Rattle.lt_program.specs.Run.{AreReplied};
 ghost use Rattle.lt_program.specs.Tally.{HasIndexes};
-ghost use Rattle.lt_query.specs.Planned.{HaveWidths};
 ghost use Rattle.lt_batch.specs.Batch.{serial_replies, serial_effects, serial_state};
 ghost use Rattle.lt_batch.specs.Folding.{AreAhead, HasGone, HasRun, IsAlike, IsRanOn};
 
@@ -18,16 +17,14 @@ use crate::batch::run_batch;
 use crate::outcome::{Effects, Outcome, Replies};
 use crate::ties::ties_of;
 use crate::weight::Weight;
-use crate::work::look_over;
 use lt_base::Database;
 use lt_delta::Marks;
 use lt_edges::Gate;
 use lt_face::items::Items;
 use lt_face::memory::NoMemory;
 use lt_face::moves::Moves;
-use lt_model::normal::Prog;
 use lt_program::{Ran, has_indexes, has_long_join, indexed, run_in_place, run_split_in_place};
-use lt_query::{Planned, Shapes};
+use lt_query::Planned;
 use std::alloc::Global;
 use std::sync::{Arc, Wait};
 use std::thread::Threads;
@@ -70,49 +67,34 @@ impl Fold {
         })
     }
 
-    /// The program with its plans. The indexes that it needs are made where they lack.
-    fn planned<R: Threads + Sync>(
-        &mut self,
-        rt: &R,
-        alloc: Global,
-        prog: &Arc<Prog>,
-        shapes: &mut Shapes,
-    ) -> Result<Arc<Planned>, NoMemory>
-        requires fit { Fits (state_of self.old.db) (arc_value prog.now) }
-        requires widths { HaveWidths (arc_value prog.now) }
-        ensures program { IfOk result (λ planned. arc_value planned ≡ arc_value prog.now) }
-        ensures indexes { OnOk result (HasIndexes self.new.db (arc_value prog.now)) }
+    /// Makes the indexes that the program needs, where they lack.
+    fn index<R: Threads + Sync>(&mut self, rt: &R, prog: &Planned) -> Result<(), NoMemory>
+        requires { Fits (state_of self.old.db) prog.now }
+        ensures indexes { OnOk result (HasIndexes self.new.db prog.now) }
         ensures alike { OnOk result (IsAlike self.old self.new) }
     {
-        let planned = shapes.plan(alloc, prog)?;
-        if has_indexes(&self.db, &planned) {
-            return Ok(planned);
+        if has_indexes(&self.db, prog) {
+            return Ok(());
         }
-        let db = indexed(rt, &self.db, &planned)?;
+        let db = indexed(rt, &self.db, prog)?;
         self.db = db;
-        Ok(planned)
+        Ok(())
     }
 
-    /// The next programs with their plans.
-    fn all_planned<R: Threads + Sync>(
+    /// Makes the indexes that the next programs need.
+    fn index_all<R: Threads + Sync>(
         &mut self,
         rt: &R,
-        alloc: Global,
-        progs: &[Arc<Prog>],
-        shapes: &mut Shapes,
-    ) -> Result<Vec<Arc<Planned>>, NoMemory>
-        requires fit { AllByRecursion (Fits (state_of self.old.db)) (map arc_value progs.now) }
-        requires widths { AllByRecursion HaveWidths (map arc_value progs.now) }
-        ensures programs { IfOk result (λ round. map arc_value round.items ≡ map arc_value progs.now) }
+        progs: &[Arc<Planned>],
+    ) -> Result<(), NoMemory>
+        requires { AllByRecursion (Fits (state_of self.old.db)) (map arc_value progs.now) }
         ensures indexes { OnOk result (AllByRecursion (HasIndexes self.new.db) (map arc_value progs.now)) }
         ensures alike { OnOk result (IsAlike self.old self.new) }
     {
-        let mut round = Vec::with_capacity(alloc, progs.len())?;
         for prog in progs {
-            let planned = self.planned(rt, alloc, prog, shapes)?;
-            round.push(planned)?;
+            self.index(rt, prog)?;
         }
-        Ok(round)
+        Ok(())
     }
 
     /// Puts down what the next program did. Of its marks nothing is kept where they aren't asked for.
@@ -215,7 +197,6 @@ impl Fold {
         &self,
         rt: &R,
         alloc: Global,
-        progs: &[Arc<Prog>],
         round: &[Arc<Planned>],
         workers: u32,
     ) -> Result<Vec<Option<Ahead>>, NoMemory>
@@ -224,7 +205,7 @@ impl Fold {
         ensures long { IfOk result (λ all. length all.items ≡ length round.now) }
         ensures ahead { IfOk result (λ all. AreAhead (map arc_value round.now) (state_of self.now.db) 0 all.items) }
     {
-        let mut places = free_places(alloc, progs)?;
+        let mut places = free_places(alloc, round)?;
         if !self.weight.is_worth(places.len()) {
             places.clear();
         }
@@ -237,18 +218,15 @@ impl Fold {
         &mut self,
         rt: &R,
         alloc: Global,
-        progs: &[Arc<Prog>],
-        shapes: &mut Shapes,
+        progs: &[Arc<Planned>],
         workers: u32,
     ) -> Result<(), NoMemory>
-        requires fit { AllByRecursion (Fits (state_of self.old.db)) (map arc_value progs.now) }
-        requires widths { AllByRecursion HaveWidths (map arc_value progs.now) }
+        requires { AllByRecursion (Fits (state_of self.old.db)) (map arc_value progs.now) }
         ensures { OnOk result (HasGone (map arc_value progs.now) self.old self.new) }
     {
-        let planned = self.all_planned(rt, alloc, progs, shapes)?;
-        let round = planned.as_slice();
-        let mut ahead = self.ran_ahead(rt, alloc, progs, round, workers)?;
-        self.go_round(alloc, round, &mut ahead)?;
+        self.index_all(rt, progs)?;
+        let mut ahead = self.ran_ahead(rt, alloc, progs, workers)?;
+        self.go_round(alloc, progs, &mut ahead)?;
         Ok(())
     }
 
@@ -257,17 +235,15 @@ impl Fold {
         &mut self,
         rt: &R,
         alloc: Global,
-        prog: &Arc<Prog>,
-        shapes: &mut Shapes,
+        prog: &Planned,
         parts: u32,
     ) -> Result<(), NoMemory>
-        requires fit { Fits (state_of self.old.db) (arc_value prog.now) }
-        requires widths { HaveWidths (arc_value prog.now) }
+        requires fit { Fits (state_of self.old.db) prog.now }
         requires parts { (1 ≤ parts) × (parts ≤ most_workers) }
-        ensures { OnOk result (HasGone (arc_value prog.now ∷ []) self.old self.new) }
+        ensures { OnOk result (HasGone (prog.now ∷ []) self.old self.new) }
     {
-        let planned = self.planned(rt, alloc, prog, shapes)?;
-        let ran = self.ran_alone(rt, &planned, parts)?;
+        self.index(rt, prog)?;
+        let ran = self.ran_alone(rt, prog, parts)?;
         self.push(alloc, ran)?;
         Ok(())
     }
@@ -296,14 +272,12 @@ impl Fold {
         &mut self,
         rt: &R,
         alloc: Global,
-        progs: &[Arc<Prog>],
-        shapes: &mut Shapes,
+        progs: &[Arc<Planned>],
         workers: u32,
         parts: u32,
     ) -> Result<usize, NoMemory>
         requires some { 0 < length progs.now }
         requires fit { AllByRecursion (Fits (state_of self.old.db)) (map arc_value progs.now) }
-        requires widths { AllByRecursion HaveWidths (map arc_value progs.now) }
         requires parts { (1 ≤ parts) × (parts ≤ most_workers) }
         ensures some { IfOk result (λ count. (1 ≤ count) × (count ≤ length progs.now)) }
         ensures gone { IfOk result (λ count. HasGone (map arc_value (take count progs.now)) self.old self.new) }
@@ -312,11 +286,11 @@ impl Fold {
         if together {
             let count = progs.len().min(self.weight.next_round(workers));
             let (round, _) = progs.split_at(count);
-            self.go_on_together(rt, alloc, round, shapes, workers)?;
+            self.go_on_together(rt, alloc, round, workers)?;
             return Ok(count);
         }
         let prog = &progs[0];
-        self.go_on_alone(rt, alloc, prog, shapes, parts)?;
+        self.go_on_alone(rt, alloc, prog, parts)?;
         Ok(1)
     }
 
@@ -325,12 +299,10 @@ impl Fold {
         &mut self,
         rt: &R,
         alloc: Global,
-        progs: &[Arc<Prog>],
-        shapes: &mut Shapes,
+        progs: &[Arc<Planned>],
         workers: u32,
     ) -> Result<(), NoMemory>
         requires fit { AllByRecursion (Fits (state_of self.old.db)) (map arc_value progs.now) }
-        requires widths { AllByRecursion HaveWidths (map arc_value progs.now) }
         requires workers { (1 ≤ workers) × (workers ≤ most_workers) }
         ensures { OnOk result (HasGone (map arc_value progs.now) self.old self.new) }
     {
@@ -338,7 +310,7 @@ impl Fold {
         let mut next = 0;
         'steps: while next < progs.len() {
             let (_, left) = progs.split_at(next);
-            let count = self.go_some(rt, alloc, left, shapes, workers, parts)?;
+            let count = self.go_some(rt, alloc, left, workers, parts)?;
             next += count;
         }
         Ok(())
@@ -371,7 +343,7 @@ fn parts_for(programs: usize, workers: u32) -> u32
 }
 
 /// The places of the programs that none before them has a bearing on.
-fn free_places(alloc: Global, progs: &[Arc<Prog>]) -> Result<Vec<usize>, NoMemory> {
+fn free_places(alloc: Global, progs: &[Arc<Planned>]) -> Result<Vec<usize>, NoMemory> {
     let ties = ties_of(alloc, progs)?;
     let mut places = Vec::with_capacity(alloc, progs.len())?;
     for place in 0..ties.len() {
@@ -383,7 +355,7 @@ fn free_places(alloc: Global, progs: &[Arc<Prog>]) -> Result<Vec<usize>, NoMemor
 }
 
 /// Runs the programs of a batch, one after another. The replies and the database left are those of the programs one after another, and
-/// so are the effects, where they are asked for. Which shapes of bodies are known decides what is planned anew, and nothing else.
+/// so are the effects, where they are asked for.
 ///
 /// Where there are several workers and the programs show to be dear, the next ones are run ahead by all of them. At a gate that may hold
 /// a worker until another comes they are run by a circuit.
@@ -391,8 +363,7 @@ pub fn fold_batch<R: Threads + Wait + Sync, G: Gate>(
     rt: &R,
     alloc: Global,
     db: &Database,
-    progs: &[Arc<Prog>],
-    shapes: &mut Shapes,
+    progs: &[Arc<Planned>],
     keeps: bool,
     workers: u32,
     gate: &G,
@@ -422,9 +393,8 @@ pub fn fold_batch<R: Threads + Wait + Sync, G: Gate>(
             db,
         });
     }
-    look_over(db, progs);
     let mut fold = Fold::new(alloc, db, progs.len(), keeps)?;
-    fold.go_all(rt, alloc, progs, shapes, workers)?;
+    fold.go_all(rt, alloc, progs, workers)?;
     let Fold {
         replies,
         effects,

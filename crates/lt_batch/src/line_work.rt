@@ -60,7 +60,7 @@ impl LineWork {
         ensures leaves { IfOk result (λ work. (s i : ℕ) → i < length (batch_at (programs_of batches.now) s) → IsLineLeaf work (256 * s + i)) }
     {
         let (progs, spans) = laid_out(alloc, batches)?;
-        let all = BatchWork::new(rt, alloc, db, &progs)?;
+        let all = BatchWork::over(rt, alloc, db, progs)?;
         Ok(LineWork { all, spans })
     }
 

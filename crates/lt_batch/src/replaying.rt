@@ -23,7 +23,7 @@ use lt_base::Database;
 use lt_circuit::{Circuit, LeafWork};
 use lt_face::items::Items;
 use lt_face::memory::NoMemory;
-use lt_model::normal::Prog;
+use lt_query::Planned;
 use std::alloc::Global;
 use std::sync::Arc;
 use std::thread::Threads;
@@ -81,7 +81,7 @@ fn opened<R: Threads + Sync>(
     rt: &R,
     alloc: Global,
     db: &Database,
-    progs: &[Arc<Prog>],
+    progs: &[Arc<Planned>],
 ) -> Result<(Arc<BatchWork>, Circuit<BatchWork>), NoMemory>
     requires few { length progs.now ≤ most_programs }
     requires fit { AllByRecursion (Fits (state_of db.now)) (map arc_value progs.now) }
@@ -104,7 +104,7 @@ fn followed<R: Threads + Sync>(
     rt: &R,
     alloc: Global,
     db: &Database,
-    progs: &[Arc<Prog>],
+    progs: &[Arc<Planned>],
     entries: &[Written],
 ) -> Result<(Arc<BatchWork>, Circuit<BatchWork>), ReplayFault>
     requires few { length progs.now ≤ most_programs }
@@ -134,7 +134,7 @@ pub fn replay_batch<R: Threads + Sync>(
     rt: &R,
     alloc: Global,
     db: &Database,
-    progs: &[Arc<Prog>],
+    progs: &[Arc<Planned>],
     entries: &[Written],
 ) -> Result<Outcome, ReplayFault>
     requires few { length progs.now ≤ most_programs }

@@ -9,7 +9,7 @@ ghost use Rattle.lt_batch.specs.Line.{programs_of};
 ghost use Rattle.lt_batch.specs.Spans.{no_span, parted, AreWithin};
 
 use lt_face::memory::NoMemory;
-use lt_model::normal::Prog;
+use lt_query::Planned;
 use std::alloc::Global;
 use std::sync::Arc;
 
@@ -17,7 +17,7 @@ use std::sync::Arc;
 const LEAVES: u32 = 256;
 
 /// The programs of a batch.
-pub type ProgList = Vec<Arc<Prog>>;
+pub type ProgList = Vec<Arc<Planned>>;
 
 /// Where the programs of a batch stand among those of all batches.
 #[derive(Clone, Copy)]
@@ -43,8 +43,8 @@ pub(crate) fn place_of(spans: &[Span], leaf: u32) -> u32
     span.start + leaf % LEAVES
 }
 
-/// Puts second owners of a batch's programs behind the others.
-fn push_all(all: &mut ProgList, batch: &[Arc<Prog>]) -> Result<(), NoMemory>
+/// Puts further owners of a batch's programs behind the others.
+pub(crate) fn push_all(all: &mut ProgList, batch: &[Arc<Planned>]) -> Result<(), NoMemory>
     ensures { OnOk result (map arc_value all.new.items ≡ map arc_value all.old.items ++ map arc_value batch.now) }
 {
     for prog in batch {

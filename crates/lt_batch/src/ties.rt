@@ -3,9 +3,9 @@ use crate::leaf::KeptTally;
 use lt_delta::Marks;
 use lt_face::memory::NoMemory;
 use lt_model::mark::Mark;
-use lt_model::normal::{Atom, Prog, Stmt};
+use lt_model::normal::{Atom, Stmt};
 use lt_program::{Part, Tally};
-use lt_query::body_of;
+use lt_query::{Planned, body_of};
 use lt_sense::Sense;
 use std::alloc::Global;
 use std::sync::Arc;
@@ -67,7 +67,7 @@ fn displacing(stmt: &Stmt) -> u64 {
 }
 
 /// The ties of each program of a batch.
-pub(crate) fn ties_of(alloc: Global, progs: &[Arc<Prog>]) -> Result<Vec<Ties>, NoMemory> {
+pub(crate) fn ties_of(alloc: Global, progs: &[Arc<Planned>]) -> Result<Vec<Ties>, NoMemory> {
     let mut ties = Vec::with_capacity(alloc, progs.len())?;
     let mut before = 0;
     for prog in progs {
@@ -75,7 +75,7 @@ pub(crate) fn ties_of(alloc: Global, progs: &[Arc<Prog>]) -> Result<Vec<Ties>, N
             reads: 0,
             written: before,
         };
-        for stmt in prog.as_slice() {
+        for stmt in prog.statements() {
             let body = body_of(stmt);
             tie.reads |= named(body.atoms.as_slice());
             tie.reads |= named(body.absents.as_slice()) | displacing(stmt);

@@ -10,7 +10,6 @@ ghost use Rattle.lt_model.specs.Marks.{Marks as MarksView, laid};
 ghost use Rattle.lt_model.specs.Run.{run as run_of};
 ghost use Rattle.lt_base.specs.Tables.{state_of};
 ghost use Rattle.lt_program.specs.Tally.{HasIndexes, cost_of_first, ends_at};
-ghost use Rattle.lt_query.specs.Planned.{HaveWidths};
 ghost use Rattle.lt_restate.specs.Touches.{cost_again};
 ghost use Rattle.lt_batch.specs.Batch.{program_at};
 ghost use Rattle.lt_batch.specs.LeafRun.{IsTallyOn, IsRunOn, IsBareOn, StandsFor};
@@ -21,16 +20,15 @@ use crate::bare::{copied_bare, unlaid_for};
 use crate::early::{all_early, early_in};
 use crate::indexing::all_indexed;
 use crate::leaf::{BareTally, KeptTally, LeafTally};
+use crate::spans::{ProgList, push_all};
 use crate::ties::{Ties, is_tied, ties_of, weight_of};
 use lt_base::Database;
 use lt_circuit::LeafWork;
 use lt_delta::Marks;
 use lt_face::memory::NoMemory;
 use lt_face::moves::Moves;
-use lt_model::normal::Prog;
 use lt_program::{Ran, Tally, reads_marked, run, run_alone};
-use lt_query::laws::plans_of_bodies;
-use lt_query::{Planned, plan_all};
+use lt_query::Planned;
 use lt_restate::restate_marks;
 use std::alloc::Global;
 use std::marker::Model;
@@ -41,7 +39,7 @@ use std::thread::Threads;
 #[derive(Drop)]
 pub struct BatchWork {
     snapshot: Database,
-    programs: Vec<Arc<Planned>>,
+    programs: ProgList,
     /// The runs of programs on the snapshot that are there from the start, by their places. Past the end there are none.
     early: Vec<Option<BareTally>>,
     /// Of each program, which of those before it have a bearing on it. No clause speaks of it.
@@ -59,16 +57,6 @@ impl Model for BatchWork {
     ghost view = { λ w. record { snapshot = w.snapshot; programs = map arc_value w.programs.items } };
 
     ghost invariant = { λ w. IsBegun w.snapshot (map arc_value w.programs.items) w.early.items };
-}
-
-/// The programs can run on the database: its relations are sets of rows. Each of their atoms has 1 to 8 terms.
-pub(crate) fn look_over(db: &Database, progs: &[Arc<Prog>])
-    requires { AllByRecursion (Fits (state_of db.now)) (map arc_value progs.now) }
-    ensures runnable { AreRunnable (state_of db.now) (map arc_value progs.now) }
-    ensures widths { AllByRecursion HaveWidths (map arc_value progs.now) }
-{
-    plans_of_bodies();
-    db.look_over();
 }
 
 /// What of a correction is laid on the snapshot before a program: all of it, or nothing where the program reads no relation
@@ -232,7 +220,7 @@ impl BatchWork {
         rt: &R,
         alloc: Global,
         db: &Database,
-        progs: &[Arc<Prog>],
+        progs: &[Arc<Planned>],
     ) -> Result<BatchWork, NoMemory>
         requires { AllByRecursion (Fits (state_of db.now)) (map arc_value progs.now) }
         ensures programs { IfOk result (λ work. work.programs ≡ map arc_value progs.now) }
@@ -240,10 +228,28 @@ impl BatchWork {
         ensures runnable { IfOk result (λ work. AreRunnable (state_of work.snapshot) work.programs) }
         ensures leaves { IfOk result (λ work. (i : ℕ) → i < length progs.now → IsLeaf work i) }
     {
-        look_over(db, progs);
-        let programs = plan_all(alloc, progs)?;
+        let mut programs = Vec::with_capacity(alloc, progs.len())?;
+        push_all(&mut programs, progs)?;
+        let work = BatchWork::over(rt, alloc, db, programs)?;
+        Ok(work)
+    }
+
+    /// The same of programs that are handed over.
+    pub(crate) fn over<R: Threads + Sync>(
+        rt: &R,
+        alloc: Global,
+        db: &Database,
+        programs: ProgList,
+    ) -> Result<BatchWork, NoMemory>
+        requires { AllByRecursion (Fits (state_of db.now)) (map arc_value programs.items) }
+        ensures programs { IfOk result (λ work. work.programs ≡ map arc_value programs.items) }
+        ensures snapshot { IfOk result (λ work. state_of work.snapshot ≡ state_of db.now) }
+        ensures runnable { IfOk result (λ work. AreRunnable (state_of work.snapshot) work.programs) }
+        ensures leaves { IfOk result (λ work. (i : ℕ) → i < length programs.items → IsLeaf work i) }
+    {
+        db.look_over();
         let snapshot = all_indexed(rt, db, programs.as_slice())?;
-        let ties = ties_of(alloc, progs)?;
+        let ties = ties_of(alloc, programs.as_slice())?;
         Ok(BatchWork {
             snapshot,
             programs,

@@ -3,9 +3,8 @@ use Rattle.std.specs.Arc.{arc_value}
 use Rattle.std.specs.List.{AllByRecursion}
 use Rattle.lt_model.specs.Fits.{Fits}
 use Rattle.lt_base.specs.Tables.{state_of}
-use Rattle.lt_query.specs.Planned.{HaveWidths}
 use Rattle.lt_batch.specs.Folding.{HasGone}
-use Rattle.lt_batch.proofs.Gone.{all_gone, each_left, gone_none, gone_steps, left_fit}
+use Rattle.lt_batch.proofs.Gone.{all_gone, gone_none, gone_steps, left_fit}
 use Rattle.lt_batch.proofs.fold.Fold.go_all.Goals as goal
 
 pub steps-init : goal.steps-init
@@ -15,10 +14,6 @@ pub go_some-requires-clause-fit : goal.go_some-requires-clause-fit
 go_some-requires-clause-fit g c = λ lifetimes outlive.
     subst (λ xs. AllByRecursion (Fits (state_of c.steps.self.db)) (map arc_value xs)) (sym c.split_at.ensures.back)
     (left_fit arc_value c.args.progs.now c.steps.next c.args.self.now c.steps.self c.steps.invariant.gone c.requires.fit)
-
-pub go_some-requires-clause-widths : goal.go_some-requires-clause-widths
-go_some-requires-clause-widths g c = λ lifetimes outlive.
-    subst (λ xs. AllByRecursion HaveWidths (map arc_value xs)) (sym c.split_at.ensures.back) (each_left HaveWidths arc_value c.args.progs.now c.steps.next c.requires.widths)
 
 pub steps-preserved : goal.steps-preserved
 steps-preserved g c = record {

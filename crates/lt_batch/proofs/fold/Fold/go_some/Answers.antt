@@ -1,25 +1,21 @@
-use Rattle.std.proofs.Common.{List, map, refl, sym, subst, take}
+use Rattle.std.proofs.Common.{◌∙◌, List, [], ◌∷◌, ap, map, refl, rules, sym, subst, take}
 use Rattle.std.specs.Arc.{arc_value}
 use Rattle.std.specs.List.{AllByRecursion}
 use Rattle.lt_model.specs.declared.normal.Stmt.{Stmt}
 use Rattle.lt_model.specs.Fits.{Fits}
 use Rattle.lt_base.specs.Tables.{state_of}
-use Rattle.lt_query.specs.Planned.{HaveWidths}
 use Rattle.lt_batch.specs.declared.fold.Fold.{Fold}
 use Rattle.lt_batch.specs.Folding.{HasGone}
 use Rattle.lt_batch.proofs.Gone.{each_taken, first_taken, gone_alike}
 use Rattle.lt_batch.proofs.Indexed.{each_item}
 use Rattle.lt_batch.proofs.fold.Fold.go_some.Goals as goal
 
-pub go_on_together-requires-clause-fit : goal.go_on_together-requires-clause-fit
-go_on_together-requires-clause-fit g c = λ lifetimes outlive.
-    subst (λ xs. AllByRecursion (Fits (state_of c.args.self.now.db)) (map arc_value xs)) (sym c.split_at.ensures.front)
-    (each_taken (Fits (state_of c.args.self.now.db)) arc_value c.args.progs.now c.min-count.result c.requires.fit)
-
-pub go_on_together-requires-clause-widths : goal.go_on_together-requires-clause-widths
-go_on_together-requires-clause-widths g c = λ lifetimes outlive.
-    subst (λ xs. AllByRecursion HaveWidths (map arc_value xs)) (sym c.split_at.ensures.front)
-    (each_taken HaveWidths arc_value c.args.progs.now c.min-count.result c.requires.widths)
+pub go_on_together-requires : goal.go_on_together-requires
+go_on_together-requires g c = (
+  search rules,
+  subst (λ xs. AllByRecursion (Fits (state_of c.args.self.now.db)) (map arc_value xs)) (sym c.split_at.ensures.front)
+      (each_taken (Fits (state_of c.args.self.now.db)) arc_value c.args.progs.now c.min-count.result c.requires.fit),
+)
 
 pub returns-then-together-clause-gone : goal.returns-then-together-clause-gone
 returns-then-together-clause-gone g c =
@@ -29,11 +25,11 @@ returns-then-together-clause-gone g c =
     (subst (λ xs. HasGone (map arc_value xs) mid c.go_on_together.new.self) c.split_at.ensures.front c.in_ok-go_on_together.ensures)
 
 pub go_on_alone-requires-clause-fit : goal.go_on_alone-requires-clause-fit
-go_on_alone-requires-clause-fit g c = λ lifetimes outlive. each_item (Fits (state_of c.args.self.now.db)) arc_value c.args.progs.now 0 c.index-progs-0.result c.requires.some c.index-progs-0.is c.requires.fit
-
-pub go_on_alone-requires-clause-widths : goal.go_on_alone-requires-clause-widths
-go_on_alone-requires-clause-widths g c = λ lifetimes outlive. each_item HaveWidths arc_value c.args.progs.now 0 c.index-progs-0.result c.requires.some c.index-progs-0.is c.requires.widths
+go_on_alone-requires-clause-fit g c = λ lifetimes outlive.
+    rw c.deref.ensures (each_item (Fits (state_of c.args.self.now.db)) arc_value c.args.progs.now 0 c.index-progs-0.result c.requires.some c.index-progs-0.is c.requires.fit)
 
 pub returns-clause-gone : goal.returns-clause-gone
 returns-clause-gone g c =
-    subst (λ (ps : List (List Stmt)). HasGone ps c.args.self.now c.go_on_alone.new.self) (sym (first_taken arc_value c.args.progs.now c.index-progs-0.result c.requires.some c.index-progs-0.is)) c.in_ok-go_on_alone.ensures
+    subst (λ (ps : List (List Stmt)). HasGone ps c.args.self.now c.go_on_alone.new.self)
+    (ap (λ (p : List Stmt). p ∷ []) c.deref.ensures ∙ sym (first_taken arc_value c.args.progs.now c.index-progs-0.result c.requires.some c.index-progs-0.is))
+    c.in_ok-go_on_alone.ensures
