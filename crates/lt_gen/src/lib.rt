@@ -1,4 +1,7 @@
 //! The generated script of the bench, and the summary of its run.
+//!
+//! `draws` are the numbers of the generator, `statements`, `loading` and `buying` the programs that come of them, `groups` and `script`
+//! the batches; `summary`, `sums` and `text` are what a run of it answers. Read `specs/Script`, then `Answered` and `Summaries`.
 #![tactic(auto)]
 
 mod buying;

@@ -8,6 +8,7 @@ use crate::groups::{group_count, group_end};
 use crate::statements::{load, stocks};
 use lt_face::NoMemory;
 use lt_face::items::Items;
+use lt_model::form::Wording;
 use lt_model::syntax::{ProgramList, Statement, StatementList};
 use std::alloc::Global;
 
@@ -41,7 +42,7 @@ fn load_group(
     let end = group_end(items, j);
     'rows: for before in 64 * j..end {
         let row = stock_of(alloc, draws, before)?;
-        group.push(row)?;
+        group.push(Wording::whole(row))?;
     }
     Ok(group)
 }

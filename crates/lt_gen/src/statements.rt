@@ -5,6 +5,7 @@ ghost use Rattle.lt_gen.specs.Programs.{sales_of, buy, int, load, prints_sales, 
 
 use lt_face::NoMemory;
 use lt_face::items::Items;
+use lt_model::form::Wording;
 use lt_model::kind::Kind;
 use lt_model::name::Name;
 use lt_model::syntax::{Head, Literal, LiteralList, Op, Program, Statement, StatementList, Term};
@@ -170,7 +171,7 @@ pub fn stock_query(alloc: Global) -> Result<Program, NoMemory>
 {
     let printed = prints_stock(alloc)?;
     let mut statements = Items::new(alloc);
-    statements.push(printed)?;
+    statements.push(Wording::whole(printed))?;
     Ok(Program {
         name: Name::from_bytes(alloc, b"ask"),
         statements,
@@ -193,11 +194,11 @@ pub fn buy(alloc: Global, p: u32, c: u32, i: u32, k: u32) -> Result<Program, NoM
 {
     let required = requires_stock(alloc, i, c)?;
     let taken = takes_stock(alloc, i, c)?;
-    let mut statements = pair(alloc, required, taken)?;
+    let mut statements = pair(alloc, Wording::whole(required), Wording::whole(taken))?;
     let sold = sells(alloc, p, i, c)?;
-    statements.push(sold)?;
+    statements.push(Wording::whole(sold))?;
     let printed = prints_sales(alloc, k)?;
-    statements.push(printed)?;
+    statements.push(Wording::whole(printed))?;
     Ok(Program {
         name: Name::from_bytes(alloc, b"buy"),
         statements,

@@ -6,7 +6,7 @@ use Rattle.lt_gen.proofs.loading.load_group.Goals as goal
 pub rows-preserved : goal.rows-preserved
 rows-preserved c =
     let seed = c.args.draws.now.seed in
-    let row = c.in_ok-row.ensures.statement ∙ ap (λ s. stock_of s (c.rows.before + 1)) c.rows.invariant.seed in
+    let row = c.whole.ensures ∙ c.in_ok-row.ensures.statement ∙ ap (λ s. stock_of s (c.rows.before + 1)) c.rows.invariant.seed in
     record {
       group = c.in_ok-push.ensures.ok ∙ group-more (stock_of seed) (64 * c.args.j) c.rows.before c.rows.group _ c.rows.auto.before c.rows.invariant.group row;
       seed = c.in_ok-row.ensures.seed ∙ c.rows.invariant.seed;

@@ -1,0 +1,11 @@
+pub mod Batches
+pub mod Prepared
+pub mod Versions
+pub mod World
+pub mod Keyed
+pub mod Writing
+pub mod Outcomes
+pub mod Traces
+pub mod Replays
+pub mod Publishing
+pub mod Lines
