@@ -1,26 +1,10 @@
-//! The top call: from the words and the bytes to the report, or from the words to the summary of a bench, and to the status.
+//! The top call: from the words to what runs, and from how it ended to the status.
+//!
+//! `repair_main` reads the words by `lt_command`, and has a script, a script by journals, or a bench run by `lt_runs`, or writes the usage
+//! line. `specs/CommandEnds` says in one definition, over all commands, how a call ends; what `repair_main` promises of each status follows
+//! from it (`proofs/CommandEnds`).
 #![tactic(auto)]
 
-pub mod batch;
-mod bench;
-mod beside;
-mod come;
-mod endings;
-mod front;
-pub mod halt;
-mod input;
-pub mod laws;
-mod line;
-pub mod options;
-mod publishing;
 mod repair;
-mod replay;
-mod replaying;
-mod script;
-mod session;
-mod status;
-mod stop;
-mod tracing;
-pub mod world;
 
 pub use repair::repair_main;

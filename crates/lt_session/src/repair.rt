@@ -1,30 +1,32 @@
 //! The call that runs a command.
-ghost use Rattle.std.specs.Prelude.{◌≡◌, ◌≤◌, IsTrue, IfSome, IsSome, map, string_bytes, length, false, ◌⊎◌};
+ghost use Rattle.std.specs.Prelude.{◌≡◌, ◌≤◌, IsTrue, IfSome, IsSome, Some, map, string_bytes, length, false, ◌⊎◌};
 ghost use Rattle.std.specs.Io.KnownBytes.{Appends, Keeps};
 ghost use Rattle.lt_circuit.specs.Row.{most_segments};
 ghost use Rattle.lt_face.specs.Limits.{most_workers};
 ghost use Rattle.lt_edges.specs.Causes.{Rose};
 ghost use Rattle.lt_model.specs.Report.{usage_text};
-ghost use Rattle.lt_command.specs.Command.{command, is_taken};
+ghost use Rattle.lt_command.specs.Command.{command, is_taken, IsWithin};
 ghost use Rattle.lt_gen.specs.Summaries.{summary_text};
 ghost use Rattle.lt_report.specs.Puts.{AppendsFront, Puts};
-ghost use Rattle.lt_session.specs.Input.{limit};
-ghost use Rattle.lt_session.specs.Statuses.{status_code};
+ghost use Rattle.lt_runs.specs.Input.{limit};
+ghost use Rattle.lt_runs.specs.Statuses.{status_code};
 ghost use Rattle.lt_blocks.specs.Blocks.{blocks_text};
-ghost use Rattle.lt_session.specs.ReplayEnds.{IfReplay, IsFaultReplayed, IsLongReplayPart, IsRefused, IsReplayed, IsReplayPart, ReplayEndsAs};
-ghost use Rattle.lt_session.specs.TracedEnds.{IfTraced, IsFaultTraced, IsTraced, IsTracedPart, RunEndsAs};
-ghost use Rattle.lt_session.specs.Ends.{bench_text, BenchEndsAs, IfBench, IfRun, IsReplayAsked, IsFaultReported, IsLongPart, IsPart, IsReported, IsTooLong};
+ghost use Rattle.lt_runs.specs.ReplayEnds.{IfReplay, IsFaultReplayed, IsLongReplayPart, IsRefused, IsReplayed, IsReplayPart, ReplayEndsAs};
+ghost use Rattle.lt_session.specs.CommandEnds.{CommandEndsAs, UsageEndsAs};
+ghost use Rattle.lt_runs.specs.TracedEnds.{IfTraced, IsFaultTraced, IsTraced, IsTracedPart, RunEndsAs};
+ghost use Rattle.lt_runs.specs.Ends.{bench_text, BenchEndsAs, IfBench, IfRun, IsReplayAsked, IsFaultReported, IsLongPart, IsPart, IsReported, IsTooLong};
 
-use crate::bench::summarize;
-use crate::options::{Generated, Options};
-use crate::replay::{Verdict, write_replayed};
-use crate::script::write_report;
-use crate::status::{Status, code, status_of};
 use lt_blocks::{Block, put_blocks};
 use lt_command::{Command, command_of};
 use lt_edges::{Failed, Gate, Sink, Source};
 use lt_gen::{Summary, bench_summary};
 use lt_report::put_usage;
+use lt_runs::bench::summarize;
+use lt_runs::generated::Generated;
+use lt_runs::replay::{Verdict, write_replayed};
+use lt_runs::script::write_report;
+use lt_runs::status::{Status, code, status_of};
+use lt_world::options::Options;
 use std::alloc::Global;
 use std::sync::Wait;
 use std::thread::Threads;
@@ -39,9 +41,7 @@ fn write_usage<K: Sink>(sink: &mut K) -> Result<(), Failed>
 
 // Where the words aren't taken.
 fn refuse_words<K: Sink>(sink: &mut K) -> Status
-    ensures told { status_code result ≡ 1 → Appends (K.holds sink.old) (K.holds sink.new) usage_text }
-    ensures part { status_code result ≡ 4 → AppendsFront (K.holds sink.old) (K.holds sink.new) usage_text }
-    ensures write_fault { status_code result ≡ 4 → Rose (K.faults sink.old) (K.faults sink.new) }
+    ensures ends { UsageEndsAs result (K.holds sink.old) (K.holds sink.new) (K.faults sink.old) (K.faults sink.new) }
     ensures status { (status_code result ≡ 1) ⊎ (status_code result ≡ 4) }
 {
     match write_usage(sink) {
@@ -154,9 +154,77 @@ fn run_bench<R: Threads + Wait + Sync, K: Sink, G: Gate>(
     }
 }
 
-/// Runs a command. The status is 0 where a script without a fault was read to its end or a bench has run, 2 where the
-/// script has a fault, 1 where the words aren't taken, 3 or 4 where a read or a write failed, 5 where memory ran out, and 6 where the script is longer
-/// than 16,777,216 bytes.
+// Runs what was asked for.
+fn run_command<R: Threads + Wait + Sync, S: Source, K: Sink, G: Gate>(
+    rt: &R,
+    alloc: Global,
+    command: Command,
+    source: &mut S,
+    sink: &mut K,
+    gate: &G,
+) -> Status
+    requires { IsWithin command }
+    ensures { CommandEndsAs (Some command) result (S.left source.old) (S.left source.new) (S.faults source.old) (S.faults source.new)
+        (K.holds sink.old) (K.holds sink.new) (K.faults sink.old) (K.faults sink.new) }
+{
+    match command {
+        Command::Run {
+            workers,
+            pipeline,
+            marks,
+            trace,
+        } => {
+            let options = Options {
+                workers,
+                pipeline: together(workers, pipeline),
+                marks,
+                trace,
+            };
+            run_script(rt, alloc, source, sink, options, gate)
+        }
+        Command::Bench {
+            seed,
+            items,
+            programs,
+            workers,
+            readers,
+        } => {
+            let generated = Generated {
+                seed,
+                items,
+                programs,
+                readers,
+            };
+            run_bench(rt, alloc, sink, generated, workers, gate)
+        }
+        Command::Replay { marks } => run_replay(rt, alloc, source, sink, marks),
+    }
+}
+
+// Runs what the words ask for.
+fn run_words<R: Threads + Wait + Sync, S: Source, K: Sink, G: Gate>(
+    rt: &R,
+    alloc: Global,
+    words: &[String],
+    source: &mut S,
+    sink: &mut K,
+    gate: &G,
+) -> Status
+    ensures { CommandEndsAs (command (map string_bytes words.now)) result (S.left source.old) (S.left source.new) (S.faults source.old) (S.faults source.new)
+        (K.holds sink.old) (K.holds sink.new) (K.faults sink.old) (K.faults sink.new) }
+{
+    let Ok(asked) = command_of(alloc, words) else {
+        return Status::NoMemory;
+    };
+    match asked {
+        Some(command) => run_command(rt, alloc, command, source, sink, gate),
+        None => refuse_words(sink),
+    }
+}
+
+/// Runs a command. The status is 0 where a script without a fault was read to its end, with `replay` also its traces, or a bench has run;
+/// 2 where the script has a fault, 1 where the words aren't taken, 3 or 4 where a read or a write failed, 5 where memory ran out, 6 where
+/// the script is longer than 16,777,216 bytes, and 7 where the traces that a `replay` was given aren't a run of its script.
 pub fn repair_main<R: Threads + Wait + Sync, S: Source, K: Sink, G: Gate>(
     rt: &R,
     alloc: Global,
@@ -210,46 +278,5 @@ pub fn repair_main<R: Threads + Wait + Sync, S: Source, K: Sink, G: Gate>(
         → IfSome (S.left source.old) (λ bytes. length bytes ≤ limit) → IsSome (S.left source.old) → (result ≡ 0) ⊎ (result ≡ 2) ⊎ (result ≡ 7) ⊎ (result ≡ 5)) }
     ensures bench_complete { IfBench (command (map string_bytes words.now)) (λ seed items programs readers. (Rose (K.faults sink.old) (K.faults sink.new) → ⊥) → (result ≡ 0) ⊎ (result ≡ 5)) }
 {
-    match command_of(alloc, words) {
-        Ok(
-            Some(
-                Command::Run {
-                    workers,
-                    pipeline,
-                    marks,
-                    trace,
-                },
-            ),
-        ) => {
-            let options = Options {
-                workers,
-                pipeline: together(workers, pipeline),
-                marks,
-                trace,
-            };
-            code(run_script(rt, alloc, source, sink, options, gate))
-        }
-        Ok(
-            Some(
-                Command::Bench {
-                    seed,
-                    items,
-                    programs,
-                    workers,
-                    readers,
-                },
-            ),
-        ) => {
-            let generated = Generated {
-                seed,
-                items,
-                programs,
-                readers,
-            };
-            code(run_bench(rt, alloc, sink, generated, workers, gate))
-        }
-        Ok(Some(Command::Replay { marks })) => code(run_replay(rt, alloc, source, sink, marks)),
-        Ok(None) => code(refuse_words(sink)),
-        Err(_) => code(Status::NoMemory),
-    }
+    code(run_words(rt, alloc, words, source, sink, gate))
 }

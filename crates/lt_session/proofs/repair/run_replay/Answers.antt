@@ -1,8 +1,8 @@
 use Rattle.std.proofs.Common.{arith, subst, sym}
-use Rattle.lt_session.specs.declared.replay.Verdict.{Verdict}
-use Rattle.lt_session.specs.declared.status.Status.{Status}
-use Rattle.lt_session.specs.ReplayEnds.{IsReplayWritten, ReplayEndsAs}
-use Rattle.lt_session.proofs.ReplayEnded.{ends_stopped, written_cut, written_kept}
+use Rattle.lt_runs.specs.declared.replay.Verdict.{Verdict}
+use Rattle.lt_runs.specs.declared.status.Status.{Status}
+use Rattle.lt_runs.specs.ReplayEnds.{IsReplayWritten, ReplayEndsAs}
+use Rattle.lt_runs.proofs.ReplayEnded.{ends_stopped, written_cut, written_kept}
 use Rattle.lt_session.proofs.repair.run_replay.Goals as goal
 
 pub returns-in-Err : goal.returns-in-Err

@@ -3,9 +3,9 @@ use Rattle.std.specs.Io.KnownBytes.{Appends}
 use Rattle.lt_blocks.specs.declared.block.Block.{Block}
 use Rattle.lt_blocks.specs.Blocks.{blocks_text}
 use Rattle.lt_report.specs.Puts.{AppendsFront}
-use Rattle.lt_session.specs.declared.status.Status.{Status}
-use Rattle.lt_session.specs.TracedEnds.{RunEndsAs}
-use Rattle.lt_session.proofs.TracedEnds.{by_stop, ends_cut, ends_done, ends_faulty}
+use Rattle.lt_runs.specs.declared.status.Status.{Status}
+use Rattle.lt_runs.specs.TracedEnds.{RunEndsAs}
+use Rattle.lt_runs.proofs.TracedEnds.{by_stop, ends_cut, ends_done, ends_faulty}
 use Rattle.lt_session.proofs.repair.run_script.Goals as goal
 
 pub returns-in-Err : goal.returns-in-Err

@@ -2,7 +2,7 @@ use Rattle.std.proofs.Common.{[], append-nil, sym}
 use Rattle.std.proofs.lemmas.Result.{err_from_is_err_and}
 use Rattle.lt_blocks.specs.Blocks.{blocks_text}
 use Rattle.lt_report.proofs.Going.{did_of, ends, stops_first}
-use Rattle.lt_session.proofs.Writing.{flushed}
+use Rattle.lt_world.proofs.Writing.{flushed}
 use Rattle.lt_session.proofs.repair.write_blocks.Goals as goal
 
 pub returns-in_err-put_blocks : goal.returns-in_err-put_blocks

@@ -2,7 +2,7 @@ use Rattle.std.proofs.Common.{[], append-nil, sym}
 use Rattle.std.proofs.lemmas.Result.{err_from_is_err_and}
 use Rattle.lt_gen.specs.Summaries.{summary_text}
 use Rattle.lt_report.proofs.Going.{did_of, ends, stops_first}
-use Rattle.lt_session.proofs.Writing.{flushed}
+use Rattle.lt_world.proofs.Writing.{flushed}
 use Rattle.lt_session.proofs.repair.write_summary.Goals as goal
 
 pub returns-in_err-bench_summary : goal.returns-in_err-bench_summary

@@ -2,7 +2,7 @@ use Rattle.std.proofs.Common.{[], append-nil, sym}
 use Rattle.std.proofs.lemmas.Result.{err_from_is_err_and}
 use Rattle.lt_model.specs.Report.{usage_text}
 use Rattle.lt_report.proofs.Going.{did_of, ends, stops_first}
-use Rattle.lt_session.proofs.Writing.{flushed}
+use Rattle.lt_world.proofs.Writing.{flushed}
 use Rattle.lt_session.proofs.repair.write_usage.Goals as goal
 
 pub returns-in_err-put_usage : goal.returns-in_err-put_usage

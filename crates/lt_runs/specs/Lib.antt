@@ -1,0 +1,16 @@
+pub mod Reports
+pub mod Input
+pub mod Reads
+pub mod Stops
+pub mod Statuses
+pub mod Ends
+pub mod Counting
+pub mod Coming
+pub mod Reading
+pub mod Asking
+pub mod Posting
+pub mod TracedEnds
+pub mod FrontReads
+pub mod ReplayEnds
+pub mod ReplaySteps
+pub mod Waiting

@@ -1,5 +1,0 @@
-use Rattle.lt_session.proofs.Counting.{HasCounted}
-use Rattle.lt_session.proofs.come.count_programs.Given as goal
-
-abbrev pub invariant-loop-i : goal.invariant-loop-i
-invariant-loop-i l = HasCounted l.programs l.judgements l.replies l.fn.summary l.summary l.i l.next

@@ -1,5 +1,0 @@
-use Rattle.lt_session.proofs.KeysStay.{scripts_stay_keyed}
-use Rattle.lt_session.proofs.laws.scripts_keep_keys.Goals as goal
-
-pub returns : goal.returns
-returns c = scripts_stay_keyed c.runs_keep_keys.ensures.all
