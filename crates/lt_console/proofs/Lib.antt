@@ -1,4 +1,1 @@
-pub mod Feeding
-pub mod Heard
-pub mod Answering
-pub mod Loading
+pub mod Begun

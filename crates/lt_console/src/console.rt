@@ -1,20 +1,21 @@
 //! A session: line after line, each item is answered once its text is there, and each command at once.
 ghost use Rattle.std.specs.Prelude.{OnOk};
-ghost use Rattle.lt_session.specs.World.{IsWorld};
+ghost use Rattle.lt_world.specs.World.{IsWorld};
 
-use crate::commands::command_of;
-use crate::hearing::hear_all;
-use crate::inputs::{Input, Origin};
-use crate::obeying::{Then, obey, put_refusal};
-use crate::script::Script;
-use crate::settings::Settings;
 use crate::stop::Stop;
-use crate::tokens::{begins_statement, ends_statement};
 use lt_edges::Sink;
 use lt_face::NoMemory;
+use lt_hearing::hearing::hear_all;
+use lt_input::commands::command_of;
+use lt_input::inputs::{Input, Origin, push_input};
+use lt_input::script::Script;
+use lt_input::tokens::{begins_statement, ends_statement};
+use lt_obeying::obeying::{Then, obey};
 use lt_report::put_line;
-use lt_session::halt::Halt;
-use lt_session::world::World;
+use lt_telling::refusing::put_refusal;
+use lt_telling::settings::Settings;
+use lt_world::halt::Halt;
+use lt_world::world::World;
 use std::alloc::Global;
 use std::io::Read;
 use std::rt::{Clock, Files};
@@ -182,12 +183,11 @@ fn read_before<I: Read + Drop, F: Read + Drop, K: Sink>(
     }
     put_line(sink, &[b"read"])?;
     inputs.push(input)?;
-    let opened = Input::new(alloc, Origin::File(file))?;
-    inputs.push(opened)?;
+    push_input(alloc, inputs, Origin::File(file))?;
     Ok(())
 }
 
-// Goes on behind a command of this input. Whether the session does.
+// Goes on behind a line of this input. Whether the session does.
 fn follow<I: Read + Drop, F: Read + Drop, K: Sink>(
     alloc: Global,
     inputs: &mut Vec<Input<I, F>>,
@@ -196,35 +196,60 @@ fn follow<I: Read + Drop, F: Read + Drop, K: Sink>(
     then: Then<F>,
 ) -> Result<bool, Stop> {
     match then {
-        Then::Quit => return Ok(false),
-        Then::GoOn => inputs.push(input)?,
-        Then::Read(file) => read_before(alloc, inputs, sink, input, file)?,
+        Then::Quit => Ok(false),
+        Then::GoOn => {
+            inputs.push(input)?;
+            Ok(true)
+        }
+        Then::Read(file) => {
+            read_before(alloc, inputs, sink, input, file)?;
+            Ok(true)
+        }
     }
-    Ok(true)
 }
 
-// Takes a line that was read of this input. Whether the session goes on.
-fn take_read<R: Threads + Wait + Sync + Files + Clock, I: Read + Drop, K: Sink>(
+// Takes a line that was read.
+fn take_read<R: Threads + Wait + Sync + Files + Clock, K: Sink>(
     world: &mut World,
     rt: &R,
     alloc: Global,
-    inputs: &mut Vec<Input<I, R::File>>,
     sink: &mut K,
     settings: &mut Settings,
-    mut input: Input<I, R::File>,
+    script: &mut Script,
     line: &[u8],
-) -> Result<bool, Stop>
+) -> Result<Then<R::File>, Halt>
     requires { IsWorld world.old }
     ensures { OnOk result (IsWorld world.new) }
 {
     if line.starts_with(b".") {
-        let then = take_command(world, rt, alloc, sink, &mut input.script, settings, line)?;
-        let goes_on = follow(alloc, inputs, sink, input, then)?;
-        return Ok(goes_on);
+        let then = take_command(world, rt, alloc, sink, script, settings, line)?;
+        return Ok(then);
     }
-    take_line(world, rt, alloc, sink, &mut input.script, *settings, line)?;
-    inputs.push(input)?;
-    Ok(true)
+    take_line(world, rt, alloc, sink, script, *settings, line)?;
+    Ok(Then::GoOn)
+}
+
+// Takes the next line of an input, and says how it goes on. None where the input is at its end.
+fn take_from<R: Threads + Wait + Sync + Files + Clock, I: Read + Drop, K: Sink>(
+    world: &mut World,
+    rt: &R,
+    alloc: Global,
+    sink: &mut K,
+    settings: &mut Settings,
+    input: &mut Input<I, R::File>,
+    line: &mut Vec<u8>,
+) -> Result<Option<Then<R::File>>, Stop>
+    requires { IsWorld world.old }
+    ensures { OnOk result (IsWorld world.new) }
+{
+    invite(sink, input, *settings)?;
+    let more = input.next_line(line)?;
+    if !more {
+        finish(world, rt, alloc, sink, &mut input.script, *settings)?;
+        return Ok(None);
+    }
+    let then = take_read(world, rt, alloc, sink, settings, &mut input.script, line)?;
+    Ok(Some(then))
 }
 
 // Takes the next line of the last input. Whether the session goes on.
@@ -243,14 +268,11 @@ fn take_next<R: Threads + Wait + Sync + Files + Clock, I: Read + Drop, K: Sink>(
     let Some(mut input) = inputs.pop() else {
         return Ok(false);
     };
-    invite(sink, &input, *settings)?;
-    let more = input.next_line(line)?;
-    if !more {
-        finish(world, rt, alloc, sink, &mut input.script, *settings)?;
-        return Ok(true);
+    let read = take_from(world, rt, alloc, sink, settings, &mut input, line)?;
+    match read {
+        Some(then) => follow(alloc, inputs, sink, input, then),
+        None => Ok(true),
     }
-    let goes_on = take_read(world, rt, alloc, inputs, sink, settings, input, line)?;
-    Ok(goes_on)
 }
 
 /// Reads lines to their end, the last input first, and answers each item and each command.

@@ -3,24 +3,26 @@ ghost use Rattle.lt_model.specs.declared.syntax.Item.TheVariants as items;
 ghost use Rattle.lt_model.specs.Limits.{IsWithinLimits, IsProgramWithin};
 ghost use Rattle.std.specs.List.{AllByRecursion};
 
-use crate::advice::warnings_of;
-use crate::advising::say_warning;
-use crate::hearing::{Fault, tell};
-use crate::inputs::Input;
-use crate::lines::{Lines, put_text};
-use crate::script::Script;
-use crate::statements::statement_at;
 use crate::stop::Stop;
-use crate::telling::put_error;
-use crate::tokens::behind_blank;
+use lt_advice::advice::warnings_of;
+use lt_advice::advising::say_warning;
+use lt_advice::lines::Lines;
 use lt_edges::Sink;
+use lt_input::inputs::Input;
+use lt_input::script::Script;
+use lt_input::statements::statement_at;
+use lt_input::tokens::behind_blank;
 use lt_model::kind::KindList;
 use lt_model::name::Name;
 use lt_model::syntax::{Item, Program};
 use lt_script::FeedStep;
-use lt_session::batch::{Judgement, all_judged};
-use lt_session::halt::Halt;
-use lt_session::world::World;
+use lt_telling::refusing::{put_refusal, put_told};
+use lt_telling::telling::put_error;
+use lt_telling::text::put_text;
+use lt_world::batch::Judgement;
+use lt_world::halt::Halt;
+use lt_world::judging::all_judged;
+use lt_world::world::World;
 use std::alloc::Global;
 use std::io::Read;
 
@@ -68,7 +70,7 @@ fn warn_of<K: Sink>(
     place: usize,
 ) -> Result<u64, Halt> {
     let text = script.item_text();
-    let warnings = warnings_of(alloc, &world.schema, program)?;
+    let warnings = warnings_of(alloc, world.schema.schema(), program)?;
     let mut lines = Lines::new(alloc);
     for warning in warnings.as_slice() {
         let (start, told) = statement_at(text, place, warning.statement);
@@ -116,7 +118,7 @@ fn look_at_batch<K: Sink>(
 ) -> Result<u64, Halt>
     requires { AllByRecursion IsProgramWithin programs.now }
 {
-    let judgements = all_judged(alloc, programs, &world.schema)?;
+    let judgements = all_judged(alloc, programs, world.schema.schema())?;
     let mut told = 0u64;
     let mut place = 0usize;
     for (program, judgement) in programs.iter().zip(judgements.as_slice()) {
@@ -152,6 +154,19 @@ fn look_at<K: Sink>(
     }
 }
 
+// Tells a fault, and gives up the item that has it; how much was told.
+fn put_fault<K: Sink>(
+    alloc: Global,
+    sink: &mut K,
+    script: &mut Script,
+    line: u64,
+    code: u32,
+) -> Result<u64, Halt> {
+    let told = script.refuse(alloc, line, code)?;
+    put_told(sink, script, false, &told)?;
+    Ok(1)
+}
+
 // Looks at the items whose text is there, up to the first fault; how much was told.
 fn look<K: Sink>(
     world: &mut World,
@@ -168,8 +183,8 @@ fn look<K: Sink>(
                 script.go_on()?;
             }
             FeedStep::Fault { line, code } => {
-                tell(alloc, sink, script, false, Fault { line, code })?;
-                return Ok(told.saturating_add(1));
+                let more = put_fault(alloc, sink, script, line, code)?;
+                return Ok(told.saturating_add(more));
             }
             FeedStep::NoMemory => return Err(Halt::NoMemory),
             FeedStep::End => return Ok(told),
@@ -211,7 +226,7 @@ fn look_at_rest<K: Sink>(
     script.push(b"\n")?;
     let told = look(world, alloc, sink, script)?;
     if script.is_inside() {
-        crate::obeying::put_refusal(sink, script, 7, "")?;
+        put_refusal(sink, script, 7, "")?;
         return Ok(told.saturating_add(1));
     }
     Ok(told)

@@ -1,45 +1,21 @@
 //! A console over relations in memory, for people at a terminal and for programs at a pipe.
+//!
+//! `console` takes the lines of the inputs (`lt_input`): it has the items answered whose text is there (`lt_hearing`), and commands obeyed
+//! (`lt_obeying`). `linting` looks through scripts, and runs nothing. `wishes` are the words of the command line, `stop` is why a session
+//! ended before it was to. What is proved of the answers stands in the libraries; here, that a session has one world throughout.
 #![tactic(auto)]
 
-mod advice;
-mod advising;
-mod answers;
-mod commands;
 mod console;
-mod deciding;
-mod dump;
-mod explained;
-mod explaining;
-mod fed;
-mod hearing;
-mod inputs;
-mod inserts;
-mod lines;
 mod linting;
-mod loads;
-mod obeying;
-mod places;
-mod reasons;
-mod routes;
-mod schema_text;
-mod script;
-mod settings;
-mod statements;
 mod stop;
-mod table_rows;
-mod tables;
-mod talking;
-mod telling;
-mod tokens;
 mod wishes;
-mod words;
 
 use console::converse;
-use inputs::{Input, Origin};
 use linting::lint;
 use lt_edges::{Sink, StdSink};
-use lt_session::world::World;
-use settings::Settings;
+use lt_input::inputs::{Input, Origin, push_input};
+use lt_telling::settings::Settings;
+use lt_world::world::World;
 use std::alloc::{AllocError, Global};
 use std::env::{self, Env};
 use std::fs;
@@ -91,17 +67,37 @@ fn inputs_of<R: Files + Eprint, I: Read + Drop>(
     files: &[String],
 ) -> Result<Vec<Input<I, R::File>>, Stop> {
     let mut inputs = Vec::new(alloc);
-    let input = Input::new(alloc, Origin::Standard(standard))?;
-    inputs.push(input)?;
+    push_input(alloc, &mut inputs, Origin::Standard(standard))?;
     for path in files.iter().rev() {
         let Ok(file) = fs::open(rt, path.as_str()) else {
             let _ = eprintln!(rt; "lt_console: {path} can't be read");
             return Err(Stop::ReadFailed);
         };
-        let input = Input::new(alloc, Origin::File(file))?;
-        inputs.push(input)?;
+        push_input(alloc, &mut inputs, Origin::File(file))?;
     }
     Ok(inputs)
+}
+
+// Looks through so many files, or through standard input where there is none; how much was told.
+fn look_at_all<I: Read + Drop, F: Read + Drop, K: Sink>(
+    alloc: Global,
+    world: &mut World,
+    sink: &mut K,
+    inputs: &mut Vec<Input<I, F>>,
+    files: usize,
+) -> Result<u64, Stop> {
+    let mut told = 0u64;
+    for _ in 0..=files {
+        let Some(mut input) = inputs.pop() else {
+            break;
+        };
+        if input.is_standard && files > 0 {
+            break;
+        }
+        let count = lint(world, alloc, sink, &mut input)?;
+        told = told.saturating_add(count);
+    }
+    Ok(told)
 }
 
 // Looks through files, or through standard input where none is named; the status.
@@ -114,17 +110,7 @@ fn look_through<R: Files + Eprint, I: Read + Drop, K: Sink>(
 ) -> Result<u8, Stop> {
     let mut inputs = inputs_of(rt, alloc, standard, files)?;
     let mut world = World::new(alloc)?;
-    let mut told = 0u64;
-    for _ in 0..=files.len() {
-        let Some(mut input) = inputs.pop() else {
-            break;
-        };
-        if input.is_standard && !files.is_empty() {
-            break;
-        }
-        let count = lint(&mut world, alloc, sink, &mut input)?;
-        told = told.saturating_add(count);
-    }
+    let told = look_at_all(alloc, &mut world, sink, &mut inputs, files.len())?;
     sink.flush()?;
     Ok(if told > 0 { 2 } else { 0 })
 }

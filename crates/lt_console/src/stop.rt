@@ -1,13 +1,13 @@
 //! How a session ends before it was to.
-use crate::inputs::InputError;
 use lt_edges::Failed;
 use lt_face::NoMemory;
-use lt_session::halt::Halt;
+use lt_input::inputs::InputError;
+use lt_world::halt::Halt;
 use std::alloc::AllocFailed;
 use std::fmt;
 
 /// Why a session ended before it was to.
-#[derive(Clone, Copy, Debug, PartialEq, Eq)]
+#[derive(Clone, Copy)]
 pub enum Stop {
     NoMemory,
     ReadFailed,

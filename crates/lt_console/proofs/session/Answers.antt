@@ -1,4 +1,4 @@
-use Rattle.lt_console.proofs.Heard.{begun}
+use Rattle.lt_console.proofs.Begun.{begun}
 use Rattle.lt_console.proofs.session.Goals as goal
 
 pub converse-requires-after_bounds : goal.converse-requires-after_bounds

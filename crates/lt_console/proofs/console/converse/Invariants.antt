@@ -1,4 +1,4 @@
-use Rattle.lt_session.specs.World.{IsWorld}
+use Rattle.lt_world.specs.World.{IsWorld}
 use Rattle.lt_console.proofs.console.converse.Given as goal
 
 abbrev pub invariant-lines : goal.invariant-lines

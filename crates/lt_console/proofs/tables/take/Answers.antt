@@ -1,5 +1,0 @@
-use Rattle.lt_console.proofs.Heard.{taken}
-use Rattle.lt_console.proofs.tables.take.Goals as goal
-
-pub returns-in-Ok : goal.returns-in-Ok
-returns-in-Ok g c = taken c.args.world.now c.take.new.self c.args.item c.requires.world c.in-Ok.ensures.world
