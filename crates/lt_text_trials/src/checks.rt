@@ -55,108 +55,57 @@ fn relations(alloc: Global) -> Result<Schema, DeclareFault> {
     Ok(schema)
 }
 
-// A statement behind one without a code.
-fn script_of(alloc: Global, statement: &str) -> Result<String, NoMemory> {
-    let mut script = String::from_str(alloc, "batch program p insert r(1); ")?;
-    script.push_str(statement)?;
-    script.push_str("; end; commit;")?;
-    Ok(script)
-}
-
 // The number of the statement that has a code, and the code; 0 for both where none has one.
-fn verdict(alloc: Global, statement: &str) -> Result<(u32, u32), NoMemory> {
+fn verdict(alloc: Global, script: &str) -> Result<(u32, u32), NoMemory> {
     let Ok(schema) = relations(alloc) else {
         return Err(NoMemory);
     };
-    let script = script_of(alloc, statement)?;
-    match checked(alloc, &script, &schema) {
+    match checked(alloc, script, &schema) {
         Ok(_) => Ok((0, 0)),
         Err(CheckFault::Bad { code, statement }) => Ok((statement, code)),
         Err(CheckFault::NoMemory) => Err(NoMemory),
     }
 }
 
+const CODES: [(&str, (u32, u32)); 3] = [
+    (
+        "batch program p insert r(1); require some x = y, r(y); end; commit;",
+        (0, 0),
+    ),
+    (
+        "batch program p insert r(1); insert z(1); end; commit;",
+        (2, 20),
+    ),
+    (
+        "batch program p insert r(1); insert r(1); insert t(x, 'a'); end; commit;",
+        (3, 23),
+    ),
+];
+
 #[test]
 fn statements_have_their_codes(rt: HostRuntime) -> Result<(), NoMemory> {
-    let rows = [
-        ("insert r(1)", (0, 0)),
-        // a relation that isn't there, before a wrong number of arguments
-        ("insert z(1)", (2, 20)),
-        ("insert r(1, 1) where z(x)", (2, 20)),
-        // a wrong number of arguments, before kinds that don't fit
-        ("insert r(1, 1)", (2, 21)),
-        ("insert r(1, 1) where s(x), r(x)", (2, 21)),
-        ("delete t(1)", (2, 21)),
-        // kinds that don't fit, before a variable that isn't bound
-        ("insert r('a')", (2, 22)),
-        ("delete r(x) where s(x)", (2, 22)),
-        ("replace r(1) by r('a')", (2, 22)),
-        ("require some 1 = 'a'", (2, 22)),
-        ("require some r(x), s(x), y = y", (2, 22)),
-        ("require some x = y, y = 'a', r(x)", (2, 22)),
-        ("require some s(x), y = x + 1", (2, 22)),
-        ("require some r(x), 1 < 'a'", (2, 22)),
-        ("print (1, 'a') where r(x)", (0, 0)),
-        // a variable that isn't bound
-        ("print (x, y) where r(x)", (2, 23)),
-        ("insert r(x)", (2, 23)),
-        ("replace r(1) by r(y) where r(x), y = x - 1", (0, 0)),
-        ("require some 1 = x", (2, 23)),
-        ("require some x = x", (2, 23)),
-        ("require some r(x), x = y", (2, 23)),
-        ("require some x = y, r(y)", (0, 0)),
-        ("require some y = x + 1, x = 1", (2, 23)),
-        ("require some x = y, y = 1, x = 1", (0, 0)),
-        ("require some x = y, y = 1", (2, 23)),
-    ];
-    for (statement, expected) in rows {
-        same_at(&rt, verdict(rt.alloc(), statement)?, expected, statement);
+    for (script, expected) in CODES {
+        same_at(&rt, verdict(rt.alloc(), script)?, expected, script);
     }
     Ok(())
 }
 
-// 65 names, of one byte and then of two.
-fn name_of(alloc: Global, number: u8) -> Name {
-    if number < 26 {
-        name(alloc, b'a' + number)
-    } else {
-        Name::from_bytes(alloc, &[b'z', number])
-    }
-}
-
-fn declare(
-    alloc: Global,
-    schema: &mut Schema,
-    number: u8,
-    kind: Kind,
-) -> Result<u32, DeclareFault> {
-    schema.declare(
-        name_of(alloc, number),
-        KindList::from_kinds(alloc, &[kind]),
-        1,
-    )
-}
-
-// The numbers that a schema has for the 41st of the names and for the last, and how many relations it has.
+// The numbers of the third relation and of one that isn't there, and how many there are.
 fn numbers(alloc: Global, schema: &Schema) -> (Option<u32>, Option<u32>, usize) {
-    let held = schema.find(&name_of(alloc, 40));
-    let last = schema.find(&name_of(alloc, 64));
-    (held, last, schema.headings().len())
+    let third = schema.find(&name(alloc, b't'));
+    let none = schema.find(&name(alloc, b'z'));
+    (third, none, schema.headings().len())
 }
 
 #[test]
-fn sixty_four_relations_are_declared(rt: HostRuntime) {
+fn relations_have_numbers(rt: HostRuntime) -> Result<(), DeclareFault> {
     let alloc = rt.alloc();
-    let mut schema = Schema::new(alloc);
-    for number in 0..64u8 {
-        let answer = declare(alloc, &mut schema, number, Kind::Int);
-        same(&rt, answer, Ok(u32::from(number)));
-    }
-    for (number, fault) in [(64, DeclareFault::Full), (63, DeclareFault::Taken)] {
-        let answer = declare(alloc, &mut schema, number, Kind::Sym);
-        same(&rt, answer, Err(fault));
-    }
-    same(&rt, numbers(alloc, &schema), (Some(40), None, 64));
+    let mut schema = relations(alloc)?;
+    same(&rt, numbers(alloc, &schema), (Some(2), None, 4));
+    let kinds = KindList::from_kinds(alloc, &[Kind::Int]);
+    let again = schema.declare(name(alloc, b'r'), kinds, 1);
+    same(&rt, again, Err(DeclareFault::Taken));
+    Ok(())
 }
 
 // Ends the test unless the body is t(x, y), z = x + 1, where y has the number 0, x 1 and z 2.
@@ -197,31 +146,5 @@ fn variables_are_numbered_in_text_order(rt: HostRuntime) -> Result<(), CheckFaul
     let script = "batch program p print (y, 'a', x) where t(x, y), z = x + 1; end; commit;";
     let prog = checked(alloc, script, &schema)?;
     is_print(&rt, prog.as_slice());
-    Ok(())
-}
-
-// The key columns by which a checked program's rows come in, one after another.
-fn keys_of(alloc: Global, prog: &Prog) -> Result<Vec<u32>, NoMemory> {
-    let mut all = Vec::new(alloc);
-    for statement in prog.as_slice() {
-        match statement {
-            Stmt::Insert { keys, .. } | Stmt::Replace { keys, .. } => all.push(*keys)?,
-            _ => (),
-        }
-    }
-    Ok(all)
-}
-
-#[test]
-fn rows_come_in_by_their_relations_keys(rt: HostRuntime) -> Result<(), CheckFault> {
-    let alloc = rt.alloc();
-    let Ok(schema) = relations(alloc) else {
-        return Err(CheckFault::NoMemory);
-    };
-    let script =
-        "batch program p insert t(1, 'a'); insert f(1, 'a'); replace f(1, 'a') by t(1, 'a'); replace t(1, 'a') by f(1, 'b'); delete f(1, 'b'); end; commit;";
-    let prog = checked(alloc, script, &schema)?;
-    let keys = keys_of(alloc, &prog)?;
-    same(&rt, keys.as_slice(), [2, 1, 2, 1].as_slice());
     Ok(())
 }

@@ -1,7 +1,7 @@
 //! Scripts in pieces.
 ghost use Rattle.std.specs.Prelude.{◌≡◌};
 
-use crate::agree::same;
+use crate::agree::{same, same_at};
 use lt_script::{Feed, FeedStep};
 use std::alloc::Global;
 
@@ -42,99 +42,53 @@ fn first_other(alloc: Global, pieces: &[(&[u8], Answer, usize)]) -> Option<usize
     None
 }
 
-#[test]
-fn answers_an_item_in_three_pieces(rt: HostRuntime) {
-    let pieces: [(&[u8], Answer, usize); 3] = [
-        (b"show", More, 4),
-        (b" x", More, 6),
-        (b";", Item, 0),
-    ];
-    same(&rt, first_other(rt.alloc(), &pieces), None);
-}
+// Scripts in pieces, by name; the last one is also cut in the middle of tokens.
+const IN_PIECES: [(&str, &[(&[u8], Answer, usize)]); 4] = [
+    (
+        "an item in three pieces",
+        &[(b"show", More, 4), (b" x", More, 6), (b";", Item, 0)],
+    ),
+    (
+        "a wrong byte, at once",
+        &[(b"@", Fault(1, 1), 0), (b"show x;", Fault(1, 1), 0)],
+    ),
+    (
+        "the byte behind a long word",
+        &[(b"abcdefghijklmnop", More, 16), (b";", Fault(1, 5), 0)],
+    ),
+    (
+        "what was cut is joined",
+        &[
+            // a symbol, and a sign of two bytes
+            (b"batch program p insert r('a", More, 27),
+            (b"b'); end; commit;", Item, 0),
+            (b"batch program p require some x <", More, 32),
+            (b"= y; end; commit;", Item, 0),
+            // an arrow
+            (b"relation f(int -", More, 16),
+            (b"> int);", Item, 0),
+            // a comment that goes on
+            (b"show # x;", More, 9),
+            (b"y;\nz;", Item, 0),
+            // bytes behind an item, and nothing more
+            (b"show x; # y", Item, 4),
+            (b"", More, 4),
+            (b"\nshow", More, 9),
+            (b" z;show z;", Item, 7),
+            (b"", Item, 0),
+            // a fault in the middle of an item, once it is decided
+            (b"relation r(int,\n", More, 16),
+            (b"show", More, 20),
+            (b" ", Fault(4, 2), 0),
+        ],
+    ),
+];
 
 #[test]
-fn answers_a_wrong_byte_at_once(rt: HostRuntime) {
-    let pieces: [(&[u8], Answer, usize); 2] = [
-        (b"@", Fault(1, 1), 0),
-        (b"show x;", Fault(1, 1), 0),
-    ];
-    same(&rt, first_other(rt.alloc(), &pieces), None);
-}
-
-#[test]
-fn waits_for_the_byte_behind_a_long_word(rt: HostRuntime) {
-    let pieces: [(&[u8], Answer, usize); 2] = [
-        (b"abcdefghijklmnop", More, 16),
-        (b";", Fault(1, 5), 0),
-    ];
-    same(&rt, first_other(rt.alloc(), &pieces), None);
-}
-
-#[test]
-fn joins_what_was_cut(rt: HostRuntime) {
-    let pieces: [(&[u8], Answer, usize); 14] = [
-        // a symbol, and a sign of two bytes
-        (b"batch program p insert r('a", More, 27),
-        (b"b'); end; commit;", Item, 0),
-        (b"batch program p require some x <", More, 32),
-        (b"= y; end; commit;", Item, 0),
-        // a comment that goes on
-        (b"show # x;", More, 9),
-        (b"y;\nz;", Item, 0),
-        // bytes behind an item, and nothing more
-        (b"show x; # y", Item, 4),
-        (b"", More, 4),
-        (b"\nshow", More, 9),
-        (b" z;show z;", Item, 7),
-        (b"", Item, 0),
-        // a fault in the middle of an item, once it is decided
-        (b"relation r(int,\n", More, 16),
-        (b"show", More, 20),
-        (b" ", Fault(4, 2), 0),
-    ];
-    same(&rt, first_other(rt.alloc(), &pieces), None);
-}
-
-// What is answered to a script that was pushed whole, behind its last item, and what once more.
-fn ending(alloc: Global, script: &[u8]) -> (Answer, Answer) {
-    let mut feed = Feed::new(alloc);
-    if feed.push(script).is_err() {
-        return (Answer::NoMemory, Answer::NoMemory);
+fn answers_as_soon_as_it_may(rt: HostRuntime) {
+    for (name, pieces) in IN_PIECES {
+        same_at(&rt, first_other(rt.alloc(), pieces), None, name);
     }
-    feed.end();
-    for _ in 0..10 {
-        let first = next(alloc, &mut feed);
-        if first != Item {
-            return (first, next(alloc, &mut feed));
-        }
-    }
-    (Item, Item)
-}
-
-// The place of the first script that ends otherwise.
-fn first_other_end(alloc: Global, rows: &[(&[u8], Answer)]) -> Option<usize> {
-    for (i, (script, answer)) in rows.iter().enumerate() {
-        if ending(alloc, *script) != (*answer, *answer) {
-            return Some(i);
-        }
-    }
-    None
-}
-
-#[test]
-fn ends_as_a_whole_script(rt: HostRuntime) {
-    let rows: [(&[u8], Answer); 9] = [
-        (b"", End),
-        (b" # x", End),
-        (b"show x; show y;\n", End),
-        (b"show\nx", Fault(2, 7)),
-        (b"'ab", Fault(1, 7)),
-        (b"abcdefghijklmnop", Fault(1, 5)),
-        (b"show <", Fault(1, 2)),
-        (b"show x;\n!", Fault(2, 1)),
-        (b"show x at 9223372036854775808", Fault(1, 3)),
-    ];
-    same(&rt, first_other_end(rt.alloc(), &rows), None);
 }
 
 // How many items a script has that is pushed byte by byte, and what is answered at its end.

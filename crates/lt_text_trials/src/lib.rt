@@ -1,5 +1,8 @@
-//! Scripts: the items and the first faults that they are read as, the codes of their statements,
-//! the script of the bench, and whole scripts, bytes in and bytes out.
+//! What a file beside its report can't say of scripts: reads and writes that fail in mid-stream, sinks without room, workers that meet at
+//! a gate, scripts piece by piece; and each public call below the top once. The scripts with their reports are in `scripts`, at the top.
+//!
+//! `words` is the command line; `items`, `feeds` and `checks` go from bytes to items and codes; `running` has the one call of
+//! `repair_main`, and `failing`, `rooms` and `meeting` make it; `benches` is the script and the summary of a bench.
 #![tactic(auto)]
 
 #[cfg(test)]
@@ -9,28 +12,16 @@ mod benches;
 #[cfg(test)]
 mod checks;
 #[cfg(test)]
-mod endings;
+mod failing;
 #[cfg(test)]
 mod feeds;
 #[cfg(test)]
-mod functional;
-#[cfg(test)]
-mod hostile;
-#[cfg(test)]
 mod items;
 #[cfg(test)]
-mod lined;
+mod meeting;
 #[cfg(test)]
-mod marks;
-#[cfg(test)]
-mod negated;
-#[cfg(test)]
-mod reading;
+mod rooms;
 #[cfg(test)]
 mod running;
-#[cfg(test)]
-mod scripts;
-#[cfg(test)]
-mod traces;
 #[cfg(test)]
 mod words;

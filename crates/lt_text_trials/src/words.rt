@@ -1,22 +1,8 @@
 //! Command lines.
 use crate::agree::same_at;
+use crate::running::words_of;
 use lt_command::{Command, command_of};
-use lt_edges::{MemSink, MemSource, OpenGate};
-use lt_session::repair_main;
-use std::alloc::{AllocError, Global};
 use std::test::Fail;
-
-const USAGE: &str =
-    "usage: lt_shell run [--workers N] [--marks] | lt_shell bench --seed S --items I --programs P [--workers N]\n";
-
-/// These words as a program gets them.
-pub(crate) fn words_of(alloc: Global, words: &[&str]) -> Result<Vec<String>, AllocError> {
-    let mut all = Vec::new(alloc);
-    for word in words {
-        all.push(String::from_str(alloc, word)?)?;
-    }
-    Ok(all)
-}
 
 // Command lines without the program's name, one word between spaces; how many workers they ask for, how many
 // batches in a line, and whether for marks.
@@ -130,19 +116,10 @@ const BENCHES: [(&str, Option<(u64, u32, u32, u32, u32)>); 23] = [
     ),
 ];
 
-/// The words of a line, after the program's name.
-pub(crate) fn line_words(alloc: Global, line: &str) -> Result<Vec<String>, AllocError> {
-    let mut words = words_of(alloc, &["lt_shell"])?;
-    for word in line.split_whitespace() {
-        words.push(String::from_str(alloc, word)?)?;
-    }
-    Ok(words)
-}
-
 #[test]
 fn asks_for_a_run(rt: HostRuntime) -> Result<(), Fail> {
     for (line, options) in LINES {
-        let words = line_words(rt.alloc(), line)?;
+        let words = words_of(rt.alloc(), line)?;
         let asked = command_of(rt.alloc(), &words)?;
         let expected = match options {
             Some((workers, pipeline, marks)) => Some(Command::Run {
@@ -161,7 +138,7 @@ fn asks_for_a_run(rt: HostRuntime) -> Result<(), Fail> {
 #[test]
 fn asks_for_a_bench(rt: HostRuntime) -> Result<(), Fail> {
     for (line, numbers) in BENCHES {
-        let words = line_words(rt.alloc(), line)?;
+        let words = words_of(rt.alloc(), line)?;
         let asked = command_of(rt.alloc(), &words)?;
         let expected = match numbers {
             Some((seed, items, programs, workers, readers)) => Some(Command::Bench {
@@ -175,35 +152,5 @@ fn asks_for_a_bench(rt: HostRuntime) -> Result<(), Fail> {
         };
         same_at(&rt, asked, expected, line);
     }
-    Ok(())
-}
-
-#[test]
-fn runs_or_tells_how_it_is_called(rt: HostRuntime) -> Result<(), Fail> {
-    let alloc = rt.alloc();
-    for (line, options) in LINES {
-        let words = line_words(alloc, line)?;
-        let mut source = MemSource::new(alloc, b"", 1, &[])?;
-        let mut sink = MemSink::new(alloc, 1000, &[])?;
-        let status = repair_main(&rt, alloc, &words, &mut source, &mut sink, &OpenGate);
-        let (expected, written) = match options {
-            Some(_) => (0, ""),
-            None => (1, USAGE),
-        };
-        same_at(&rt, status, expected, line);
-        same_at(&rt, sink.bytes(), written.as_bytes(), line);
-    }
-    Ok(())
-}
-
-#[test]
-fn ends_where_the_usage_line_has_no_room(rt: HostRuntime) -> Result<(), Fail> {
-    let alloc = rt.alloc();
-    let words = words_of(alloc, &["lt_shell"])?;
-    let mut source = MemSource::new(alloc, b"", 1, &[])?;
-    let mut sink = MemSink::new(alloc, 10, &[])?;
-    let status = repair_main(&rt, alloc, &words, &mut source, &mut sink, &OpenGate);
-    same_at(&rt, status, 4, "no room");
-    same_at(&rt, sink.bytes(), b"".as_slice(), "no room");
     Ok(())
 }
