@@ -1,26 +1,30 @@
 -- The programs of the tests fit the two relations, also after each other.
-use Rattle.std.proofs.Common.{◌≡◌, ◌≤◌, List, [], ◌∷◌, length, refl, sym, ap, subst, ◌∙◌, arith}
+use Rattle.std.proofs.Common.{◌≡◌, ◌≤◌, List, [], ◌∷◌, refl, sym, ap, subst, ◌∙◌, arith}
 use Rattle.std.specs.List.{AllByRecursion}
 use Rattle.lt_face.specs.State.{Row, State}
 use Rattle.lt_face.proofs.RowLemmas.{each_weaker}
 use Rattle.lt_model.specs.declared.normal.Stmt.{Stmt}
-use Rattle.lt_model.specs.Fits.{Fits, FitMarks, IsMarkOf}
+use Rattle.lt_model.specs.Fits.{Fits, FitMarks}
 use Rattle.lt_model.specs.Marks.{Marks, laid}
 use Rattle.lt_model.proofs.Composition.{same_widths}
 use Rattle.lt_delta.proofs.Kept.{IsState-laid}
+use Rattle.lt_query.specs.Laws.{FittingHasWidths}
+use Rattle.lt_query.specs.Planned.{HaveWidths}
+use Rattle.lt_query.specs.Runnable.{AreWide}
+use Rattle.lt_program.proofs.IndexesMade.{widths_all}
 use Rattle.lt_reference.specs.Run.{IsFitting, lists}
 use Rattle.lt_reference.specs.Walk.{bare}
 use Rattle.lt_reference.proofs.BareStates.{laid-plain}
-use Rattle.lt_run_trials.specs.Fitting.{AreBoth, FitsBoth, AreRowsOfBoth, KeepsWidths}
-use Rattle.lt_batch.proofs.Widths.{wide_laid, widths-laid}
+use Rattle.lt_run_trials.specs.Fitting.{AreBoth, FitsBoth, AreRowsOfBoth}
+use Rattle.lt_batch.proofs.Widths.{widths-laid}
 
 -- programs that fit both fit a state that has both
 pub all_fit : (s : State) (programs : List (List Stmt)) → AreBoth s → AllByRecursion FitsBoth programs → AllByRecursion (Fits s) programs
 all_fit s programs both fit = each_weaker FitsBoth (Fits s) (λ program fits. fits s both) programs fit
 
--- so do those of batches
-pub all_batches_fit : (s : State) (batches : List (List (List Stmt))) → AreBoth s → AllByRecursion (AllByRecursion FitsBoth) batches → AllByRecursion (AllByRecursion (Fits s)) batches
-all_batches_fit s batches both fit = each_weaker (AllByRecursion FitsBoth) (AllByRecursion (Fits s)) (λ programs. all_fit s programs both) batches fit
+-- the atoms of programs that fit a state are as wide as its relations
+pub all_have_widths : (s : State) (programs : List (List Stmt)) → FittingHasWidths → AreWide s → AllByRecursion (Fits s) programs → AllByRecursion HaveWidths programs
+all_have_widths s programs law wide fit = each_weaker (Fits s) HaveWidths (λ program fits. widths_all s program law wide fits.each) programs fit
 
 -- marks leave both there
 pub both_laid : (state : State) (marks : Marks) → AreBoth state → AreBoth (laid state marks)
@@ -28,14 +32,6 @@ both_laid state marks both = same_widths state marks ∙ both
 
 pub both_marked : (base old new : State) (marks : Marks) → old ≡ base → new ≡ laid old marks → AreBoth base → AreBoth new
 both_marked base old new marks same is both = subst AreBoth (sym is) (both_laid old marks (subst AreBoth (sym same) both))
-
--- marks that fit a state fit another whose relations are as wide
-pub marks_fit_too : (old new : State) (marks : Marks) → KeepsWidths old new → FitMarks old marks → FitMarks new marks
-marks_fit_too old new marks kept fit = each_weaker (IsMarkOf old) (IsMarkOf new) (λ m h. record { is_wide = kept m.relation (length m.row) h.is_wide; has_cells = h.has_cells }) marks fit
-
--- marks leave relations as wide as they were
-pub widths_stay : (base old new : State) (marks : Marks) → KeepsWidths base old → new ≡ laid old marks → KeepsWidths base new
-widths_stay base old new marks kept is = λ relation width wide. wide_laid old old new marks refl is relation width (kept relation width wide)
 
 -- ---- rows
 

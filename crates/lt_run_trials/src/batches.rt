@@ -1,71 +1,107 @@
-//! Batches whose programs all work on the rows of one relation, compared with the plain runs of these programs one after
-//! another, and some by hand.
+//! Batches in order and as circuits, beside the plain runs of their programs one after another; and what several workers begin together.
 ghost use Rattle.std.specs.Prelude.{◌≤◌, length, map};
 ghost use Rattle.std.specs.Arc.{arc_value};
 ghost use Rattle.std.specs.List.{AllByRecursion};
 ghost use Rattle.lt_run_trials.specs.Fitting.{FitsBoth};
 
-use crate::agree::{holds, same};
-use crate::comparing::{are_marks, count, is_same_reply};
-use crate::serial::{Ran, Serial, one_after_another};
-use crate::texts::{Pairs, ZERO, bare, programs, programs_over, stocked};
+use crate::agree::{holds_of, same_at};
+use crate::comparing::{count, is_print, is_same_reply};
+use crate::serial::{Serial, one_after_another};
+use crate::splitting::LONG;
+use crate::texts::{Pairs, programs, programs_over, stocked};
 use lt_base::Database;
-use lt_batch::{BatchWork, Outcome, run_batch};
-use lt_circuit::LeafWork;
+use lt_batch::{Folded, Outcome, fold_batch, run_batch};
 use lt_delta::Marks;
 use lt_edges::OpenGate;
 use lt_face::items::RowList;
-use lt_face::key::Key;
 use lt_face::memory::NoMemory;
 use lt_face::row::Row;
-use lt_model::normal::Prog;
 use lt_model::reply::Reply;
+use lt_program::Ran;
+use lt_query::Planned;
 use std::alloc::Global;
 use std::sync::{Arc, Wait};
 use std::thread::Threads;
 
+/// How e is declared, the rows that there are, and the programs, which come round again.
+#[derive(Clone, Copy)]
+struct Batch<'a> {
+    pairs: Pairs,
+    stock: &'a str,
+    texts: &'a [&'a str],
+}
+
 /// Takes one.
 const TAKING: &str = "require some r(n), n > 0; replace r(n) by r(m) where r(n), m = n - 1;";
 
-/// Adds and removes 1.
-const ADDING: &str = "insert r(1); print (x) where r(x);";
+/// Programs that read and write the rows of one relation.
+const MIXED: Batch<'static> = Batch {
+    pairs: Pairs::Plain,
+    stock: "",
+    texts: &[
+        "insert r(0); print (x) where r(x);",
+        TAKING,
+        "delete r(2); print (x) where r(x);",
+        "insert r(3); print (x) where r(x);",
+        TAKING,
+        "delete r(1); print (x) where r(x);",
+        "insert r(2); print (x) where r(x);",
+        TAKING,
+        "delete r(0); print (x) where r(x);",
+        "insert r(1); print (x) where r(x);",
+        TAKING,
+        "delete r(3); print (x) where r(x);",
+    ],
+};
 
-const REMOVING: &str = "delete r(1); print (x) where r(x);";
+/// Dear programs over all pairs of twelve. The first ones read nothing that those before them write, of the others some do.
+const DEAR: Batch<'static> = Batch {
+    pairs: Pairs::Plain,
+    stock: "insert r(1); insert r(2); insert r(3); insert r(4); insert r(5); insert r(6); insert r(7); insert r(8); insert r(9); insert r(10); insert r(11); insert r(12); insert e(x, y) where r(x), r(y);",
+    texts: &[
+        "print (x) where e(x, y), e(y, x);",
+        "print (y) where e(x, y), e(y, x), x < y;",
+        "insert r(20); print (x) where e(x, y), e(y, x);",
+        "print (x) where r(x), e(x, y), e(y, x);",
+        "print (x) where e(x, y), e(y, x), x < 3;",
+        "delete e(1, 2); print (x) where e(x, y), r(y), e(y, x);",
+        "print (x) where e(x, y), e(y, x);",
+        "insert e(1, 2); insert e(20, 1); print (y) where e(x, y), e(y, x);",
+    ],
+};
 
-/// The programs of a mixed batch, which come round again.
-pub(crate) const MIXED: [&str; 12] = [
-    "insert r(0); print (x) where r(x);",
-    TAKING,
-    "delete r(2); print (x) where r(x);",
-    "insert r(3); print (x) where r(x);",
-    TAKING,
-    REMOVING,
-    "insert r(2); print (x) where r(x);",
-    TAKING,
-    "delete r(0); print (x) where r(x);",
-    ADDING,
-    TAKING,
-    "delete r(3); print (x) where r(x);",
-];
+/// Programs that give keys values, also where a key has two rows.
+const KEYED: Batch<'static> = Batch {
+    pairs: Pairs::Keyed,
+    stock: "insert r(1); insert r(4); insert e(2, 3); insert e(2, 4);",
+    texts: &[
+        "insert e(1, 5);",
+        "insert e(1, 6); print (y) where e(1, y);",
+        "insert e(x, 7) where r(x); print (x, y) where e(x, y);",
+        "replace e(x, y) by e(x, z) where e(x, y), z = y + 1;",
+        "insert e(2, x) where r(x);",
+        "require some e(1, 8); delete e(1, y) where e(1, y);",
+    ],
+};
 
-/// All pairs of twelve.
-pub(crate) const PAIRS: &str =
-    "insert r(1); insert r(2); insert r(3); insert r(4); insert r(5); insert r(6); insert r(7); insert r(8); insert r(9); insert r(10); insert r(11); insert r(12); insert e(x, y) where r(x), r(y);";
-
-/// Dear programs over these. The first ones read nothing that those before them write, of the others some do.
-pub(crate) const DEAR: [&str; 8] = [
-    "print (x) where e(x, y), e(y, x);",
-    "print (y) where e(x, y), e(y, x), x < y;",
-    "insert r(20); print (x) where e(x, y), e(y, x);",
-    "print (x) where r(x), e(x, y), e(y, x);",
-    "print (x) where e(x, y), e(y, x), x < 3;",
-    "delete e(1, 2); print (x) where e(x, y), r(y), e(y, x);",
-    "print (x) where e(x, y), e(y, x);",
-    "insert e(1, 2); insert e(20, 1); print (y) where e(x, y), e(y, x);",
-];
+/// Programs that are refused behind statements that wrote, and others between them.
+const REFUSED: Batch<'static> = Batch {
+    pairs: Pairs::Keyed,
+    stock: "insert r(1); insert r(4); insert e(2, 3); insert e(4, 4);",
+    texts: &[
+        "insert r(1); insert e(1, 5); delete e(2, 3); insert e(1, 6); require some e(1, 5);",
+        "insert e(3, 1); insert e(x, y) where r(x), e(3, y); print (x, y) where e(x, y);",
+        "insert r(9); delete r(4); insert e(9, x) where r(x); print (x) where r(x);",
+        "replace e(x, y) by e(x, z) where e(x, y), z = y + 1; delete r(x) where r(x); require some r(x);",
+        "replace e(x, y) by e(7, y) where e(x, y); insert r(7);",
+        "delete e(x, y) where e(x, y), r(x); insert e(1, 2); insert r(5); require none r(5);",
+        "insert r(6); print (x) where r(x);",
+        "insert e(6, 6); insert e(6, 7); delete e(1, y) where e(1, y); require none e(6, 7); insert r(8);",
+    ],
+};
 
 /// Whether these are the replies and the marks of the runs.
-pub(crate) fn are_same_runs(replies: &[Reply], effects: &[Marks], runs: &[Ran]) -> bool {
+fn are_same_runs(replies: &[Reply], effects: &[Marks], runs: &[Ran]) -> bool {
     if replies.len() != runs.len() || effects.len() != runs.len() {
         return false;
     }
@@ -75,16 +111,6 @@ pub(crate) fn are_same_runs(replies: &[Reply], effects: &[Marks], runs: &[Ran]) 
         }
     }
     true
-}
-
-/// Whether r has the row of this cell.
-fn has(alloc: Global, db: &Database, cell: Key) -> bool {
-    db.has(0, &Row::from_cells(alloc, &[cell]))
-}
-
-/// Whether the row of this cell is the only one of r.
-fn is_only(alloc: Global, db: &Database, cell: Key) -> bool {
-    count(db, 0) == 1 && has(alloc, db, cell)
 }
 
 /// Whether these are the rows of the relation.
@@ -98,31 +124,20 @@ fn are_its_rows(db: &Database, relation: u32, rows: &[Row]) -> bool {
 }
 
 /// Whether the database has exactly these two relations.
-pub(crate) fn has_relations(db: &Database, relations: &[RowList]) -> bool {
+fn has_relations(db: &Database, relations: &[RowList]) -> bool {
     match relations {
-        [r, e] => {
-            db.count() == 2
-                && are_its_rows(db, 0, r.as_slice())
-                && are_its_rows(db, 1, e.as_slice())
-        }
+        [r, e] => are_its_rows(db, 0, r.as_slice()) && are_its_rows(db, 1, e.as_slice()),
         _ => false,
     }
 }
 
-/// Whether the batch answered, wrote and left what its programs do one after another.
-pub(crate) fn is_serial(out: &Outcome, serial: &Serial) -> bool {
-    are_same_runs(out.replies.as_slice(), out.effects.as_slice(), &serial.runs)
-        && has_relations(&out.db, &serial.relations)
-        && out.circuit.settled()
-}
-
-/// What a batch does where r has the rows that these statements leave.
+/// What a batch does as a circuit where r and e have the rows that these statements leave.
 #[tactic(auto, using(crate::proofs::Fitting::all_fit))]
 fn ran<R: Threads + Wait + Sync>(
     rt: &R,
     alloc: Global,
     stock: &str,
-    progs: &[Arc<Prog>],
+    progs: &[Arc<Planned>],
     workers: u32,
 ) -> Result<Outcome, NoMemory>
     requires few { length progs.now ≤ 256 }
@@ -134,12 +149,30 @@ fn ran<R: Threads + Wait + Sync>(
     Ok(out)
 }
 
-/// Whether a batch does what its programs do one after another.
-fn does<R: Threads + Wait + Sync>(
+/// What it does in order.
+#[tactic(auto, using(crate::proofs::Fitting::all_fit))]
+fn folded<R: Threads + Wait + Sync>(
     rt: &R,
     alloc: Global,
     stock: &str,
-    progs: &[Arc<Prog>],
+    progs: &[Arc<Planned>],
+    workers: u32,
+) -> Result<Folded, NoMemory>
+    requires few { length progs.now ≤ 256 }
+    requires workers { (1 ≤ workers) × (workers ≤ 16) }
+    requires fit { AllByRecursion FitsBoth (map arc_value progs.now) }
+{
+    let db = stocked(rt, alloc, stock)?;
+    let out = fold_batch(rt, alloc, &db, progs, true, workers, &OpenGate)?;
+    Ok(out)
+}
+
+/// Whether the batch as a circuit does what its programs do one after another.
+fn is_circuit_serial<R: Threads + Wait + Sync>(
+    rt: &R,
+    alloc: Global,
+    stock: &str,
+    progs: &[Arc<Planned>],
     serial: &Serial,
     workers: u32,
 ) -> Result<bool, NoMemory>
@@ -148,214 +181,128 @@ fn does<R: Threads + Wait + Sync>(
     requires fit { AllByRecursion FitsBoth (map arc_value progs.now) }
 {
     let out = ran(rt, alloc, stock, progs, workers)?;
-    let is_so = is_serial(&out, serial);
+    let is_so = are_same_runs(out.replies.as_slice(), out.effects.as_slice(), &serial.runs)
+        && has_relations(&out.db, &serial.relations);
     drop(out);
     Ok(is_so)
 }
 
-/// Whether a mixed batch answers, writes and leaves what its programs do one after another.
-fn agrees<R: Threads + Wait + Sync>(
-    rt: &R,
-    alloc: Global,
-    count: usize,
-    workers: u32,
-) -> Result<bool, NoMemory>
-    requires few { count ≤ 256 }
-    requires workers { (1 ≤ workers) × (workers ≤ 16) }
-{
-    let progs = programs(alloc, &MIXED, count)?;
-    let serial = one_after_another(alloc, "", &progs)?;
-    does(rt, alloc, "", &progs, &serial, workers)
-}
-
-/// Whether a batch of dear programs, some of them tied to others, does what they do one after another.
-fn dear_agree<R: Threads + Wait + Sync>(
-    rt: &R,
-    alloc: Global,
-    count: usize,
-    workers: u32,
-) -> Result<bool, NoMemory>
-    requires few { count ≤ 256 }
-    requires workers { (1 ≤ workers) × (workers ≤ 16) }
-{
-    let progs = programs(alloc, &DEAR, count)?;
-    let serial = one_after_another(alloc, PAIRS, &progs)?;
-    does(rt, alloc, PAIRS, &progs, &serial, workers)
-}
-
-/// Programs that insert into e as a relation with a key column and a value column, on two rows of one key, too.
-pub(crate) const KEYED: [&str; 6] = [
-    "insert e(1, 5);",
-    "insert e(1, 6); print (y) where e(1, y);",
-    "insert e(x, 7) where r(x); print (x, y) where e(x, y);",
-    "replace e(x, y) by e(x, z) where e(x, y), z = y + 1;",
-    "insert e(2, x) where r(x);",
-    "require some e(1, 8); delete e(1, y) where e(1, y);",
-];
-
-/// Whether a batch of such programs does what they do one after another, where e had two rows of one key.
-fn keys_agree<R: Threads + Wait + Sync>(
-    rt: &R,
-    alloc: Global,
-    count: usize,
-    workers: u32,
-) -> Result<bool, NoMemory>
-    requires few { count ≤ 256 }
-    requires workers { (1 ≤ workers) × (workers ≤ 16) }
-{
-    let stock = "insert r(1); insert r(4); insert e(2, 3); insert e(2, 4);";
-    let progs = programs_over(alloc, Pairs::Keyed, &KEYED, count)?;
-    let serial = one_after_another(alloc, stock, &progs)?;
-    does(rt, alloc, stock, &progs, &serial, workers)
-}
-
-/// Two programs give one key values, and then others.
-#[test]
-fn batches_that_give_keys_values_are_serial(rt: HostRuntime) -> Result<(), NoMemory> {
-    for count in [2usize, 3, 6, 32] {
-        for workers in [1u32, 2, 4] {
-            holds(&rt, keys_agree(&rt, rt.alloc(), count, workers)?);
-        }
-    }
-    Ok(())
-}
-
-/// Two programs that insert rows of one key.
-const INSERTING: [&str; 2] = ["insert e(1, 5);", "insert e(1, 6);"];
-
-/// Whether the second of these programs can begin on the snapshot for good, as it reads nothing that the first writes.
-#[tactic(auto, using(crate::proofs::Fitting::all_fit))]
-fn is_free<R: Threads + Sync>(rt: &R, alloc: Global, progs: &[Arc<Prog>]) -> Result<bool, NoMemory>
-    requires { AllByRecursion FitsBoth (map arc_value progs.now) }
-{
-    let db = bare(alloc)?;
-    let work = BatchWork::new(rt, alloc, &db, progs)?;
-    let is_free = work.is_free(1);
-    drop(work);
-    Ok(is_free)
-}
-
-/// Whether the second of two inserts is, where e is declared so.
-fn is_second_free<R: Threads + Sync>(
-    rt: &R,
-    alloc: Global,
-    pairs: Pairs,
-) -> Result<bool, NoMemory> {
-    let progs = programs_over(alloc, pairs, &INSERTING, 2)?;
-    is_free(rt, alloc, &progs)
-}
-
-/// A plain insert reads nothing, and one that displaces rows reads its own relation.
-#[test]
-fn a_displacing_insert_waits_for_others(rt: HostRuntime) -> Result<(), NoMemory> {
-    let alloc = rt.alloc();
-    holds(&rt, is_second_free(&rt, alloc, Pairs::Plain)?);
-    holds(&rt, !is_second_free(&rt, alloc, Pairs::Keyed)?);
-    Ok(())
-}
-
-#[test]
-fn mixed_batches_are_serial(rt: HostRuntime) -> Result<(), NoMemory> {
-    for count in [0usize, 1, 2, 3, 4, 5, 6, 7, 8, 64, 256] {
-        for workers in [1u32, 2, 3, 4, 16] {
-            holds(&rt, agrees(&rt, rt.alloc(), count, workers)?);
-        }
-    }
-    Ok(())
-}
-
-#[test]
-fn batches_of_dear_programs_are_serial(rt: HostRuntime) -> Result<(), NoMemory> {
-    for workers in [1u32, 2, 3, 4, 16] {
-        holds(&rt, dear_agree(&rt, rt.alloc(), 8, workers)?);
-        holds(&rt, dear_agree(&rt, rt.alloc(), 16, workers)?);
-    }
-    Ok(())
-}
-
-/// How many programs were refused at their first statement.
-fn refused(replies: &[Reply]) -> usize {
-    let mut count = 0;
-    for reply in replies {
-        match reply {
-            Reply::Refused(1) => count += 1,
-            _ => {}
-        }
-    }
-    count
-}
-
-/// What so many programs that each take one do where r has the rows that these statements leave.
-fn taken<R: Threads + Wait + Sync>(
+/// Whether the batch in order does.
+fn is_fold_serial<R: Threads + Wait + Sync>(
     rt: &R,
     alloc: Global,
     stock: &str,
-    count: usize,
-) -> Result<Outcome, NoMemory>
-    requires { count ≤ 256 }
+    progs: &[Arc<Planned>],
+    serial: &Serial,
+    workers: u32,
+) -> Result<bool, NoMemory>
+    requires few { length progs.now ≤ 256 }
+    requires workers { (1 ≤ workers) × (workers ≤ 16) }
+    requires fit { AllByRecursion FitsBoth (map arc_value progs.now) }
 {
-    let progs = programs(alloc, &[TAKING], count)?;
-    ran(rt, alloc, stock, &progs, 2)
-}
-
-/// Whether two of three programs took one of two, and the third was refused.
-fn are_two_taken(alloc: Global, out: &Outcome) -> bool {
-    let marks = [(ZERO, true), (ZERO + 1, false), (ZERO + 2, false)];
-    out.replies.len() == 3
-        && refused(out.replies.as_slice()) == 1
-        && are_marks(alloc, out.circuit.root_effect(), &marks)
-        && is_only(alloc, &out.db, ZERO)
-}
-
-/// Three take one of two: the third finds none.
-#[test]
-fn the_third_finds_none(rt: HostRuntime) -> Result<(), NoMemory> {
-    let alloc = rt.alloc();
-    let out = taken(&rt, alloc, "insert r(2);", 3)?;
-    holds(&rt, are_two_taken(alloc, &out));
+    let out = folded(rt, alloc, stock, progs, workers)?;
+    let is_so = are_same_runs(out.replies.as_slice(), out.effects.as_slice(), &serial.runs)
+        && has_relations(&out.db, &serial.relations);
     drop(out);
-    Ok(())
+    Ok(is_so)
 }
 
-/// Of 256 that each take one of 100 the last 156 find none.
-#[test]
-fn a_hundred_are_taken(rt: HostRuntime) -> Result<(), NoMemory> {
-    let alloc = rt.alloc();
-    let out = taken(&rt, alloc, "insert r(100);", 256)?;
-    same(&rt, refused(out.replies.as_slice()), 156);
-    holds(&rt, is_only(alloc, &out.db, ZERO));
-    drop(out);
-    Ok(())
-}
-
-/// What the insertion of 1, its deletion and its insertion again do.
-fn inserted_again<R: Threads + Wait + Sync>(rt: &R, alloc: Global) -> Result<Outcome, NoMemory> {
-    let progs = programs(alloc, &[ADDING, REMOVING], 3)?;
-    ran(rt, alloc, "", &progs, 1)
-}
-
-/// Whether the second program's effect is this mark.
-fn second_did(alloc: Global, effects: &[Marks], mark: (Key, bool)) -> bool {
-    match effects.get(1) {
-        Some(effect) => are_marks(alloc, effect, &[mark]),
-        None => false,
+/// Whether so many programs, in the order of the texts and again from the first, do both ways what they do one after another. Where
+/// there are no texts, or too many programs or workers, the answer is as if memory had ended.
+fn agrees<R: Threads + Wait + Sync>(
+    rt: &R,
+    alloc: Global,
+    batch: Batch,
+    count: usize,
+    workers: u32,
+) -> Result<bool, NoMemory> {
+    if batch.texts.len() == 0 || count > 256 || workers == 0 || workers > 16 {
+        return Err(NoMemory);
     }
+    let progs = programs_over(alloc, batch.pairs, batch.texts, count)?;
+    let serial = one_after_another(alloc, batch.stock, &progs)?;
+    let is_circuit_so = is_circuit_serial(rt, alloc, batch.stock, &progs, &serial, workers)?;
+    let is_fold_so = is_fold_serial(rt, alloc, batch.stock, &progs, &serial, workers)?;
+    Ok(is_circuit_so && is_fold_so)
 }
 
-/// Whether the row of 1 is there, by the mark + of the whole batch, after the second program's mark -.
-fn is_there_again(alloc: Global, out: &Outcome) -> bool {
-    let one = ZERO + 1;
-    are_marks(alloc, out.circuit.root_effect(), &[(one, true)])
-        && second_did(alloc, out.effects.as_slice(), (one, false))
-        && has(alloc, &out.db, one)
+/// The first of these numbers of programs and workers with which a batch does something else.
+fn differs<R: Threads + Wait + Sync>(
+    rt: &R,
+    alloc: Global,
+    batch: Batch,
+    sizes: &[(usize, u32)],
+) -> Result<Option<(usize, u32)>, NoMemory> {
+    for (count, workers) in sizes {
+        if !agrees(rt, alloc, batch, *count, *workers)? {
+            return Ok(Some((*count, *workers)));
+        }
+    }
+    Ok(None)
 }
 
-/// Where r has 1, `delete r(1)` and then `insert r(1)`: the row stays, and the effect of both is its mark +.
 #[test]
-fn the_later_mark_stays(rt: HostRuntime) -> Result<(), NoMemory> {
-    let alloc = rt.alloc();
-    let out = inserted_again(&rt, alloc)?;
-    holds(&rt, is_there_again(alloc, &out));
+fn batches_are_serial(rt: HostRuntime) -> Result<(), NoMemory> {
+    for (row, batch, sizes) in [
+        (
+            "mixed",
+            MIXED,
+            [(0, 2), (1, 2), (7, 1), (64, 3), (256, 16)].as_slice(),
+        ),
+        ("keyed", KEYED, [(2, 2), (6, 1), (32, 4)].as_slice()),
+        ("refused", REFUSED, [(8, 1), (40, 4)].as_slice()),
+        ("dear", DEAR, [(12, 4), (80, 7)].as_slice()),
+    ] {
+        same_at(&rt, differs(&rt, rt.alloc(), batch, sizes)?, None, row);
+    }
+    Ok(())
+}
+
+/// Programs with long joins, each with what it prints. The first reads e and r, and the others what those before them write.
+const TEXTS: [&str; 4] = [
+    "insert r(z) where e(x, y), r(x), z = y + 1; print (x) where r(x), x > 4094;",
+    "delete r(x) where r(x), x > 2; print (x) where r(x);",
+    "delete e(x, y) where e(x, y), y > 3; print (x) where e(x, y), e(y, z);",
+    "insert r(y) where e(x, y), r(x); print (x) where r(x), x > 1;",
+];
+
+const PRINTS: [&[i64]; 4] = [&[4095, 4096, 4097], &[0, 1, 2], &[0, 1], &[2, 3]];
+
+/// Whether each reply is the print of its program.
+fn are_prints(alloc: Global, replies: &[Reply]) -> bool {
+    for (i, reply) in replies.iter().enumerate() {
+        if i >= PRINTS.len() || !is_print(alloc, reply, PRINTS[i]) {
+            return false;
+        }
+    }
+    true
+}
+
+/// Whether the first of these programs print so on the long relations.
+fn prints_long<R: Threads + Wait + Sync>(
+    rt: &R,
+    alloc: Global,
+    count: usize,
+    workers: u32,
+) -> Result<bool, NoMemory>
+    requires few { count ≤ 4 }
+    requires workers { (1 ≤ workers) × (workers ≤ 16) }
+{
+    let progs = programs(alloc, &TEXTS, count)?;
+    let out = ran(rt, alloc, LONG, &progs, workers)?;
+    let is_so = out.replies.len() == count && are_prints(alloc, out.replies.as_slice());
     drop(out);
+    Ok(is_so)
+}
+
+/// Where there are fewer programs than workers, these begin the first ones together.
+#[test]
+fn workers_begin_a_short_batch_together(rt: HostRuntime) -> Result<(), NoMemory> {
+    for count in [1usize, 2, 4] {
+        for workers in [1u32, 2, 4] {
+            let is_so = prints_long(&rt, rt.alloc(), count, workers)?;
+            holds_of(&rt, is_so, &[count, workers as usize]);
+        }
+    }
     Ok(())
 }

@@ -9,27 +9,15 @@ ghost use Rattle.lt_run_trials.specs.Fitting.{AreBoth, FitsBoth};
 ghost use Rattle.lt_run_trials.specs.Opening.{BeginsWithBoth, IsOpening};
 
 use crate::agree::holds;
-use crate::comparing::are_int_rows;
+use crate::comparing::is_print;
 use crate::texts::{program, routed, stocked};
 use lt_base::Database;
 use lt_face::memory::NoMemory;
-use lt_model::reply::Reply;
 use lt_query::Planned;
 use lt_readers::{Board, Poster, Reader};
 use std::alloc::Global;
 use std::sync::{Arc, Wait};
 use std::thread::Threads;
-
-/// Whether the reply is one print of these ints.
-fn is_print(alloc: Global, reply: &Reply, ints: &[i64]) -> bool {
-    match reply {
-        Reply::Done(prints) => match prints.as_slice() {
-            [print] => are_int_rows(alloc, print.rows.as_slice(), ints),
-            _ => false,
-        },
-        Reply::Refused(_) => false,
-    }
-}
 
 /// Whether a reader prints these ints, which stand in the version of this number, and has seen that.
 fn prints<R: Threads + Sync>(

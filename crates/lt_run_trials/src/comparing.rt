@@ -1,10 +1,10 @@
-//! Replies, prints, rows, marks and databases, compared.
-use lt_base::{Database, Rows};
+//! Replies, prints, rows, marks and journals, compared.
+use lt_base::Database;
+use lt_circuit::{Entry, Event, JobName};
 use lt_delta::{Mark, Marks};
+use lt_face::RowReads;
 use lt_face::key::Key;
 use lt_face::row::Row;
-use lt_face::row_set::RowReads;
-use lt_face::walk::RowWalk;
 use lt_model::reply::{Printed, Reply};
 use lt_values::cell_of_int;
 use std::alloc::Global;
@@ -25,6 +25,17 @@ pub(crate) fn are_int_rows(alloc: Global, rows: &[Row], ints: &[i64]) -> bool {
         }
     }
     true
+}
+
+/// Whether the reply is one print of these ints.
+pub(crate) fn is_print(alloc: Global, reply: &Reply, ints: &[i64]) -> bool {
+    match reply {
+        Reply::Done(prints) => match prints.as_slice() {
+            [print] => are_int_rows(alloc, print.rows.as_slice(), ints),
+            _ => false,
+        },
+        Reply::Refused(_) => false,
+    }
 }
 
 /// Whether it is the mark of this cell in the relation 0.
@@ -63,25 +74,14 @@ fn are_same_prints(a: &[Printed], b: &[Printed]) -> bool {
     true
 }
 
-/// Whether the reply is a refusal at this statement.
-pub(crate) fn is_refused(reply: &Reply, statement: u32) -> bool {
-    match reply {
-        Reply::Refused(at) => *at == statement,
-        Reply::Done(_) => false,
-    }
-}
-
 /// Whether two replies are the same.
 pub(crate) fn is_same_reply(a: &Reply, b: &Reply) -> bool {
-    match a {
-        Reply::Done(prints) => match b {
-            Reply::Done(others) => are_same_prints(prints.as_slice(), others.as_slice()),
-            Reply::Refused(_) => false,
-        },
-        Reply::Refused(j) => match b {
-            Reply::Done(_) => false,
-            Reply::Refused(k) => *j == *k,
-        },
+    match (a, b) {
+        (Reply::Done(prints), Reply::Done(others)) => {
+            are_same_prints(prints.as_slice(), others.as_slice())
+        }
+        (Reply::Refused(j), Reply::Refused(k)) => *j == *k,
+        _ => false,
     }
 }
 
@@ -93,31 +93,26 @@ pub(crate) fn count(db: &Database, relation: u32) -> usize {
     }
 }
 
-/// Whether both have the same rows.
-fn are_same_rows(alloc: Global, some: &Rows, others: &Rows) -> bool {
-    let mut walk = RowWalk::over(alloc, some);
-    for _ in 0..some.len() {
-        match walk.next_row() {
-            Some(row) => {
-                if !others.has(row) {
-                    return false;
-                }
-            }
-            None => return false,
-        }
-    }
-    some.len() == others.len()
+/// Whether the entry is this worker's, with this code: three times the job's, and 1 more where the job was done, 2 more where it was
+/// given up.
+fn is_entry(entry: &Entry, worker: u32, code: u32) -> bool {
+    let event = match code % 3 {
+        0 => Event::Claim,
+        1 => Event::Finish,
+        _ => Event::Abandon,
+    };
+    entry.worker == worker && entry.job == JobName::of(code / 3) && entry.event == event
 }
 
-/// Whether both have the same rows of a relation.
-pub(crate) fn have_same_rows(
-    alloc: Global,
-    one: &Database,
-    other: &Database,
-    relation: u32,
-) -> bool {
-    match (one.rows(relation), other.rows(relation)) {
-        (Some(some), Some(others)) => are_same_rows(alloc, some, others),
-        _ => false,
+/// Whether these are the workers and codes of the entries.
+pub(crate) fn is_journal(journal: &[Entry], events: &[(u32, u32)]) -> bool {
+    if journal.len() != events.len() {
+        return false;
     }
+    for (i, (worker, code)) in events.iter().enumerate() {
+        if !is_entry(&journal[i], *worker, *code) {
+            return false;
+        }
+    }
+    true
 }

@@ -1,7 +1,7 @@
 //! Lines that workers settle, and what is handed on of them.
 ghost use Rattle.std.specs.Prelude.{◌≤◌, ⊤};
 
-use crate::agree::holds;
+use crate::agree::{holds, holds_of};
 use crate::comparing::are_marks;
 use crate::sample::Sample;
 use lt_circuit::Line;
@@ -25,12 +25,12 @@ struct Kept {
 }
 
 /// Nothing was handed on yet.
-fn nothing_kept(alloc: Global, refused: u32) -> Result<Kept, NoMemory> {
-    Ok(Kept {
+fn nothing_kept(alloc: Global, refused: u32) -> Kept {
+    Kept {
         effects: Vec::new(alloc),
         segments: Vec::new(alloc),
         refused,
-    })
+    }
 }
 
 impl OnFinal for Kept {
@@ -74,7 +74,7 @@ fn hands_on<R: Threads + Wait + Sync, G: Gate>(
 ) -> Result<bool, NoMemory>
     requires { (1 ≤ workers) × (workers ≤ 16) }
 {
-    let mut kept = nothing_kept(alloc, refused)?;
+    let mut kept = nothing_kept(alloc, refused);
     let work = Arc::new(alloc, Sample { alloc })?;
     let line = Line::start(alloc, work, &[2, 1, 1])?;
     let line = settle_line(rt, alloc, line, workers, gate, &mut kept)?;
@@ -84,11 +84,14 @@ fn hands_on<R: Threads + Wait + Sync, G: Gate>(
     Ok(is_so)
 }
 
+/// Also where the second segment is refused at first.
 #[test]
 fn what_is_final_is_handed_on_in_order(rt: HostRuntime) -> Result<(), NoMemory> {
-    for workers in 1..4 {
-        holds(&rt, hands_on(&rt, rt.alloc(), workers, &OpenGate, 9)?);
-        holds(&rt, hands_on(&rt, rt.alloc(), workers, &OpenGate, 1)?);
+    for refused in [9u32, 1] {
+        for workers in [1u32, 2, 3] {
+            let is_so = hands_on(&rt, rt.alloc(), workers, &OpenGate, refused)?;
+            holds_of(&rt, is_so, &[refused as usize, workers as usize]);
+        }
     }
     Ok(())
 }

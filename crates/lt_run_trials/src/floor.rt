@@ -1,10 +1,10 @@
-//! Two workers at a circuit, driven by the entries of a journal.
+//! Two workers at a circuit, driven by the codes of a journal.
 ghost use Rattle.std.specs.Prelude.{◌≡◌, ◌≢◌, ◌<◌, ◌≤◌, ℕ, None, IfOk};
 ghost use Rattle.lt_net.specs.Alone.{IsUnclaimed};
 ghost use Rattle.lt_circuit.specs.Circuit.{CircuitView, state};
 ghost use Rattle.lt_circuit.specs.Hands.{AreInHand, IsInHand};
 
-use lt_circuit::{Circuit, Claim, Entry, Event, Job, JobName, LeafWork, This};
+use lt_circuit::{Circuit, Claim, Job, JobName, LeafWork, This};
 use lt_face::{Moves, NoMemory};
 use std::alloc::Global;
 use std::marker::Model;
@@ -90,39 +90,12 @@ fn end<W: LeafWork>(
     }
 }
 
-/// The job's code, where its leaf or its node is below a million.
-fn small_code(job: JobName) -> Option<u32> {
-    match job {
-        JobName::Leaf(leaf) => {
-            if leaf < 1_000_000 {
-                Some(JobName::Leaf(leaf).code())
-            } else {
-                None
-            }
-        }
-        JobName::Merge(node) => {
-            if node < 1_000_000 {
-                Some(JobName::Merge(node).code())
-            } else {
-                None
-            }
-        }
-        JobName::Correct(node) => {
-            if node < 1_000_000 {
-                Some(JobName::Correct(node).code())
-            } else {
-                None
-            }
-        }
-    }
-}
-
-/// What the entry says. It tells whether it could be done.
+/// The event of this code: a claim of the job, or an end of what the worker holds. It tells whether it could be done.
 fn act<W: LeafWork>(
     circuit: &mut Circuit<W>,
     hand: &mut Option<Job<W>>,
     worker: u32,
-    entry: Entry,
+    code: u32,
 ) -> bool
     requires worker { worker < 16 }
     requires hand { IsInHand circuit.old worker hand.old }
@@ -131,13 +104,10 @@ fn act<W: LeafWork>(
     ensures work { circuit.new.work ≡ circuit.old.work }
     ensures others { (v : ℕ) → v ≢ worker → (state circuit.new).claim v ≡ (state circuit.old).claim v }
 {
-    match entry.event {
-        Event::Claim => match small_code(entry.job) {
-            Some(code) => begin(circuit, hand, worker, code),
-            None => false,
-        },
-        Event::Finish => end(circuit, hand, worker, true),
-        Event::Abandon => end(circuit, hand, worker, false),
+    match code % 3 {
+        0 => begin(circuit, hand, worker, code / 3),
+        1 => end(circuit, hand, worker, true),
+        _ => end(circuit, hand, worker, false),
     }
 }
 
@@ -217,24 +187,24 @@ impl<W: LeafWork> Floor<W> {
         }
     }
 
-    /// What the entry says. It tells whether it could be done.
-    fn act(&mut self, entry: Entry) -> bool
+    /// The event of this worker and code. It tells whether it could be done.
+    fn act(&mut self, worker: u32, code: u32) -> bool
         ensures leaves { self.new.board.leaves ≡ self.old.board.leaves }
     {
-        if entry.worker == 0 {
-            act(&mut self.circuit, &mut self.first, 0, entry)
+        if worker == 0 {
+            act(&mut self.circuit, &mut self.first, 0, code)
         } else {
-            act(&mut self.circuit, &mut self.second, 1, entry)
+            act(&mut self.circuit, &mut self.second, 1, code)
         }
     }
 
-    /// What the entries say, in turn. It tells how many could be done.
-    pub fn follow(&mut self, entries: &[Entry]) -> usize
+    /// The events of these workers and codes, in turn. It tells how many could be done.
+    pub fn follow(&mut self, events: &[(u32, u32)]) -> usize
         ensures leaves { self.new.board.leaves ≡ self.old.board.leaves }
     {
         let mut done: usize = 0;
-        for entry in entries {
-            if self.act(*entry) {
+        for event in events {
+            if self.act(event.0, event.1) {
                 done = done.saturating_add(1);
             }
         }

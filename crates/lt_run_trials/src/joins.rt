@@ -8,7 +8,7 @@ ghost use Rattle.lt_query.specs.Runnable.{AreWide};
 ghost use Rattle.lt_program.specs.Planned.{IsPlanned, ArePicked};
 ghost use Rattle.lt_program.specs.Tally.{HasIndexesOf};
 
-use crate::agree::holds;
+use crate::agree::holds_at;
 use crate::comparing::{are_int_rows, int_row};
 use crate::texts::{ZERO, program, routed, stocked};
 use lt_base::Database;
@@ -122,125 +122,6 @@ fn found<R: Threads + Sync>(
     }
 }
 
-/// Whether a print answers these ints, also where nothing is kept.
-fn finds<R: Threads + Sync>(
-    rt: &R,
-    alloc: Global,
-    stock: &str,
-    statement: &str,
-    ints: &[i64],
-) -> Result<bool, NoMemory> {
-    let found = found(rt, alloc, stock, statement)?;
-    let same = are_int_rows(alloc, found.rows.as_slice(), ints);
-    let alone = are_int_rows(alloc, found.alone.as_slice(), ints);
-    Ok(same && alone)
-}
-
-#[test]
-fn bodies_have_their_answers(rt: HostRuntime) -> Result<(), NoMemory> {
-    let pairs = "insert e(1, 1); insert e(1, 2); insert e(2, 1); insert e(3, 3);";
-    for (stock, statement, ints) in [
-        // a range and a pin
-        (
-            "insert r(1); insert r(9);",
-            "print (x) where r(x), x > 3;",
-            [9].as_slice(),
-        ),
-        (
-            "insert r(1); insert r(9);",
-            "print (x) where r(x), x = 1;",
-            [1].as_slice(),
-        ),
-        // both bounds, by a constant and by a variable of an earlier level, on either side
-        (
-            "insert r(1); insert r(3); insert r(5); insert r(7); insert r(9);",
-            "print (x) where r(x), 3 < x, x <= 7;",
-            [5, 7].as_slice(),
-        ),
-        (
-            "insert r(2); insert r(3); insert e(2, 1); insert e(2, 3); insert e(3, 1); insert e(3, 5);",
-            "print (y) where r(x), e(x, y), x < y;",
-            [3, 5].as_slice(),
-        ),
-        // a range between two unequal keys, and one without a key
-        (
-            "insert r(1); insert r(3); insert r(9);",
-            "print (x) where r(x), x != 3, x >= 3;",
-            [9].as_slice(),
-        ),
-        (
-            "insert r(1); insert r(9);",
-            "print (x) where r(x), x > 3, x < 2;",
-            [].as_slice(),
-        ),
-        // a key that is reckoned from one above, and a bound that is
-        (
-            "insert r(1); insert r(2); insert r(4); insert r(5);",
-            "print (y) where r(x), r(y), y = x + 1;",
-            [2, 5].as_slice(),
-        ),
-        (
-            "insert r(1); insert r(2); insert r(4); insert r(5);",
-            "print (y) where r(x), r(y), m = x + 2, y > m;",
-            [4, 5].as_slice(),
-        ),
-        // the least, and those for which another is there
-        (
-            "insert r(4); insert r(7); insert r(9);",
-            "print (x) where r(x), r(y), y < x;",
-            [7, 9].as_slice(),
-        ),
-        (
-            "insert e(1, 1); insert e(1, 2); insert e(2, 5); insert r(1); insert r(2);",
-            "print (x) where r(x), e(x, y), not e(y, x);",
-            [1, 2].as_slice(),
-        ),
-        // a sum past the range of ints
-        (
-            "insert r(7); insert r(9223372036854775807);",
-            "print (y) where r(x), y = x + 1;",
-            [8].as_slice(),
-        ),
-        // a variable twice in an atom, and a constant in it
-        (pairs, "print (x) where e(x, x);", [1, 3].as_slice()),
-        (pairs, "print (x) where e(x, 1);", [1, 2].as_slice()),
-        // an answer of several assignments is given once
-        (
-            "insert e(1, 1); insert e(2, 1); insert e(2, 2); insert e(3, 1);",
-            "print (3) where e(x, 1);",
-            [3].as_slice(),
-        ),
-        // rows that are absent: one of two variables, one variable twice, one of a sum
-        (
-            "insert e(1, 2); insert e(2, 1); insert e(2, 3);",
-            "print (x) where e(x, y), not e(y, x);",
-            [2].as_slice(),
-        ),
-        (
-            "insert r(1); insert r(2); insert e(1, 1); insert e(2, 1);",
-            "print (x) where not e(x, x), r(x);",
-            [2].as_slice(),
-        ),
-        (
-            "insert r(1); insert r(2); insert r(4);",
-            "print (x) where r(x), not r(y), y = x + 1;",
-            [2, 4].as_slice(),
-        ),
-        // absent rows alone
-        ("insert r(1);", "print (3) where not r(2);", [3].as_slice()),
-        ("insert r(1);", "print (3) where not r(1);", [].as_slice()),
-        // triangles
-        (
-            "insert e(1, 2); insert e(2, 3); insert e(1, 3); insert e(3, 1); insert e(3, 4); insert e(1, 4); insert e(4, 2);",
-            "print (z) where e(x, y), e(y, z), e(x, z);",
-            [2, 3, 4].as_slice(),
-        ),
-    ] {
-        holds(&rt, finds(&rt, rt.alloc(), stock, statement, ints)?);
-    }
-    Ok(())
-}
-
 /// Whether these are the rows of the hits, in the order in which they were met.
 fn are_hits(alloc: Global, hits: &[Hit], ints: &[i64]) -> bool {
     if hits.len() != ints.len() {
@@ -255,7 +136,7 @@ fn are_hits(alloc: Global, hits: &[Hit], ints: &[i64]) -> bool {
 }
 
 /// Whether these are the lower and upper bounds of the gaps, in the order in which they were met.
-fn are_gaps(gaps: &[KeptGap], bounds: &[(Key, Key)]) -> bool {
+pub(crate) fn are_bounds(gaps: &[KeptGap], bounds: &[(Key, Key)]) -> bool {
     if gaps.len() != bounds.len() {
         return false;
     }
@@ -267,136 +148,159 @@ fn are_gaps(gaps: &[KeptGap], bounds: &[(Key, Key)]) -> bool {
     true
 }
 
-/// What a statement's evaluation is sensitive to: its gaps and hits, and whether these cover 4, and 20.
+/// What a print answers, also where nothing is kept, or whether a requirement's body has an answer; and what that is sensitive to: gaps
+/// and hits, and whether these cover 4, and 20.
 #[derive(Clone, Copy)]
-struct Sensitive<'a> {
+struct Want<'a> {
+    rows: &'a [i64],
+    any: bool,
     gaps: &'a [(Key, Key)],
     hits: &'a [i64],
     covers: (bool, bool),
 }
 
 /// Whether a sense is this one.
-fn is_sense(alloc: Global, sense: &Sense, want: &Sensitive) -> Result<bool, NoMemory> {
+fn is_sense(alloc: Global, sense: &Sense, want: &Want) -> Result<bool, NoMemory> {
     let gaps = sense.kept_gaps()?;
     let hits = sense.kept_hits()?;
     Ok(
-        are_gaps(gaps.as_slice(), want.gaps)
+        are_bounds(gaps.as_slice(), want.gaps)
             && are_hits(alloc, hits.as_slice(), want.hits)
             && sense.covers(0, &int_row(alloc, 4)) == want.covers.0
             && sense.covers(0, &int_row(alloc, 20)) == want.covers.1,
     )
 }
 
-/// Whether a statement's body has an answer or none, and its sense is this one.
-fn senses<R: Threads + Sync>(
+/// Whether a statement finds this on the rows that others have left.
+fn finds<R: Threads + Sync>(
     rt: &R,
     alloc: Global,
     stock: &str,
     statement: &str,
-    any: bool,
-    want: &Sensitive,
+    want: &Want,
 ) -> Result<bool, NoMemory> {
     let found = found(rt, alloc, stock, statement)?;
-    let same = is_sense(alloc, &found.sense, want)?;
-    Ok(found.any == any && same)
+    let sensed = is_sense(alloc, &found.sense, want);
+    let is_so = found.any == want.any
+        && are_int_rows(alloc, found.rows.as_slice(), want.rows)
+        && are_int_rows(alloc, found.alone.as_slice(), want.rows);
+    drop(found);
+    Ok(is_so && sensed?)
 }
 
 const ONE: Key = ZERO + 1;
 
 const NINE: Key = ZERO + 9;
 
+const TWO_ROWS: &str = "insert r(1); insert r(9);";
+
+/// Statements on the rows that others have left, and what they find.
+const TABLE: [(&str, &str, Want<'static>); 8] = [
+    // a range passes all
+    (
+        TWO_ROWS,
+        "print (x) where r(x), x > 3;",
+        Want {
+            rows: &[9],
+            any: true,
+            gaps: &[(0, ONE), (ONE + 1, NINE), (NINE + 1, END)],
+            hits: &[1, 9],
+            covers: (true, true),
+        },
+    ),
+    // a pin ends its level with its find
+    (
+        TWO_ROWS,
+        "print (x) where r(x), x = 1;",
+        Want {
+            rows: &[1],
+            any: true,
+            gaps: &[(0, ONE)],
+            hits: &[1],
+            covers: (false, false),
+        },
+    ),
+    // a requirement stops at its first answer
+    (
+        "insert r(1); insert r(9); insert r(12);",
+        "require some r(x), x > 3;",
+        Want {
+            rows: &[],
+            any: true,
+            gaps: &[(0, ONE), (ONE + 1, NINE)],
+            hits: &[1, 9],
+            covers: (true, false),
+        },
+    ),
+    // one without an answer passes all of the range
+    (
+        "insert r(1); insert r(2); insert r(3);",
+        "require some r(x), x > 3;",
+        Want {
+            rows: &[],
+            any: false,
+            gaps: &[(0, ONE), (ONE + 3, END)],
+            hits: &[1],
+            covers: (true, true),
+        },
+    ),
+    // a range ends at its upper bound
+    (
+        TWO_ROWS,
+        "print (x) where r(x), x <= 3;",
+        Want {
+            rows: &[1],
+            any: true,
+            gaps: &[(0, ONE), (ONE + 1, NINE)],
+            hits: &[1],
+            covers: (true, false),
+        },
+    ),
+    // a requirement that is met by an absent row keeps its gap, and what it met before, each row once
+    (
+        "insert r(1); insert r(2); insert r(9);",
+        "require some r(x), not r(y), y = x + 1;",
+        Want {
+            rows: &[],
+            any: true,
+            gaps: &[(0, ONE), (ONE + 2, ONE + 3)],
+            hits: &[1, 2],
+            covers: (false, false),
+        },
+    ),
+    // an absent row alone, and a row that is there in its place
+    (
+        "insert r(1);",
+        "require some not r(4);",
+        Want {
+            rows: &[],
+            any: true,
+            gaps: &[(ONE + 3, ONE + 4)],
+            hits: &[],
+            covers: (true, false),
+        },
+    ),
+    (
+        "insert r(1);",
+        "require some not r(1);",
+        Want {
+            rows: &[],
+            any: false,
+            gaps: &[],
+            hits: &[1],
+            covers: (false, false),
+        },
+    ),
+];
+
 #[test]
 fn evaluations_leave_their_gaps_and_hits(rt: HostRuntime) -> Result<(), NoMemory> {
-    for (stock, statement, any, want) in [
-        // a range passes all
-        (
-            "insert r(1); insert r(9);",
-            "print (x) where r(x), x > 3;",
-            true,
-            Sensitive {
-                gaps: &[(0, ONE), (ONE + 1, NINE), (NINE + 1, END)],
-                hits: &[1, 9],
-                covers: (true, true),
-            },
-        ),
-        // a pin ends its level with its find
-        (
-            "insert r(1); insert r(9);",
-            "print (x) where r(x), x = 1;",
-            true,
-            Sensitive {
-                gaps: &[(0, ONE)],
-                hits: &[1],
-                covers: (false, false),
-            },
-        ),
-        // a requirement stops at its first answer
-        (
-            "insert r(1); insert r(9); insert r(12);",
-            "require some r(x), x > 3;",
-            true,
-            Sensitive {
-                gaps: &[(0, ONE), (ONE + 1, NINE)],
-                hits: &[1, 9],
-                covers: (true, false),
-            },
-        ),
-        // one without an answer passes all of the range
-        (
-            "insert r(1); insert r(2); insert r(3);",
-            "require some r(x), x > 3;",
-            false,
-            Sensitive {
-                gaps: &[(0, ONE), (ONE + 3, END)],
-                hits: &[1],
-                covers: (true, true),
-            },
-        ),
-        // a range ends at its upper bound
-        (
-            "insert r(1); insert r(9);",
-            "print (x) where r(x), x <= 3;",
-            true,
-            Sensitive {
-                gaps: &[(0, ONE), (ONE + 1, NINE)],
-                hits: &[1],
-                covers: (true, false),
-            },
-        ),
-        // a requirement that is met by an absent row keeps its gap, and what it met before, each row once
-        (
-            "insert r(1); insert r(2); insert r(9);",
-            "require some r(x), not r(y), y = x + 1;",
-            true,
-            Sensitive {
-                gaps: &[(0, ONE), (ONE + 2, ONE + 3)],
-                hits: &[1, 2],
-                covers: (false, false),
-            },
-        ),
-        // an absent row alone, and a row that is there in its place
-        (
-            "insert r(1);",
-            "require some not r(4);",
-            true,
-            Sensitive {
-                gaps: &[(ONE + 3, ONE + 4)],
-                hits: &[],
-                covers: (true, false),
-            },
-        ),
-        (
-            "insert r(1);",
-            "require some not r(1);",
-            false,
-            Sensitive {
-                gaps: &[],
-                hits: &[1],
-                covers: (false, false),
-            },
-        ),
-    ] {
-        holds(&rt, senses(&rt, rt.alloc(), stock, statement, any, &want)?);
+    for (stock, statement, want) in TABLE {
+        holds_at(
+            &rt,
+            finds(&rt, rt.alloc(), stock, statement, &want)?,
+            statement,
+        );
     }
     Ok(())
 }

@@ -1,4 +1,8 @@
-//! Joins, programs, circuits and batches, run as the database runs them, by hand, and as they are defined.
+//! Joins, programs, circuits and batches, run as the database runs them, by hand, and by plain loops.
+//!
+//! `texts` has programs as text and their databases, `sampled` draws them, `serial` runs them by plain loops, `comparing` and `agree`
+//! compare. `floor` has two workers at a circuit, `sample` leaves for it. `batches` are the large tests, `meeting` shows workers that
+//! work at the same time, `boards` readers.
 #![tactic(auto)]
 
 #[cfg(test)]
@@ -10,37 +14,25 @@ mod batches;
 #[cfg(test)]
 mod boards;
 #[cfg(test)]
-mod by_hand;
-#[cfg(test)]
 mod by_key;
 #[cfg(test)]
 mod circuits;
 #[cfg(test)]
 mod comparing;
 #[cfg(test)]
-mod early;
-#[cfg(test)]
 mod finals;
 #[cfg(test)]
 mod floor;
 #[cfg(test)]
-mod in_order;
+mod free;
 #[cfg(test)]
 mod joins;
-#[cfg(test)]
-mod laying;
-#[cfg(test)]
-mod lines;
 #[cfg(test)]
 mod meeting;
 #[cfg(test)]
 mod parts;
 #[cfg(test)]
-mod random;
-#[cfg(test)]
 mod refusing;
-#[cfg(test)]
-mod replays;
 #[cfg(test)]
 mod restatement;
 #[cfg(test)]
@@ -55,7 +47,5 @@ mod schedules;
 mod serial;
 #[cfg(test)]
 mod splitting;
-#[cfg(test)]
-mod taken_again;
 #[cfg(test)]
 mod texts;

@@ -11,9 +11,10 @@ use crate::texts::{programs, stocked};
 use lt_batch::{Outcome, run_batch};
 use lt_circuit::{Circuit, Entry, Event, JobName, LeafWork};
 use lt_delta::Marks;
-use lt_edges::{MeetGate, OpenGate};
+use lt_edges::{Gate, MeetGate, OpenGate, OrderGate};
 use lt_face::{Moves, NoMemory};
-use lt_model::normal::Prog;
+use lt_model::reply::Reply;
+use lt_query::Planned;
 use lt_workers::{Shared, settle};
 use std::alloc::Global;
 use std::sync::atomic::{AtomicBool, Ordering};
@@ -39,19 +40,21 @@ fn is_before(journal: &[Entry], claimed: u32, finished: u32) -> bool {
     }
 }
 
-/// A batch of two that two workers run past this gate.
+/// A batch that so many workers run past this gate, where e has one row.
 #[tactic(auto, using(crate::proofs::Fitting::all_fit))]
-fn ran_past<R: Threads + Wait + Sync>(
+fn ran_past<R: Threads + Wait + Sync, G: Gate>(
     rt: &R,
     alloc: Global,
-    progs: &[Arc<Prog>],
-    gate: &MeetGate,
+    progs: &[Arc<Planned>],
+    workers: u32,
+    gate: &G,
 ) -> Result<Outcome, NoMemory>
     requires few { length progs.now ≤ 256 }
+    requires workers { (1 ≤ workers) × (workers ≤ 16) }
     requires fit { AllByRecursion FitsBoth (map arc_value progs.now) }
 {
-    let db = stocked(rt, alloc, "")?;
-    let out = run_batch(rt, alloc, &db, progs, 2, gate)?;
+    let db = stocked(rt, alloc, "insert e(1, 2);")?;
+    let out = run_batch(rt, alloc, &db, progs, workers, gate)?;
     Ok(out)
 }
 
@@ -67,7 +70,7 @@ fn meet<R: Threads + Wait + Sync>(
     let progs = programs(alloc, &["insert r(1);", "require some r(x);"], 2)?;
     let (held_code, awaited_code) = (JobName::Leaf(held).code(), JobName::Leaf(awaited).code());
     let gate = MeetGate::new(held_code, awaited_code, TURNS);
-    let out = ran_past(rt, alloc, &progs, &gate)?;
+    let out = ran_past(rt, alloc, &progs, 2, &gate)?;
     let is_so = gate.met() && is_before(out.circuit.journal(), awaited, held);
     drop(out);
     Ok(is_so)
@@ -78,6 +81,34 @@ fn meet<R: Threads + Wait + Sync>(
 fn two_leaves_meet_at_a_gate(rt: HostRuntime) -> Result<(), NoMemory> {
     holds(&rt, meet(&rt, rt.alloc(), 0, 1)?);
     holds(&rt, meet(&rt, rt.alloc(), 1, 0)?);
+    Ok(())
+}
+
+/// Takes one of two.
+const BUYING: &str =
+    "require some e(1, n), n > 0; replace e(1, n) by e(1, m) where e(1, n), m = n - 1;";
+
+/// Whether the first two did what they are to do and the third was refused at its first statement.
+fn is_third_refused(replies: &[Reply]) -> bool {
+    match replies {
+        [Reply::Done(_), Reply::Done(_), Reply::Refused(statement)] => *statement == 1,
+        _ => false,
+    }
+}
+
+/// Whether three buyers of two things, the last of whom begins first, are answered in their order.
+fn buys_in_reverse<R: Threads + Wait + Sync>(rt: &R, alloc: Global) -> Result<bool, NoMemory> {
+    let progs = programs(alloc, &[BUYING], 3)?;
+    let gate = OrderGate::new(alloc, &[6, 3, 0], TURNS)?;
+    let out = ran_past(rt, alloc, &progs, 3, &gate)?;
+    let is_so = gate.passed() && is_third_refused(out.replies.as_slice());
+    drop(out);
+    Ok(is_so)
+}
+
+#[test]
+fn the_last_may_begin_first(rt: HostRuntime) -> Result<(), NoMemory> {
+    holds(&rt, buys_in_reverse(&rt, rt.alloc())?);
     Ok(())
 }
 

@@ -6,7 +6,7 @@ ghost use Rattle.lt_query.specs.Runnable.{AreWide};
 ghost use Rattle.lt_program.specs.Planned.{ArePicked};
 ghost use Rattle.lt_program.specs.Tally.{HasIndexesOf};
 
-use crate::agree::holds;
+use crate::agree::{holds, holds_at};
 use crate::comparing::are_int_rows;
 use crate::joins::planned;
 use crate::texts::{program, routed, stocked};
@@ -126,44 +126,36 @@ fn finds_by_parts<R: Threads + Wait + Sync>(
     Ok(true)
 }
 
+/// Statements on the rows that others have left, and the ints of their answers.
+const TABLE: [(&str, &str, &[i64]); 5] = [
+    // sets of no row and of some
+    ("", "print (x) where r(x);", &[]),
+    (
+        "insert r(5); insert r(7); insert r(9);",
+        "print (x) where r(x);",
+        &[5, 7, 9],
+    ),
+    // no atom at all
+    ("insert r(1);", "print (3) where not r(2);", &[3]),
+    // answers that don't ascend with the first variable, and of several assignments
+    (
+        "insert e(1, 9); insert e(2, 5); insert e(3, 9);",
+        "print (y) where e(x, y);",
+        &[5, 9],
+    ),
+    // triangles
+    (
+        "insert e(1, 2); insert e(2, 3); insert e(1, 3); insert e(3, 1); insert e(3, 4); insert e(1, 4); insert e(4, 2);",
+        "print (z) where e(x, y), e(y, z), e(x, z);",
+        &[2, 3, 4],
+    ),
+];
+
 #[test]
 fn parts_have_the_answers_of_the_whole(rt: HostRuntime) -> Result<(), NoMemory> {
-    let edges =
-        "insert e(1, 2); insert e(2, 3); insert e(1, 3); insert e(3, 1); insert e(3, 4); insert e(1, 4); insert e(4, 2);";
-    for (stock, statement, ints) in [
-        // sets of no row to three
-        ("", "print (x) where r(x);", [].as_slice()),
-        ("insert r(5);", "print (x) where r(x);", [5].as_slice()),
-        (
-            "insert r(5); insert r(9);",
-            "print (x) where r(x);",
-            [5, 9].as_slice(),
-        ),
-        (
-            "insert r(5); insert r(7); insert r(9);",
-            "print (x) where r(x);",
-            [5, 7, 9].as_slice(),
-        ),
-        // a first level with a key alone, and no atom at all
-        ("insert r(5);", "print (3) where r(5);", [3].as_slice()),
-        ("insert r(1);", "print (3) where not r(2);", [3].as_slice()),
-        // answers that don't ascend with the first variable, and of several assignments
-        (
-            "insert e(1, 9); insert e(2, 5); insert e(3, 9);",
-            "print (y) where e(x, y);",
-            [5, 9].as_slice(),
-        ),
-        // triangles
-        (
-            edges,
-            "print (z) where e(x, y), e(y, z), e(x, z);",
-            [2, 3, 4].as_slice(),
-        ),
-    ] {
-        holds(
-            &rt,
-            finds_by_parts(&rt, rt.alloc(), stock, statement, ints)?,
-        );
+    for (stock, statement, ints) in TABLE {
+        let is_so = finds_by_parts(&rt, rt.alloc(), stock, statement, ints)?;
+        holds_at(&rt, is_so, statement);
     }
     Ok(())
 }

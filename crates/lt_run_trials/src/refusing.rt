@@ -3,15 +3,13 @@ ghost use Rattle.std.specs.Prelude.{◌≡◌, ◌∷◌, [], ⊤, ◌&&◌, Som
 ghost use Rattle.lt_model.specs.Marks.{AreMarks};
 ghost use Rattle.lt_model.proofs.Composition.{AreMarks-and_then};
 
-use crate::agree::holds;
-use crate::circuits::{abandons, claims, one_worker};
-use crate::comparing::are_marks;
+use crate::agree::{holds, holds_of};
+use crate::comparing::{are_marks, is_journal};
 use crate::sample::{SERIAL, Sample};
-use lt_circuit::{Circuit, Entry, LeafWork};
+use lt_circuit::{Circuit, LeafWork};
 use lt_delta::Marks;
 use lt_edges::OpenGate;
 use lt_face::{Moves, NoMemory};
-use lt_net::JobName::Leaf;
 use lt_workers::Shared;
 use std::alloc::Global;
 use std::sync::atomic::{AtomicU32, Ordering};
@@ -87,27 +85,34 @@ fn refusing_work(alloc: Global, refused: u32) -> Result<Arc<Refusing>, NoMemory>
 }
 
 /// Whether the circuit has no claim and this journal.
-fn has_done(circuit: &Circuit<Refusing>, entries: &[Entry]) -> bool {
-    circuit.in_flight() == 0 && circuit.journal() == entries
+fn has_done(circuit: &Circuit<Refusing>, events: &[(u32, u32)]) -> bool {
+    circuit.in_flight() == 0 && is_journal(circuit.journal(), events)
 }
 
-/// Whether the circuit's first entries are these two, and those after them the others.
-fn has_gone_on(journal: &[Entry], first: &[Entry; 2], others: &[Entry]) -> bool {
-    match journal {
-        [a, b, rest @ ..] => *a == first[0] && *b == first[1] && rest == others,
-        _ => false,
-    }
-}
+/// One worker gives up the first leaf of two, as its work is refused, and then settles both.
+const GIVEN_UP: [(u32, u32); 12] = [
+    (0, 0),
+    (0, 2),
+    (0, 0),
+    (0, 1),
+    (0, 3),
+    (0, 4),
+    (0, 6),
+    (0, 7),
+    (0, 9),
+    (0, 10),
+    (0, 3),
+    (0, 4),
+];
 
-/// Whether one worker gives up the first leaf of two, as its work is refused, and then settles both.
+/// Whether the circuit goes so.
 fn gives_up_and_goes_on(alloc: Global) -> Result<bool, NoMemory> {
-    let begun = [claims(0, Leaf(0)), abandons(0, Leaf(0))];
     let work = refusing_work(alloc, 0)?;
     let mut circuit = Circuit::start(alloc, work, 2)?;
-    let refused = circuit.settle_alone().is_err() && has_done(&circuit, &begun);
+    let refused = circuit.settle_alone().is_err() && has_done(&circuit, &GIVEN_UP[..2]);
     circuit.settle_alone()?;
     let is_so = refused
-        && has_gone_on(circuit.journal(), &begun, &one_worker())
+        && has_done(&circuit, &GIVEN_UP)
         && are_marks(alloc, circuit.root_effect(), &SERIAL[..1]);
     drop(circuit);
     Ok(is_so)
@@ -133,8 +138,9 @@ fn settles_at_last(alloc: Global, refused: u32) -> Result<bool, NoMemory> {
 
 #[test]
 fn each_refused_work_is_done_again(rt: HostRuntime) -> Result<(), NoMemory> {
-    for refused in 0..12 {
-        holds(&rt, settles_at_last(rt.alloc(), refused)?);
+    for refused in 0..12u32 {
+        let is_so = settles_at_last(rt.alloc(), refused)?;
+        holds_of(&rt, is_so, &[refused as usize]);
     }
     Ok(())
 }
@@ -159,8 +165,9 @@ fn settles_after<R: Threads + Wait + Sync>(
 
 #[test]
 fn workers_give_up_what_is_refused(rt: HostRuntime) -> Result<(), NoMemory> {
-    for refused in 0..8 {
-        holds(&rt, settles_after(&rt, rt.alloc(), refused)?);
+    for refused in 0..8u32 {
+        let is_so = settles_after(&rt, rt.alloc(), refused)?;
+        holds_of(&rt, is_so, &[refused as usize]);
     }
     Ok(())
 }

@@ -9,7 +9,7 @@ ghost use Rattle.lt_model.specs.Marks.{laid};
 ghost use Rattle.lt_base.specs.Tables.{state_of};
 ghost use Rattle.lt_program.specs.Tally.{HasIndexes, has_ended};
 ghost use Rattle.lt_restate.specs.Walked.{is_named};
-ghost use Rattle.lt_run_trials.specs.Fitting.{AreBoth, FitsBoth};
+ghost use Rattle.lt_run_trials.specs.Fitting.{AreBoth};
 
 use crate::texts::{joined, program, routed, stocked};
 use lt_base::{Database, differing};
@@ -25,17 +25,18 @@ use std::alloc::Global;
 use std::sync::Arc;
 use std::thread::Threads;
 
-/// A run, the same program restated where marks changed its base, and its run anew there.
+/// A run, and the same program restated where marks changed its base: with these touches by the marks, and with those by the rows that
+/// changed.
 #[derive(Drop)]
 pub(crate) struct Restatement {
     pub old: Tally,
     pub new: Tally,
-    pub anew: Tally,
     pub touches: Touches,
+    pub named: Touches,
 }
 
 /// The marks of a program on the base.
-pub(crate) fn marks_of<R: Threads + Sync>(
+fn marks_of<R: Threads + Sync>(
     rt: &R,
     alloc: Global,
     base: &Database,
@@ -101,63 +102,6 @@ fn again(
     Ok(out)
 }
 
-/// The program run where the one correction is laid on the base, and restated where the other is.
-fn restated<R: Threads + Sync>(
-    rt: &R,
-    alloc: Global,
-    base: &Database,
-    prog: Prog,
-    first: &Marks,
-    second: &Marks,
-) -> Result<Restatement, NoMemory>
-    requires fits { Fits (state_of base.now) prog }
-    requires first { FitMarks (state_of base.now) first.now }
-    requires second { FitMarks (state_of base.now) second.now }
-{
-    let shared = routed(alloc, base, prog)?;
-    let db = indexed(rt, base, &shared)?;
-    let old = ran(&db, &shared, first)?;
-    let anew = ran(&db, &shared, second)?;
-    let (new, touches) = again(&db, &shared, &old, first, second)?;
-    Ok(Restatement {
-        old,
-        new,
-        anew,
-        touches,
-    })
-}
-
-/// The program of some statements, run where the rows that others left had the marks of the first ones, and restated where
-/// they have those of the second ones.
-pub(crate) fn restated_by<R: Threads + Sync>(
-    rt: &R,
-    alloc: Global,
-    stock: &str,
-    statements: &str,
-    first: &str,
-    second: &str,
-) -> Result<Restatement, NoMemory> {
-    let prog = program(alloc, statements)?;
-    restated_over(rt, alloc, stock, prog, first, second)
-}
-
-/// The same of a program. What was there and what corrects it comes of plain inserts, so e may have two rows of one key.
-pub(crate) fn restated_over<R: Threads + Sync>(
-    rt: &R,
-    alloc: Global,
-    stock: &str,
-    prog: Prog,
-    first: &str,
-    second: &str,
-) -> Result<Restatement, NoMemory>
-    requires { FitsBoth prog }
-{
-    let base = stocked(rt, alloc, stock)?;
-    let first = marks_of(rt, alloc, &base, first)?;
-    let second = marks_of(rt, alloc, &base, second)?;
-    restated(rt, alloc, &base, prog, &first, &second)
-}
-
 /// Adds the rows of the marks.
 fn add_named(named: &mut Changes, marks: &Marks) -> Result<(), NoMemory>
     ensures stay { OnOk result ((change : ℕ × RowView) → IsIn change named.old → IsIn change named.new) }
@@ -205,30 +149,15 @@ fn again_by_name(
     Ok(out)
 }
 
-/// The program of some statements run where others left rows, and restated by name where one more program has run.
-pub(crate) fn restated_by_name<R: Threads + Sync>(
-    rt: &R,
-    alloc: Global,
-    stock: &str,
-    statements: &str,
-    inserts: &str,
-) -> Result<(Tally, Touches), NoMemory> {
-    let base = stocked(rt, alloc, stock)?;
-    let first = marks_of(rt, alloc, &base, "")?;
-    let second = marks_of(rt, alloc, &base, inserts)?;
-    let prog = program(alloc, statements)?;
-    renamed(rt, alloc, &base, prog, &first, &second)
-}
-
-/// The program run where the first marks are laid on the base, and restated by name where the second are.
-fn renamed<R: Threads + Sync>(
+/// The program run where the one correction is laid on the base, and restated both ways where the other is.
+fn restated<R: Threads + Sync>(
     rt: &R,
     alloc: Global,
     base: &Database,
     prog: Prog,
     first: &Marks,
     second: &Marks,
-) -> Result<(Tally, Touches), NoMemory>
+) -> Result<Restatement, NoMemory>
     requires fits { Fits (state_of base.now) prog }
     requires first { FitMarks (state_of base.now) first.now }
     requires second { FitMarks (state_of base.now) second.now }
@@ -236,5 +165,29 @@ fn renamed<R: Threads + Sync>(
     let shared = routed(alloc, base, prog)?;
     let db = indexed(rt, base, &shared)?;
     let old = ran(&db, &shared, first)?;
-    again_by_name(&db, &shared, &old, first, second)
+    let (new, touches) = again(&db, &shared, &old, first, second)?;
+    let (_, named) = again_by_name(&db, &shared, &old, first, second)?;
+    Ok(Restatement {
+        old,
+        new,
+        touches,
+        named,
+    })
+}
+
+/// The program of some statements, run where the rows that others left had the marks of the first ones, and restated where
+/// they have those of the second ones.
+pub(crate) fn restated_by<R: Threads + Sync>(
+    rt: &R,
+    alloc: Global,
+    stock: &str,
+    statements: &str,
+    first: &str,
+    second: &str,
+) -> Result<Restatement, NoMemory> {
+    let base = stocked(rt, alloc, stock)?;
+    let first = marks_of(rt, alloc, &base, first)?;
+    let second = marks_of(rt, alloc, &base, second)?;
+    let prog = program(alloc, statements)?;
+    restated(rt, alloc, &base, prog, &first, &second)
 }

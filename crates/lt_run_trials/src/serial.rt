@@ -1,25 +1,18 @@
-//! Runs of programs one after another, each as it is defined.
+//! Runs of programs one after another, each by plain loops.
 ghost use Rattle.std.specs.Prelude.{map, IfOk, OnOk};
 ghost use Rattle.std.specs.Arc.{arc_value};
 ghost use Rattle.std.specs.List.{AllByRecursion};
 ghost use Rattle.lt_run_trials.specs.Fitting.{AreRowsOfBoth, FitsBoth};
 
 use crate::texts::program;
-use lt_delta::Marks;
 use lt_face::items::{Items, RowList};
 use lt_face::memory::NoMemory;
-use lt_model::normal::Prog;
-use lt_model::reply::Reply;
+use lt_model::normal::Stmt;
+use lt_program::Ran;
+use lt_query::Planned;
 use lt_reference::{lay, run_plain};
 use std::alloc::Global;
 use std::sync::Arc;
-
-/// What a program answers and writes.
-#[derive(Drop)]
-pub(crate) struct Ran {
-    pub reply: Reply,
-    pub marks: Marks,
-}
 
 /// What the programs of a batch do one after another, and the rows that they leave.
 #[derive(Drop)]
@@ -42,7 +35,7 @@ pub(crate) fn no_rows(alloc: Global) -> Result<Vec<RowList>, NoMemory>
 pub(crate) fn one_run(
     alloc: Global,
     relations: &mut Vec<RowList>,
-    prog: &Prog,
+    prog: &[Stmt],
 ) -> Result<Ran, NoMemory>
     requires rows { AreRowsOfBoth relations.old.items }
     requires fits { FitsBoth prog.now }
@@ -54,10 +47,10 @@ pub(crate) fn one_run(
 }
 
 /// The programs one after another on these relations, which they change.
-pub(crate) fn runs_on(
+fn runs_on(
     alloc: Global,
     relations: &mut Vec<RowList>,
-    progs: &[Arc<Prog>],
+    progs: &[Arc<Planned>],
 ) -> Result<Vec<Ran>, NoMemory>
     requires rows { AreRowsOfBoth relations.old.items }
     requires fit { AllByRecursion FitsBoth (map arc_value progs.now) }
@@ -65,19 +58,19 @@ pub(crate) fn runs_on(
 {
     let mut runs = Vec::new(alloc);
     for prog in progs {
-        let ran = one_run(alloc, relations, prog)?;
+        let ran = one_run(alloc, relations, prog.statements())?;
         runs.push(ran)?;
     }
     Ok(runs)
 }
 
 /// The relations with the rows that these statements leave.
-pub(crate) fn rows_of(alloc: Global, stock: &str) -> Result<Vec<RowList>, NoMemory>
+fn rows_of(alloc: Global, stock: &str) -> Result<Vec<RowList>, NoMemory>
     ensures { IfOk result (λ relations. AreRowsOfBoth relations.items) }
 {
     let first = program(alloc, stock)?;
     let mut relations = no_rows(alloc)?;
-    one_run(alloc, &mut relations, &first)?;
+    one_run(alloc, &mut relations, first.as_slice())?;
     Ok(relations)
 }
 
@@ -85,20 +78,11 @@ pub(crate) fn rows_of(alloc: Global, stock: &str) -> Result<Vec<RowList>, NoMemo
 pub(crate) fn one_after_another(
     alloc: Global,
     stock: &str,
-    progs: &[Arc<Prog>],
+    progs: &[Arc<Planned>],
 ) -> Result<Serial, NoMemory>
     requires { AllByRecursion FitsBoth (map arc_value progs.now) }
 {
     let mut relations = rows_of(alloc, stock)?;
     let runs = runs_on(alloc, &mut relations, progs)?;
     Ok(Serial { runs, relations })
-}
-
-/// The run of a program's statements after those of another.
-pub(crate) fn run_after(alloc: Global, first: &str, second: &str) -> Result<Ran, NoMemory> {
-    let first = program(alloc, first)?;
-    let second = program(alloc, second)?;
-    let mut relations = no_rows(alloc)?;
-    one_run(alloc, &mut relations, &first)?;
-    one_run(alloc, &mut relations, &second)
 }

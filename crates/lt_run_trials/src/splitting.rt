@@ -1,12 +1,12 @@
 //! Programs with long joins, run by parts and as a whole.
-ghost use Rattle.std.specs.Prelude.{◌≤◌, IfOk};
+ghost use Rattle.std.specs.Prelude.{◌≤◌};
 ghost use Rattle.std.specs.Arc.{arc_value};
 ghost use Rattle.lt_model.specs.Fits.{Fits};
 ghost use Rattle.lt_base.specs.Tables.{state_of};
 ghost use Rattle.lt_program.specs.Tally.{HasIndexes};
 ghost use Rattle.lt_run_trials.specs.Fitting.{AreBoth};
 
-use crate::agree::holds;
+use crate::agree::holds_at;
 use crate::texts::{Pairs, is_same_ran, joined_on, program_over, routed, stocked};
 use lt_base::Database;
 use lt_face::memory::NoMemory;
@@ -19,16 +19,8 @@ use std::sync::{Arc, Wait};
 use std::thread::Threads;
 
 /// The numbers below 4096 as rows of r, and each with the next one in e: as few as are long.
-const LONG: &str =
+pub(crate) const LONG: &str =
     "insert r(0); insert r(m) where r(n), m = n + 1; insert r(m) where r(n), m = n + 2; insert r(m) where r(n), m = n + 4; insert r(m) where r(n), m = n + 8; insert r(m) where r(n), m = n + 16; insert r(m) where r(n), m = n + 32; insert r(m) where r(n), m = n + 64; insert r(m) where r(n), m = n + 128; insert r(m) where r(n), m = n + 256; insert r(m) where r(n), m = n + 512; insert r(m) where r(n), m = n + 1024; insert r(m) where r(n), m = n + 2048; insert e(n, m) where r(n), m = n + 1;";
-
-/// The long relations.
-pub(crate) fn long<R: Threads + Sync>(rt: &R, alloc: Global) -> Result<Database, NoMemory>
-    ensures { IfOk result (λ db. AreBoth (state_of db)) }
-{
-    let db = stocked(rt, alloc, LONG)?;
-    Ok(db)
-}
 
 /// Whether the run by so many parts answers and writes what the whole one did.
 fn splits<R: Threads + Wait + Sync>(
@@ -100,64 +92,54 @@ fn splits_over<R: Threads + Wait + Sync>(
     splits_on(rt, alloc, db, prog, is_long)
 }
 
+/// Prints, writes and inserts that displace rows; and, without a long join, a pinned first variable and a truth alone.
 #[test]
-fn prints_by_parts_are_prints(rt: HostRuntime) -> Result<(), NoMemory> {
+fn runs_by_parts_are_runs(rt: HostRuntime) -> Result<(), NoMemory> {
     let alloc = rt.alloc();
-    let db = long(&rt, alloc)?;
-    for text in [
-        "print (x, z) where e(x, y), e(y, z);",
-        "print (x) where r(x), x < 100;",
-        "print (x, y) where e(x, y), r(y), not r(x);",
+    let db = stocked(&rt, alloc, LONG)?;
+    for (pairs, text, is_long) in [
+        (Pairs::Plain, "print (x, z) where e(x, y), e(y, z);", true),
+        (
+            Pairs::Plain,
+            "print (x, y) where e(x, y), r(y), not r(x);",
+            true,
+        ),
+        (
+            Pairs::Plain,
+            "insert r(z) where e(x, y), r(x), z = y + 1; print (x) where r(x), x > 4094;",
+            true,
+        ),
+        (
+            Pairs::Plain,
+            "delete e(x, y) where e(x, y), r(y); require some e(x, y); insert r(-1);",
+            true,
+        ),
+        (
+            Pairs::Plain,
+            "replace e(x, y) by e(y, x) where e(x, y), r(x), x < 9; require none e(5, 6); print (x) where r(x), e(7, x);",
+            true,
+        ),
+        (
+            Pairs::Keyed,
+            "insert e(x, z) where e(x, y), r(x), z = y + 1;",
+            true,
+        ),
+        (
+            Pairs::Keyed,
+            "replace e(x, y) by e(x, z) where e(x, y), r(x), z = y + 1;",
+            true,
+        ),
+        (Pairs::Plain, "print (y) where e(x, y), x = 5;", false),
+        (
+            Pairs::Plain,
+            "require some r(x), x > 100; insert r(-1);",
+            false,
+        ),
     ] {
-        holds(&rt, splits_over(&rt, alloc, &db, Pairs::Plain, text, true)?);
-    }
-    Ok(())
-}
-
-#[test]
-fn writes_by_parts_are_writes(rt: HostRuntime) -> Result<(), NoMemory> {
-    let alloc = rt.alloc();
-    let db = long(&rt, alloc)?;
-    for text in [
-        "insert r(z) where e(x, y), r(x), z = y + 1; print (x) where r(x), x > 4094;",
-        "delete e(x, y) where e(x, y), r(y); require some e(x, y); insert r(-1);",
-        "replace e(x, y) by e(y, x) where e(x, y), r(x), x < 9; require none e(5, 6); print (x) where r(x), e(7, x);",
-    ] {
-        holds(&rt, splits_over(&rt, alloc, &db, Pairs::Plain, text, true)?);
-    }
-    Ok(())
-}
-
-#[test]
-fn inserts_that_displace_rows_by_parts(rt: HostRuntime) -> Result<(), NoMemory> {
-    let alloc = rt.alloc();
-    let db = long(&rt, alloc)?;
-    let text = "insert e(x, z) where e(x, y), r(x), z = y + 1;";
-    holds(&rt, splits_over(&rt, alloc, &db, Pairs::Keyed, text, true)?);
-    Ok(())
-}
-
-#[test]
-fn replaces_that_displace_rows_by_parts(rt: HostRuntime) -> Result<(), NoMemory> {
-    let alloc = rt.alloc();
-    let db = long(&rt, alloc)?;
-    let text = "replace e(x, y) by e(x, z) where e(x, y), r(x), z = y + 1;";
-    holds(&rt, splits_over(&rt, alloc, &db, Pairs::Keyed, text, true)?);
-    Ok(())
-}
-
-/// A pinned first variable, and a truth alone.
-#[test]
-fn runs_without_long_joins_are_whole(rt: HostRuntime) -> Result<(), NoMemory> {
-    let alloc = rt.alloc();
-    let db = long(&rt, alloc)?;
-    for text in [
-        "print (y) where e(x, y), x = 5;",
-        "require some r(x), x > 100; insert r(-1);",
-    ] {
-        holds(
+        holds_at(
             &rt,
-            splits_over(&rt, alloc, &db, Pairs::Plain, text, false)?,
+            splits_over(&rt, alloc, &db, pairs, text, is_long)?,
+            text,
         );
     }
     Ok(())

@@ -20,8 +20,8 @@ use lt_model::kind::{Kind, KindList};
 use lt_model::name::Name;
 use lt_model::normal::Prog;
 use lt_program::{Ran, Tally, indexed, run, run_alone};
-use lt_query::Planned;
 use lt_query::laws::plans_of_bodies;
+use lt_query::{Planned, plan_all};
 use lt_script::{Item, ProgramList, Reader, Step};
 use std::alloc::Global;
 use std::sync::Arc;
@@ -123,7 +123,7 @@ pub(crate) fn programs(
     alloc: Global,
     texts: &[&str],
     count: usize,
-) -> Result<Vec<Arc<Prog>>, NoMemory>
+) -> Result<Vec<Arc<Planned>>, NoMemory>
     requires { 1 ≤ length texts.now }
     ensures many { IfOk result (λ progs. length progs.items ≡ count) }
     ensures fit { IfOk result (λ progs. AllByRecursion FitsBoth (map arc_value progs.items)) }
@@ -132,13 +132,28 @@ pub(crate) fn programs(
     Ok(progs)
 }
 
+/// The programs with the routes of their plans. Each shape is planned once, where they have few.
+fn all_routed(
+    alloc: Global,
+    base: &Database,
+    progs: &[Arc<Prog>],
+) -> Result<Vec<Arc<Planned>>, NoMemory>
+    requires { AllByRecursion (Fits (state_of base.now)) (map arc_value progs.now) }
+    ensures { IfOk result (λ routed. map arc_value routed.items ≡ map arc_value progs.now) }
+{
+    plans_of_bodies();
+    base.look_over();
+    let planned = plan_all(alloc, progs)?;
+    Ok(planned)
+}
+
 /// So many programs, in the order of these texts, and after the last again from the first.
 pub(crate) fn programs_over(
     alloc: Global,
     pairs: Pairs,
     texts: &[&str],
     count: usize,
-) -> Result<Vec<Arc<Prog>>, NoMemory>
+) -> Result<Vec<Arc<Planned>>, NoMemory>
     requires { 1 ≤ length texts.now }
     ensures many { IfOk result (λ progs. length progs.items ≡ count) }
     ensures fit { IfOk result (λ progs. AllByRecursion FitsBoth (map arc_value progs.items)) }
@@ -149,7 +164,9 @@ pub(crate) fn programs_over(
         let prog = Arc::new(alloc, prog)?;
         progs.push(prog)?;
     }
-    Ok(progs)
+    let base = bare(alloc)?;
+    let routed = all_routed(alloc, &base, &progs)?;
+    Ok(routed)
 }
 
 /// The relations without rows.

@@ -79,14 +79,22 @@ fn take_cuts(
     Ok(())
 }
 
+/// The pairs below this one.
+fn over_below(rt: &impl Abort, alloc: Global, end: Key) -> Result<SharedOver, NoMemory> {
+    let rows = pairs_below(rt, alloc, end)?;
+    let width = rows.width();
+    SharedOver::from_sorted(width, copies(alloc, rows.as_slice())?)
+}
+
 #[test]
 fn a_cut_that_goes_is_no_cut(rt: HostRuntime) -> Result<(), NoMemory> {
     let alloc = rt.alloc();
-    let rows = pairs_below(&rt, alloc, 1001)?;
-    let width = rows.width();
-    let mut set = SharedOver::from_sorted(width, copies(alloc, rows.as_slice())?)?;
-    take_cuts(&rt, alloc, &mut set, 8)?;
-    same(&rt, set.len(), 993);
-    same(&rt, cut(&rt, alloc, &set, 8)?, 7);
+    let mut set = over_below(&rt, alloc, 1001)?;
+    let taken = take_cuts(&rt, alloc, &mut set, 8);
+    let left = set.len();
+    let cuts = cut(&rt, alloc, &set, 8);
+    drop(set);
+    taken?;
+    same(&rt, (left, cuts?), (993, 7));
     Ok(())
 }

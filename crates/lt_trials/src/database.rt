@@ -61,26 +61,6 @@ fn plain(alloc: Global) -> Result<Database, NoMemory>
     Ok(db)
 }
 
-/// Whether the database has one relation, and this index isn't there.
-fn is_plain(alloc: Global, db: &Database, perm: &Perm) -> bool {
-    db.count() == 1 && found(alloc, db, 0, perm, (7, 3)).is_none()
-}
-
-/// Whether a new relation is so.
-fn is_new_plain(alloc: Global) -> Result<bool, NoMemory> {
-    let perm = swapped(alloc)?;
-    let db = plain(alloc)?;
-    Ok(is_plain(alloc, &db, &perm))
-}
-
-#[test]
-fn an_index_is_there_once_it_is_made(rt: HostRuntime) -> Result<(), NoMemory> {
-    same(&rt, Database::empty(rt.alloc()).count(), 0);
-    let is_so = is_new_plain(rt.alloc())?;
-    holds(&rt, is_so);
-    Ok(())
-}
-
 /// The same with the row (3, 7).
 fn laid(alloc: Global, db: &Database) -> Result<Database, NoMemory>
     requires { IsWide (state_of db.now) 0 2 }
@@ -129,16 +109,38 @@ fn each_index_takes_the_marks(rt: HostRuntime) -> Result<(), NoMemory> {
     Ok(())
 }
 
+/// Whether rows on which the marks of a relation of this number were laid have the row (3, 7), and how many they are then.
+fn taken(
+    alloc: Global,
+    relation: u32,
+    rows: &Rows,
+    marks: &Marks,
+) -> Result<(bool, usize), NoMemory>
+    requires width { rows.now.width ≡ 2 }
+    requires marks { marks.now ≡ record { relation = 0; row = 3 ∷ 7 ∷ []; plus = true } ∷ [] }
+{
+    let laid = marks.lay_on(relation, rows)?;
+    let found = (laid.has(&Row::from_cells(alloc, &[3, 7])), laid.len());
+    drop(laid);
+    Ok(found)
+}
+
+/// The same of no rows, and how many these are afterwards.
+fn taken_by_none(alloc: Global, relation: u32) -> Result<((bool, usize), usize), NoMemory> {
+    let marks = mark_on(alloc, 3, 7)?;
+    let rows = Rows::empty(alloc, 2)?;
+    let found = taken(alloc, relation, &rows, &marks);
+    let left = rows.len();
+    drop(rows);
+    drop(marks);
+    Ok((found?, left))
+}
+
 #[test]
 fn rows_take_the_marks(rt: HostRuntime) -> Result<(), NoMemory> {
-    let alloc = rt.alloc();
-    let rows = Rows::empty(alloc, 2)?;
-    let marks = mark_on(alloc, 3, 7)?;
-    let laid = marks.lay_on(0, &rows)?;
-    holds(&rt, laid.has(&Row::from_cells(alloc, &[3, 7])));
-    same(&rt, (laid.len(), rows.len()), (1, 0));
-    let other = marks.lay_on(1, &rows)?;
-    same(&rt, other.len(), 0);
+    for (relation, found) in [(0, (true, 1)), (1, (false, 0))] {
+        same(&rt, taken_by_none(rt.alloc(), relation)?, (found, 0));
+    }
     Ok(())
 }
 

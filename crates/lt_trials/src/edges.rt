@@ -99,7 +99,8 @@ fn one_thread_passes_in_order_alone(rt: HostRuntime) -> Result<(), NoMemory> {
         (&[6, 3, 6], &[6, 3], true),
     ];
     for (order, calls, passed) in rows {
-        holds(&rt, passes(&rt, rt.alloc(), order, calls)? == passed);
+        let found = passes(&rt, rt.alloc(), order, calls)?;
+        same(&rt, (order, calls, found), (order, calls, passed));
     }
     Ok(())
 }

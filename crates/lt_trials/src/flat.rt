@@ -1,8 +1,8 @@
-//! Sets of rows in a sorted vector are made, edited, shared and searched.
-ghost use Rattle.std.specs.Prelude.{◌≡◌, [], ◌∷◌, IfOk};
+//! Sets of rows of each kind are edited and shared.
+ghost use Rattle.std.specs.Prelude.{◌≡◌, [], ◌∷◌};
 
 use crate::agree::{holds, same};
-use lt_face::{CELL_LIMIT, Items, Key, NoMemory, Row, RowReads, RowSet};
+use lt_face::{CELL_LIMIT, Key, NoMemory, Row, RowReads, RowSet};
 use lt_flat::FlatRows;
 use lt_over::SharedOver;
 use lt_shared::SharedRows;
@@ -74,20 +74,21 @@ pub(crate) fn made<S: RowSet>(
     }
 }
 
-/// Makes an edit on a set, and compares its answer and the set after it.
+/// Makes an edit on a set, and compares its answer and the set after it. An owner of the rows from before it keeps them.
 fn check<S: RowSet>(
     rt: &impl Abort,
     alloc: Global,
     set: &mut S,
     edit: Edit,
     changes: bool,
-    after: &[Pair],
+    rows: (&[Pair], &[Pair]),
 ) -> Result<(), NoMemory> {
+    let (before, after) = rows;
+    let other = set.share()?;
     same(rt, made(rt, alloc, set, edit)?, changes);
-    same(rt, set.len(), after.len());
+    same(rt, (set.len(), other.len()), (after.len(), before.len()));
     same(rt, pairs(alloc, set)?.as_slice(), after);
-    let (Insert(pair) | Remove(pair)) = edit;
-    same(rt, set.has(&row(alloc, pair)), after.contains(&pair));
+    same(rt, pairs(alloc, &other)?.as_slice(), before);
     Ok(())
 }
 
@@ -98,38 +99,9 @@ fn takes<S: RowSet>(
     edits: &[(Edit, bool, &[Pair])],
 ) -> Result<(), NoMemory> {
     let mut set = S::empty(alloc, 2)?;
-    for (edit, changes, after) in edits {
-        check(rt, alloc, &mut set, *edit, *changes, after)?;
-    }
-    Ok(())
-}
-
-/// Makes an edit on a set that is shared: the other owner keeps the rows from before it.
-fn check_shared<S: RowSet>(
-    rt: &impl Abort,
-    alloc: Global,
-    set: &mut S,
-    edit: Edit,
-    changes: bool,
-    rows: (&[Pair], &[Pair]),
-) -> Result<(), NoMemory> {
-    let (before, after) = rows;
-    let other = set.share()?;
-    check(rt, alloc, set, edit, changes, after)?;
-    same(rt, pairs(alloc, &other)?.as_slice(), before);
-    Ok(())
-}
-
-/// Makes the edits of a table on a set that is shared before each.
-fn takes_shared<S: RowSet>(
-    rt: &impl Abort,
-    alloc: Global,
-    edits: &[(Edit, bool, &[Pair])],
-) -> Result<(), NoMemory> {
-    let mut set = S::empty(alloc, 2)?;
     let mut before: &[Pair] = &[];
     for (edit, changes, after) in edits {
-        check_shared(rt, alloc, &mut set, *edit, *changes, (before, after))?;
+        check(rt, alloc, &mut set, *edit, *changes, (before, after))?;
         before = after;
     }
     Ok(())
@@ -152,55 +124,6 @@ fn takes_edits(rt: HostRuntime) -> Result<(), NoMemory> {
         (Insert((1, 1)), true, &[(1, 1), (1, 9), (2, 6), (3, 1)]),
     ];
     takes::<FlatRows>(&rt, rt.alloc(), &edits)?;
-    takes_shared::<FlatRows>(&rt, rt.alloc(), &edits)?;
     takes::<SharedOver>(&rt, rt.alloc(), &edits)?;
-    takes_shared::<SharedOver>(&rt, rt.alloc(), &edits)?;
-    takes::<SharedRows>(&rt, rt.alloc(), &edits)?;
-    takes_shared::<SharedRows>(&rt, rt.alloc(), &edits)
-}
-
-/// The rows (1, 7) and (2, 7).
-fn two_rows(alloc: Global) -> Result<Vec<Row>, NoMemory>
-    ensures { IfOk result (λ rows. rows.items ≡ (1 ∷ 7 ∷ []) ∷ (2 ∷ 7 ∷ []) ∷ []) }
-{
-    let rows = vec![in alloc; row(alloc, (1, 7)), row(alloc, (2, 7))]?;
-    Ok(rows)
-}
-
-/// The set of these rows.
-fn sorted<S: RowSet>(alloc: Global) -> Result<S, NoMemory> {
-    let set = S::from_sorted(2, Items::from_vec(two_rows(alloc)?))?;
-    Ok(set)
-}
-
-/// Makes a set of two rows, and looks for them.
-fn begins<S: RowSet>(rt: &impl Abort, alloc: Global) -> Result<(), NoMemory> {
-    let set: S = sorted(alloc)?;
-    same(rt, set.width(), 2);
-    let rows = pairs(alloc, &set)?;
-    same(rt, rows.as_slice(), [(1, 7), (2, 7)].as_slice());
-    same(rt, pair_from(alloc, &set, (1, 8)), Some((2, 7)));
-    same(rt, pair_from(alloc, &set, (2, 8)), None);
-    Ok(())
-}
-
-#[test]
-fn begins_from_sorted_rows(rt: HostRuntime) -> Result<(), NoMemory> {
-    begins::<FlatRows>(&rt, rt.alloc())?;
-    begins::<SharedOver>(&rt, rt.alloc())?;
-    begins::<SharedRows>(&rt, rt.alloc())
-}
-
-/// Makes a set of no rows.
-fn begins_bare<S: RowSet>(rt: &impl Abort, alloc: Global) -> Result<(), NoMemory> {
-    let nothing = S::from_sorted(3, Items::new(alloc))?;
-    same(rt, (nothing.width(), nothing.len()), (3, 0));
-    Ok(())
-}
-
-#[test]
-fn begins_from_no_rows(rt: HostRuntime) -> Result<(), NoMemory> {
-    begins_bare::<FlatRows>(&rt, rt.alloc())?;
-    begins_bare::<SharedOver>(&rt, rt.alloc())?;
-    begins_bare::<SharedRows>(&rt, rt.alloc())
+    takes::<SharedRows>(&rt, rt.alloc(), &edits)
 }

@@ -29,16 +29,6 @@ fn three(alloc: Global) -> Result<Vec<ListIter>, NoMemory>
     Ok(iters)
 }
 
-/// One list.
-fn one(alloc: Global, keys: &[Key]) -> Result<Vec<ListIter>, NoMemory>
-    requires { IsKeyList keys.now }
-    ensures { IfOk result (λ iters. iters.items ≡ (keys.now, least_from keys.now 0) ∷ []) }
-{
-    let only = ListIter::new(alloc, keys)?;
-    let iters = vec![in alloc; only]?;
-    Ok(iters)
-}
-
 /// Two lists.
 fn two(alloc: Global, a: &[Key], b: &[Key]) -> Result<Vec<ListIter>, NoMemory>
     requires a { IsKeyList a.now }
@@ -96,53 +86,6 @@ fn finds_the_one_common_key(rt: HostRuntime) -> Result<(), NoMemory> {
         gap(1, 11, END),
     ];
     same(&rt, told.gaps.as_slice(), expected.as_slice());
-    Ok(())
-}
-
-#[test]
-fn its_iterators_stand_at_the_common_key(rt: HostRuntime) -> Result<(), NoMemory> {
-    let mut moves: Moves<()> = Moves::new();
-    let iters = three(rt.alloc())?;
-    let leap = Leap::init(rt.alloc(), iters, &mut NoNotes, &mut moves)?;
-    same(
-        &rt,
-        (leap.iter(0).key(), leap.iter(1).key(), leap.iter(2).key()),
-        (8, 8, 8),
-    );
-    Ok(())
-}
-
-#[test]
-fn goes_over_a_single_list(rt: HostRuntime) -> Result<(), NoMemory> {
-    let mut told = Told::new(rt.alloc(), 100);
-    let mut keys = Vec::new(rt.alloc());
-    walk(rt.alloc(), one(rt.alloc(), &[3, 5])?, &mut told, &mut keys)?;
-    same(&rt, keys.as_slice(), [3, 5, END].as_slice());
-    let expected = [gap(0, 4, 5), gap(0, 6, END)];
-    same(&rt, told.gaps.as_slice(), expected.as_slice());
-    Ok(())
-}
-
-#[test]
-fn ends_at_once_where_a_list_is_empty(rt: HostRuntime) -> Result<(), NoMemory> {
-    let mut told = Told::new(rt.alloc(), 100);
-    let mut keys = Vec::new(rt.alloc());
-    let iters = two(rt.alloc(), &[1, 2], &[])?;
-    walk(rt.alloc(), iters, &mut told, &mut keys)?;
-    same(
-        &rt,
-        (keys.as_slice(), told.gaps.len()),
-        ([END].as_slice(), 0),
-    );
-    Ok(())
-}
-
-#[test]
-fn finds_no_key_of_disjoint_lists(rt: HostRuntime) -> Result<(), NoMemory> {
-    let mut keys = Vec::new(rt.alloc());
-    let iters = two(rt.alloc(), &[1, 5], &[2, 6])?;
-    walk(rt.alloc(), iters, &mut NoNotes, &mut keys)?;
-    same(&rt, keys.as_slice(), [END].as_slice());
     Ok(())
 }
 

@@ -1,4 +1,6 @@
 //! The tests of the small crates, a file for each.
+//!
+//! Each file tests the crate or the type that it is named after; `agree` compares.
 #![tactic(auto)]
 
 #[cfg(test)]
@@ -12,17 +14,11 @@ mod edges;
 #[cfg(test)]
 mod flat;
 #[cfg(test)]
-mod folds;
-#[cfg(test)]
 mod leap;
 #[cfg(test)]
 mod lines;
 #[cfg(test)]
 mod marks;
-#[cfg(test)]
-mod names;
-#[cfg(test)]
-mod net;
 #[cfg(test)]
 mod pages;
 #[cfg(test)]
@@ -30,11 +26,7 @@ mod parity;
 #[cfg(test)]
 mod plans;
 #[cfg(test)]
-mod rows;
-#[cfg(test)]
 mod sense;
-#[cfg(test)]
-mod shapes;
 #[cfg(test)]
 mod trie;
 #[cfg(test)]

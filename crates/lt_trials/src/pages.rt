@@ -1,11 +1,13 @@
 //! Sets of rows in shared pages are edited beside sorted vectors: so many rows that pages and nodes split and go.
-ghost use Rattle.std.specs.Prelude.{◌≡◌, ◌<◌, IfOk};
+ghost use Rattle.std.specs.Prelude.{◌≡◌, IfOk};
 
 use crate::agree::{holds, same};
-use crate::flat::{Edit, made, row};
+use crate::flat::{Edit, Pair, made, row};
 use lt_face::{Items, Key, NoMemory, Row, RowList, RowReads, RowSet, RowWalk};
 use lt_flat::FlatRows;
 use lt_shared::SharedRows;
+use rand_core::Rng;
+use rand_pcg::Pcg32;
 use std::alloc::Global;
 use std::process::Abort;
 
@@ -45,7 +47,7 @@ fn paged(alloc: Global, rows: &FlatRows) -> Result<SharedRows, NoMemory> {
 }
 
 /// Whether the row was found.
-pub(crate) fn is_found(found: Option<&Row>, row: &Row) -> bool {
+fn is_found(found: Option<&Row>, row: &Row) -> bool {
     match found {
         Some(same) => same == row,
         None => false,
@@ -62,47 +64,45 @@ fn agree(rt: &impl Abort, alloc: Global, both: &Both) {
     }
 }
 
+/// Puts a row into a second owner of the pages, and answers how many rows and nodes that has then.
+fn grown_copy(
+    rt: &impl Abort,
+    alloc: Global,
+    pages: &SharedRows,
+    pair: Pair,
+) -> Result<(usize, usize), NoMemory> {
+    let mut copy = pages.share()?;
+    let grows = made(rt, alloc, &mut copy, Edit::Insert(pair));
+    let found = (copy.len(), copy.nodes());
+    drop(copy);
+    holds(rt, grows?);
+    Ok(found)
+}
+
+/// The pairs below this one, in a vector and in pages.
+fn both_below(rt: &impl Abort, alloc: Global, end: Key) -> Result<Both, NoMemory> {
+    let flat = pairs_below(rt, alloc, end)?;
+    let pages = paged(alloc, &flat)?;
+    Ok(Both { flat, pages })
+}
+
 #[test]
 fn many_rows_fill_pages(rt: HostRuntime) -> Result<(), NoMemory> {
     let alloc = rt.alloc();
-    let flat = pairs_below(&rt, alloc, 1001)?;
-    let first = paged(alloc, &flat)?;
-    let mut copy = first.share()?;
-    same(
-        &rt,
-        made(&rt, alloc, &mut copy, Edit::Insert((500, 8)))?,
-        true,
-    );
-    same(&rt, (copy.len(), first.len()), (1001, 1000));
-    same(&rt, (copy.nodes(), first.nodes()), (1, 1));
-    holds(&rt, !first.has(&row(alloc, (500, 8))));
-    agree(&rt, alloc, &Both { flat, pages: first });
+    let both = both_below(&rt, alloc, 1001)?;
+    let copy = grown_copy(&rt, alloc, &both.pages, (500, 8));
+    let kept = (both.pages.len(), both.pages.nodes());
+    let has_it = both.pages.has(&row(alloc, (500, 8)));
+    agree(&rt, alloc, &both);
+    drop(both);
+    same(&rt, (copy?, kept, has_it), ((1001, 1), (1000, 1), false));
     Ok(())
 }
 
-#[test]
-fn a_node_has_4096_rows(rt: HostRuntime) -> Result<(), NoMemory> {
-    let alloc = rt.alloc();
-    let mut rows = pairs_below(&rt, alloc, 4097)?;
-    same(&rt, paged(alloc, &rows)?.nodes(), 1);
-    made(&rt, alloc, &mut rows, Edit::Insert((1, 8)))?;
-    same(&rt, paged(alloc, &rows)?.nodes(), 2);
-    Ok(())
-}
-
-/// The next of a sequence of numbers without a pattern.
-pub(crate) fn next(seed: u64) -> u64 {
-    seed.wrapping_mul(6364136223846793005)
-        .wrapping_add(1442695040888963407)
-}
-
-/// An edit of one of so many rows: three of four put a row in where the set is to grow, and one of four where it is to
-/// shrink.
-fn edit_of(seed: u64, keys: u64, grows: bool) -> Edit
-    requires { 0 < keys }
-{
-    let key = Key::from((seed >> 33) % keys) + 1;
-    let is_rare = (seed >> 20) % 4 == 0;
+/// An edit of a row at random: three of four put a row in where the set is to grow, and one of four where it is to shrink.
+fn drawn(random: &mut Pcg32, grows: bool) -> Edit {
+    let key = Key::from(random.next_u32() % 9000) + 1;
+    let is_rare = random.next_u32() % 4 == 0;
     if is_rare == grows {
         Edit::Remove((key, 7))
     } else {
@@ -119,22 +119,21 @@ fn edit(rt: &impl Abort, alloc: Global, both: &mut Both, edit: Edit) -> Result<(
     Ok(())
 }
 
-/// Makes so many edits on both, with the pages shared before some, and answers the seed for more.
+/// Makes so many edits on both, with the pages shared before some.
 fn edit_all(
     rt: &impl Abort,
     alloc: Global,
     both: &mut Both,
+    random: &mut Pcg32,
     rounds: u64,
     grows: bool,
 ) -> Result<(), NoMemory> {
-    let mut seed = rounds;
     let mut other = both.pages.share()?;
     for round in 0..rounds {
-        seed = next(seed);
         if round % 64 == 0 {
             other = both.pages.share()?;
         }
-        edit(rt, alloc, both, edit_of(seed, 9000, grows))?;
+        edit(rt, alloc, both, drawn(random, grows))?;
     }
     drop(other);
     agree(rt, alloc, both);
@@ -152,10 +151,10 @@ fn none(alloc: Global) -> Result<Both, NoMemory> {
 fn pages_split_and_go(rt: HostRuntime) -> Result<(), NoMemory> {
     let alloc = rt.alloc();
     let mut both = none(alloc)?;
-    edit_all(&rt, alloc, &mut both, 12000, true)?;
+    let mut random = Pcg32::new(1, 1);
+    edit_all(&rt, alloc, &mut both, &mut random, 12000, true)?;
     holds(&rt, 1 < both.pages.nodes());
-    edit_all(&rt, alloc, &mut both, 12001, false)?;
-    edit_all(&rt, alloc, &mut both, 12002, false)?;
+    edit_all(&rt, alloc, &mut both, &mut random, 24000, false)?;
     holds(&rt, both.pages.len() < 3000);
-    edit_all(&rt, alloc, &mut both, 6000, true)
+    edit_all(&rt, alloc, &mut both, &mut random, 6000, true)
 }

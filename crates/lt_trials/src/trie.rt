@@ -1,4 +1,4 @@
-//! A trie iterator moves over sets of a few rows.
+//! A trie iterator moves over a set of two rows.
 ghost use Rattle.std.specs.Prelude.{◌≡◌, [], ◌∷◌, IfOk};
 
 use crate::agree::{holds, same};
@@ -29,29 +29,13 @@ fn goes_down_and_up(rt: HostRuntime) -> Result<(), NoMemory> {
     let set = two_rows(rt.alloc())?;
     let mut moves: Moves<()> = Moves::new();
     let mut trie = TrieIter::new(rt.alloc(), &set);
-    holds(&rt, trie.at_end());
-
     same(&rt, trie.open_level(&mut moves), gap(0, 1));
     same(&rt, trie.key(), 1);
     same(&rt, trie.open_level(&mut moves), gap(0, 7));
     same(&rt, trie.key(), 7);
     same(&rt, trie.prefix(), [1].as_slice());
-    same(&rt, trie.level(), 2);
     trie.up();
     same(&rt, trie.key(), 1);
-    Ok(())
-}
-
-#[test]
-fn opens_at_a_bound(rt: HostRuntime) -> Result<(), NoMemory> {
-    let set = two_rows(rt.alloc())?;
-    let mut moves: Moves<()> = Moves::new();
-    let mut trie = TrieIter::new(rt.alloc(), &set);
-    same(&rt, trie.open_at(2, &mut moves), gap(2, 2));
-    same(&rt, (trie.key(), trie.level()), (2, 1));
-    same(&rt, trie.open_at(8, &mut moves), gap(8, END));
-    trie.up();
-    same(&rt, (trie.key(), trie.level()), (2, 1));
     Ok(())
 }
 
@@ -69,26 +53,12 @@ fn moves_on_at_its_level(rt: HostRuntime) -> Result<(), NoMemory> {
 }
 
 #[test]
-fn a_copy_stays_where_it_was_made(rt: HostRuntime) -> Result<(), NoMemory> {
+fn ends_past_the_last_key(rt: HostRuntime) -> Result<(), NoMemory> {
     let set = two_rows(rt.alloc())?;
     let mut moves: Moves<()> = Moves::new();
     let mut trie = TrieIter::new(rt.alloc(), &set);
     trie.open_level(&mut moves);
-    let copy = trie.copy();
     same(&rt, trie.seek(5, &mut moves), gap(5, END));
     holds(&rt, trie.at_end());
-    same(&rt, (copy.key(), copy.level()), (1, 1));
-    Ok(())
-}
-
-#[test]
-fn opens_an_empty_set_at_its_end(rt: HostRuntime) -> Result<(), NoMemory> {
-    let set = FlatRows::empty(rt.alloc(), 2)?;
-    let mut moves: Moves<()> = Moves::new();
-    let mut trie = TrieIter::new(rt.alloc(), &set);
-    same(&rt, trie.open_level(&mut moves), gap(0, END));
-    holds(&rt, trie.at_end());
-    trie.up();
-    same(&rt, trie.level(), 0);
     Ok(())
 }

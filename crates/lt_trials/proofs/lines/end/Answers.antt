@@ -4,11 +4,6 @@ use Rattle.lt_circuit.specs.Line.{line_state}
 use Rattle.lt_trials.proofs.InHand.{ended_hand}
 use Rattle.lt_trials.proofs.lines.end.Goals as goal
 
-pub returns-then-not-finishes-clause-hand : goal.returns-then-not-finishes-clause-hand
-returns-then-not-finishes-clause-hand c =
-    let none : c.take.new.self ≡ None = search rules in
-    ended_hand c.abandon.new.self (line_state c.args.line.now).claim c.args.worker c.take.new.self none (ap (λ (t : State). t.claim) c.abandon.ensures.state)
-
 pub returns-in-Ok-clause-hand : goal.returns-in-Ok-clause-hand
 returns-in-Ok-clause-hand c =
     let none : c.take.new.self ≡ None = search rules in
@@ -17,4 +12,4 @@ returns-in-Ok-clause-hand c =
 pub returns-in-Err-clause-hand : goal.returns-in-Err-clause-hand
 returns-in-Err-clause-hand c =
     let none : c.take.new.self ≡ None = search rules in
-    ended_hand c.abandon-in-Err.new.self (line_state c.args.line.now).claim c.args.worker c.take.new.self none (ap (λ (t : State). t.claim) c.abandon-in-Err.ensures.state)
+    ended_hand c.abandon.new.self (line_state c.args.line.now).claim c.args.worker c.take.new.self none (ap (λ (t : State). t.claim) c.abandon.ensures.state)
