@@ -42,11 +42,11 @@ impl<W: LeafWork> Circuit<W> {
                 let mut moves: Moves<()> = Moves::new();
                 match job.work(true, &mut moves) {
                     Ok(output) => {
-                        self.finish(0, output);
+                        drop(self.finish(0, output));
                         Ok(())
                     }
                     Err(job) => {
-                        self.abandon(0, job);
+                        drop(self.abandon(0, job));
                         Err(NoMemory)
                     }
                 }

@@ -37,8 +37,8 @@ impl<W: LeafWork> Circuit<W> {
         ensures name { IfOk result (λ job. name_of_job job ≡ name) }
         ensures err { OnErr result (self.new ≡ self.old) }
     {
-        let captured = self.board.capture(name)?;
         let work = share_work(&self.work)?;
+        let captured = self.board.capture(name)?;
         let in_flight = self.board.in_flight();
         self.journal.reserve(in_flight as usize + 2)?;
         self.board.hold(worker, name, captured.held, captured.prior);

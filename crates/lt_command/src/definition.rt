@@ -140,11 +140,8 @@ fn replay<'a>(alloc: Global) -> Result<Command<'a>, AllocError>
 pub fn commands<'a>(alloc: Global) -> Result<Command<'a>, AllocError>
     ensures { IfOk result (λ command. app_of command ≡ definition.commands) }
 {
-    let run = run(alloc)?;
-    let bench = bench(alloc)?;
-    let replay = replay(alloc)?;
     let program = Command::new(alloc, "lt_shell").subcommand_required(true);
-    let program = program.subcommand(run)?;
-    let program = program.subcommand(bench)?;
-    program.subcommand(replay)
+    let program = program.subcommand(run(alloc)?)?;
+    let program = program.subcommand(bench(alloc)?)?;
+    program.subcommand(replay(alloc)?)
 }

@@ -1,4 +1,8 @@
 //! Where bytes come from and go to, and where a worker may be held up.
+//!
+//! `source` and `sink` are the traits, with what a call that fails leaves. `standard` puts them over the readers and writers of std,
+//! `mem_source` and `mem_sink` are in memory and fail as they are told, `sure` never fails. `gate` is what a worker passes before each
+//! job; `meet_gate` and `order_gate` are for tests. Read `specs/Memory`.
 #![tactic(auto)]
 
 mod gate;

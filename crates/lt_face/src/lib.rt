@@ -1,4 +1,10 @@
 //! Keys, rows, and the traits that the layers above them share.
+//!
+//! Begin with `key` and `row`: a key is a cell as joins see it, a row is at most 8 cells. `row_set` says what a set of rows answers and
+//! how it is edited (`RowReads`, `RowSet`), `near` where a search of it ended, `cutting` and `fraction` where it is cut, and `walk` goes
+//! over the rows of any. `key_iter` is an iterator that a join moves, `moves` counts its moves, `indexes` is what a join reads. `items` is
+//! the list type of all crates, seen as its elements, `memory` the one answer to want of memory, `limits` how much there may be. Read
+//! `specs/Rows`, `State` and `Limits`.
 #![tactic(auto)]
 
 mod cells;

@@ -1,5 +1,7 @@
 //! Measures searches of a set of rows, in nanoseconds each. `measure/search.rs`, at the top of the repository, makes the
 //! same searches in plain Rust.
+//!
+//! `grid` makes the rows, `searches` are timed, `random` draws.
 #![tactic(auto)]
 
 ghost use Rattle.std.specs.Prelude.{◌≡◌, ◌<◌};

@@ -1,5 +1,12 @@
 //! The circuit that repairs a batch, as a pure machine: jobs over a tree of leaves, the events that move them, and what a
 //! worker alone gets done. After Veldhuizen, "Transaction Repair: Full Serializability Without Locks", 2014.
+//!
+//! The machine is jobs by their codes over cells (`specs/Net`), the tree as one such net (`Tree`), what every event keeps (`Kept`), and
+//! how one worker settles (`Alone`). A line (`Line`) is one more such net: segments in a row, each such a tree, whose codes begin at 2048
+//! times its number, and a Pass between two; `Row` puts its state together from those of the segments, `LineAlone` is how one worker
+//! settles it. `before` and `then_all` take the marks that stand before the first leaf, so several trees in a row can hand `then_all` on.
+//! A job goes by its name, and only `Codes` reckons with its code: `code_of` and how many codes there are (`codes_over`) in `specs`, their
+//! laws in `proofs`, the functions in `job`.
 #![tactic(auto)]
 
 mod alone;

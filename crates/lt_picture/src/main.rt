@@ -1,4 +1,8 @@
 //! Draws what the workers of each batch did: a report with traces on standard input, a picture in SVG on standard output.
+//!
+//! `lines` tells what a line says, `trace` goes through the report and its traces, `names` keeps the names that the report tells,
+//! `entries` and `claims` take an entry, `batch` is what is drawn, and `picture`, `chart`, `bar` and `elements` write it, by the places in
+//! `layout` and the looks in `legend`.
 #![tactic(auto)]
 
 mod bar;

@@ -1,4 +1,7 @@
 //! The lines of a report, written to a sink. No call takes memory.
+//!
+//! `line` writes a line word by word; `lines`, `reply`, `rows`, `marks`, `show` and `traces` are the kinds of lines. Each says which bytes
+//! it appends: read `specs/Texts` and `Puts`.
 #![tactic(auto)]
 
 mod line;

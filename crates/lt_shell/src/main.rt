@@ -1,4 +1,6 @@
 //! The program: a script on standard input, its report on standard output.
+//!
+//! `main` hands words, source and sink to `repair_main` of `lt_session`, and tells in words why a run ended.
 #![tactic(auto)]
 
 use lt_edges::{OpenGate, StdSink, StdSource};

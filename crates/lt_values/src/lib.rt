@@ -1,4 +1,7 @@
 //! Cells: the keys that stand for ints and symbols, in the order of their values.
+//!
+//! `ints` and `symbols` go from values to cells and back, `sums` adds and takes away on cells, `text` is what a cell is written as, in 20
+//! bytes at the most. `laws` says that cells compare as their values. Read `specs/Ints` and `Symbols`.
 #![tactic(auto)]
 
 mod ints;

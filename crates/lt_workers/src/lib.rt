@@ -1,4 +1,25 @@
 //! A circuit, or a line, that worker threads settle together: each holds it for one event at a time, and works outside its turns.
+//!
+//! `machine` says what workers settle together, a trait that a circuit (`circuits`) and a line (`lines`) meet: it has what it is over,
+//! entries and a state (`stand`), gives jobs, and does one event a call. `beginning` is what one worker does alone, `handed` a machine as
+//! a value that is handed on, `shared` one visit to it (take, one step, give back), `driving` a worker (`drive`) and several (`fan_out`,
+//! by halves), `settling` the whole for a circuit: begin, fan out, close, and settle alone what is left. Read `specs/Alone` (what the
+//! beginning leaves), `Seen` (what a seat knows of the machine), `Visit` (what one visit does) and `Driven` (what stands when workers have
+//! ended). For a line `line_settling` is the whole, `line_beginning` hands on what is final after each job of worker 0 alone, `giving` the
+//! effects up to a segment, and `OnFinal` is who takes them (`specs/Given`). `line_driving` is several workers at a line (`fan_line`): the
+//! first one hands on what is final between its jobs, by looks at the line in a turn without an event, and the others are as at a circuit.
+//! A seat keeps what it has seen to be past, as no later event changes that.
+//!
+//! Which worker takes what is in no clause. Worker 0 begins alone on the circuit itself, without a turn, in the order of the walk. Its
+//! leaves keep nothing of their runs (`LeafWork::work_last`), but where others may be called the first and one in eight do, and the second
+//! where it isn't free: these tell how dear they were (`LeafWork::weight`, for a program the gaps and hits of its senses). Where leaves
+//! are dear in the mean and enough of them is left (`pace`), the next leaf's job goes back, so that all inner jobs are done, and the
+//! others are called, no more than there are leaves. A leaf is *free* where no program before it in the batch writes a relation that it
+//! reads: what it does on the snapshot is final, so whoever runs it keeps nothing of its run. Others than worker 0 take the lowest free
+//! leaf that never ran, then the first inner job, then the first leaf on the walk. A leaf that isn't free runs early at a risk. Two such
+//! leaves are looked at first, whether the gaps of most of their run cover what their corrections mark (`LeafWork::is_tied`): where both
+//! are tied, free leaves alone are worth a call. Later a worker ends where more of its leaves ran again in vain than not (`Luck`). A gate
+//! that waits (`Gate::waits`) has all workers from the start.
 #![tactic(auto)]
 
 mod basis;

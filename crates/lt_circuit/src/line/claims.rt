@@ -27,8 +27,8 @@ impl<W: LeafWork> Line<W> {
         ensures err { OnErr result (self.new ≡ self.old) }
     {
         let _segments = self.row.count();
-        let captured = self.row.capture(code)?;
         let work = share_work(&self.work)?;
+        let captured = self.row.capture(code)?;
         let in_flight = self.row.in_flight();
         self.journal.reserve(in_flight as usize + 2)?;
         self.row
