@@ -10,10 +10,12 @@
 
 A program that is refused or has a code is a reply, and no error; a text that isn't taken, and an item with a code, are exceptions.
 """
+import os
 import re
 import subprocess
 import sys
 import time
+from collections import deque
 from typing import NamedTuple
 
 
@@ -40,7 +42,9 @@ def literal(value):
 
 class Console:
     def __init__(self, program, *words):
-        self.process = subprocess.Popen([program, *words], stdin=subprocess.PIPE, stdout=subprocess.PIPE, bufsize=1 << 16)
+        self.process = subprocess.Popen([program, *words], stdin=subprocess.PIPE, stdout=subprocess.PIPE, bufsize=0)
+        self.input, self.output = self.process.stdin.fileno(), self.process.stdout.fileno()
+        self.lines, self.rest = deque(), b""        # what was read: whole lines, and the beginning of one
         self.kinds = {}
 
     def __enter__(self):
@@ -55,15 +59,26 @@ class Console:
         return self.process.wait()
 
     def send(self, text):
-        """An item with its last semicolon at the end of the last line, or a command."""
-        self.process.stdin.write(text.encode() + b"\n")
-        self.process.stdin.flush()
+        """An item with its last semicolon at the end of the last line, or a command: one write, but for a long text."""
+        data = text.encode() + b"\n"
+        sent = os.write(self.input, data)
+        while sent < len(data):
+            sent += os.write(self.input, data[sent:sent + (1 << 16)])
+
+    def next_line(self):
+        """The line that is read next. What the console has written is read at once, so a short answer is one read."""
+        while not self.lines:
+            data = os.read(self.output, 1 << 16)
+            if not data:
+                raise EOFError(f"the console ended with status {self.process.wait()}")
+            whole, end, self.rest = (self.rest + data).rpartition(b"\n")
+            if end:
+                self.lines.extend(whole.decode().split("\n"))
+        return self.lines[0]
 
     def line(self):
-        line = self.process.stdout.readline()
-        if not line.endswith(b"\n"):
-            raise EOFError(f"the console ended with status {self.process.wait()}")
-        return line[:-1].decode()
+        self.next_line()
+        return self.lines.popleft()
 
     def answer(self):
         """The first line that answers an item. Rows are never read here, so a row can't be taken for an error."""
@@ -84,20 +99,22 @@ class Console:
         self.answer()
         self.kinds[relation] = re.findall("int|sym", columns)
 
+    def reply(self):
+        """What a program is answered."""
+        name, state, *numbers = self.line().split(" ")
+        if state != "done":
+            return Reply(name, state, int(numbers[-1]), int(numbers[0]) if state == "bad" else 0, [])
+        prints = []
+        while self.next_line().startswith("print "):
+            prints.append(self.rows(int(self.line().split(" ")[2])))
+        return Reply(name, state, 0, 0, prints)
+
     def batch(self, programs):
         """Runs programs, pairs of a name and a text; the number of the version, and their replies."""
-        self.send("batch\n" + "".join(f"program {name} {text} end;\n" for name, text in programs) + "commit;")
+        self.send("batch " + "".join([f"program {name} {text} end;\n" for name, text in programs]) + "commit;")
         self.answer()
-        replies, line = [], self.line()
-        for _ in programs:
-            name, state, *numbers = line.split(" ")
-            numbers = [int(number) for number in numbers]
-            prints, line = [], self.line()
-            while state == "done" and line.startswith("print "):
-                prints.append(self.rows(int(line.split(" ")[2])))
-                line = self.line()
-            replies.append(Reply(name, state, numbers[-1] if numbers else 0, numbers[0] if state == "bad" else 0, prints))
-        return int(line.split(" ")[1]), replies
+        replies = [self.reply() for _ in programs]
+        return int(self.line()[8:]), replies
 
     def run(self, name, text):
         return self.batch([(name, text)])[1][0]
