@@ -139,7 +139,7 @@ impl Bound {
         ensures { result ≡ list_all (λ name. has self.now (place_of names.now name)) (seen each.now) }
     {
         for name in each {
-            if !self.has(names.number_of(*name)) {
+            if !self.has(names.place_of(*name)) {
                 return false;
             }
         }

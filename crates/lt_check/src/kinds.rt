@@ -134,7 +134,7 @@ impl Known {
         ensures { result ≡ known_of names.now self.now term.now }
     {
         match term {
-            Term::Name(name) => self.at(names.place(name)),
+            Term::Name(name) => self.at(names.place_of_name(name)),
             Term::Cell(kind, _) => Some(*kind),
         }
     }
@@ -157,7 +157,7 @@ impl Known {
         ensures { Narrows (λ choice. same_kind (kind_of names.now choice term.now) kind) self.old result self.new }
     {
         match term {
-            Term::Name(name) => self.learn_at(names.place(name), kind),
+            Term::Name(name) => self.learn_at(names.place_of_name(name), kind),
             Term::Cell(given, _) => agreed(*given, kind),
         }
     }
@@ -198,7 +198,7 @@ impl Known {
             Literal::Absent(_) => Told::Nothing,
             Literal::Cmp { left, right, .. } => self.learn_same(names, left, right),
             Literal::Sum { var, a, b, .. } => {
-                let var = self.learn_at(names.place(var), Kind::Int);
+                let var = self.learn_at(names.place_of_name(var), Kind::Int);
                 let a = self.learn(names, a, Kind::Int);
                 let b = self.learn(names, b, Kind::Int);
                 var.and(a.and(b))

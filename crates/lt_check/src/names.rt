@@ -6,7 +6,7 @@ ghost use Rattle.lt_check.specs.Seen.{seen};
 
 use lt_face::memory::NoMemory;
 use lt_model::name::Name;
-use lt_reading::texts::are_same;
+use lt_model::texts::are_same;
 use std::alloc::Global;
 use std::marker::Model;
 
@@ -77,23 +77,23 @@ impl<'a> Names<'a> {
     }
 
     /// Where a name stands, if it is there.
-    pub fn seek(&self, name: &Name) -> Option<usize>
+    pub fn find_name(&self, name: &Name) -> Option<usize>
         ensures { result ≡ position (bytes_eq name.now) self.now }
     {
         self.find(name.as_bytes())
     }
 
     /// The place of the name of these bytes, 0 where it isn't there.
-    pub fn number_of(&self, name: &[u8]) -> usize
+    pub fn place_of(&self, name: &[u8]) -> usize
         ensures { result ≡ place_of self.now name.now }
     {
         self.find(name).unwrap_or(0)
     }
 
     /// A name's place, 0 where it isn't there.
-    pub fn place(&self, name: &Name) -> usize
+    pub fn place_of_name(&self, name: &Name) -> usize
         ensures { result ≡ place_of self.now name.now }
     {
-        self.number_of(name.as_bytes())
+        self.place_of(name.as_bytes())
     }
 }

@@ -120,7 +120,7 @@ impl<'a> Notes<'a> {
         ensures takes { IfOk result (λ _. Takes (given.Name name.now ∷ []) (λ _ _. true) self.old self.new) }
         ensures number { IfOk result (λ number. (whole : List (List ℕ)) → IsWhole self.new.names whole → number ≡ place_of whole name.now) }
     {
-        match self.names.seek(name) {
+        match self.names.find_name(name) {
             Some(place) => Ok(number_at(place)),
             None => self.number_anew(name),
         }
@@ -203,7 +203,7 @@ impl<'a> Notes<'a> {
     fn kind_of_name(&self, name: &Name) -> Option<Kind>
         ensures { IfSome result (λ kind. (whole : List (List ℕ)) (choice : Choice) → IsWhole self.now.names whole → Agrees self.now choice → slice_index_or choice (place_of whole name.now) Int ≡ kind) }
     {
-        match self.names.seek(name) {
+        match self.names.find_name(name) {
             Some(place) => self.known.get(place),
             None => None,
         }

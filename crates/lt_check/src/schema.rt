@@ -9,7 +9,7 @@ use lt_face::limits::MOST_RELATIONS;
 use lt_face::memory::NoMemory;
 use lt_model::kind::{Kind, KindList};
 use lt_model::name::{Headings, Name};
-use lt_reading::texts::are_same;
+use lt_model::texts::are_same;
 use std::alloc::Global;
 use std::marker::Model;
 

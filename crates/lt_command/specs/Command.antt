@@ -47,10 +47,10 @@ abbrev pub seed_in : List Row → ℕ
 seed_in rows = unwrap_or (option_and_then (number_of 64) (one_of (codes "seed") rows)) 0
 
 abbrev pub items_in : List Row → ℕ
-items_in = number_within 1 16384 1 (codes "items")
+items_in = number_within 1 definition.most_items 1 (codes "items")
 
 abbrev pub programs_in : List Row → ℕ
-programs_in = number_within 1 65536 1 (codes "programs")
+programs_in = number_within 1 definition.most_buyers 1 (codes "programs")
 
 -- how many readers: none where they don't say
 abbrev pub readers_in : List Row → ℕ
@@ -60,7 +60,7 @@ readers_in = number_within 0 definition.most_readers 0 (codes "readers")
 abbrev pub IsWithin : declared.Command → Type 0
 IsWithin (Run workers pipeline marks trace) = (1 ≤ workers) × (workers ≤ most_workers) × (1 ≤ pipeline) × (pipeline ≤ definition.most_in_line)
 IsWithin (Bench seed items programs workers readers) =
-    (1 ≤ items) × (items ≤ 16384) × (1 ≤ programs) × (programs ≤ 65536) × (1 ≤ workers) × (workers ≤ most_workers) × (readers ≤ definition.most_readers)
+    (1 ≤ items) × (items ≤ definition.most_items) × (1 ≤ programs) × (programs ≤ definition.most_buyers) × (1 ≤ workers) × (workers ≤ most_workers) × (readers ≤ definition.most_readers)
 IsWithin (Replay marks) = Unit {0}
 
 -- the command whose matches these are

@@ -5,6 +5,14 @@ use Rattle.clap.specs.Words.{App, Rule, new_app, new_rule, with_rule, with_subco
 use Rattle.clap.specs.declared.builder.value_parser.ValueParser.TheVariants.{Signed, Unsigned}
 use Rattle.clap.specs.declared.builder.action.ArgAction.TheVariants.{SetTrue}
 
+-- things that a generated script has in stock
+abbrev pub most_items : ℕ
+most_items = 16384
+
+-- programs of a generated script that buy
+abbrev pub most_buyers : ℕ
+most_buyers = 65536
+
 -- readers beside the batches of a bench
 abbrev pub most_readers : ℕ
 most_readers = 8
@@ -54,7 +62,7 @@ abbrev pub items : Rule
 items = record (new_rule (codes "items")) {
   long = Some (codes "items");
   required = true;
-  parser = Some (Signed (pos 1) (pos 16384));
+  parser = Some (Signed (pos 1) (pos most_items));
 }
 
 -- `--programs P`, with P from 1 to 65536
@@ -62,7 +70,7 @@ abbrev pub programs : Rule
 programs = record (new_rule (codes "programs")) {
   long = Some (codes "programs");
   required = true;
-  parser = Some (Signed (pos 1) (pos 65536));
+  parser = Some (Signed (pos 1) (pos most_buyers));
 }
 
 -- `--readers M`, with M from 0 to 8

@@ -8,6 +8,12 @@ use clap::{Arg, ArgAction, Command, value_parser};
 use lt_face::limits::MOST_WORKERS;
 use std::alloc::{AllocError, Global};
 
+/// Things that a generated script has in stock.
+pub(crate) const MOST_ITEMS: u32 = 16384;
+
+/// Programs of a generated script that buy.
+pub(crate) const MOST_BUYERS: u32 = 65536;
+
 /// Readers beside the batches of a bench.
 pub(crate) const MOST_READERS: u32 = 8;
 
@@ -73,7 +79,7 @@ fn items<'a>(alloc: Global) -> Arg<'a>
     Arg::new(alloc, "items")
         .long("items")
         .required(true)
-        .value_parser(value_parser!(u32).range(1..=16384))
+        .value_parser(value_parser!(u32).range(1..=MOST_ITEMS as i64))
 }
 
 // `--programs P`: how many programs of a generated script buy.
@@ -84,7 +90,7 @@ fn programs<'a>(alloc: Global) -> Arg<'a>
     Arg::new(alloc, "programs")
         .long("programs")
         .required(true)
-        .value_parser(value_parser!(u32).range(1..=65536))
+        .value_parser(value_parser!(u32).range(1..=MOST_BUYERS as i64))
 }
 
 // `--readers M`: how many readers ask beside the batches.

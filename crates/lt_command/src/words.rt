@@ -3,7 +3,7 @@ ghost use Rattle.std.specs.Prelude.{◌≡◌, ◌≤◌, IfOk, IfSome, map, str
 ghost use Rattle.clap.specs.Words.{found_of, rows_of, subcommand_rows_of};
 ghost use Rattle.lt_command.specs.Command.{command, command_in, is_given_in, number_within, seed_in, IsWithin};
 
-use crate::definition::{MOST_IN_LINE, MOST_READERS, commands};
+use crate::definition::{MOST_BUYERS, MOST_IN_LINE, MOST_ITEMS, MOST_READERS, commands};
 use clap::ArgMatches;
 use clap::error::ErrorKind;
 use lt_face::NoMemory;
@@ -83,8 +83,8 @@ fn command_met(matches: &ArgMatches<'_>) -> Option<Command>
     if name == "bench" {
         return Some(Command::Bench {
             seed: seed_of(inner),
-            items: number_of(inner, "items", 1, 1, 16384),
-            programs: number_of(inner, "programs", 1, 1, 65536),
+            items: number_of(inner, "items", 1, 1, MOST_ITEMS),
+            programs: number_of(inner, "programs", 1, 1, MOST_BUYERS),
             workers: number_of(inner, "workers", 4, 1, MOST_WORKERS as u32),
             readers: number_of(inner, "readers", 0, 0, MOST_READERS),
         });

@@ -1,4 +1,5 @@
 //! What the words of the command line ask for.
+use lt_face::limits::MOST_WORKERS;
 use std::alloc::{AllocError, Global};
 
 /// What is asked for.
@@ -16,15 +17,13 @@ pub struct Wishes {
     pub unclear: bool,
 }
 
-// The most workers, and how many there are where nothing is said.
-const MOST: u32 = 16;
-
+// How many workers there are where nothing is said.
 const USUAL: u32 = 4;
 
 // How many workers a word names; none where it names no number of them.
 fn count_of(word: &str) -> Option<u32> {
     match word.parse::<u32>() {
-        Ok(count) if 1 <= count && count <= MOST => Some(count),
+        Ok(count) if 1 <= count && count <= MOST_WORKERS as u32 => Some(count),
         _ => None,
     }
 }

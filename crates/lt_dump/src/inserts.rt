@@ -1,14 +1,16 @@
 //! The text of batches that insert rows.
 use lt_face::NoMemory;
 use lt_face::key::Key;
+use lt_face::limits::MOST_STATEMENTS;
 use lt_input::pieces::{push_all, push_cell};
 use lt_model::kind::Kind;
 use std::alloc::Global;
 
-// So many statements a program, and so many a batch.
-const PROGRAM: u64 = 64;
+// So many statements a program.
+const PROGRAM: u64 = MOST_STATEMENTS as u64;
 
-const BATCH: u64 = 4096;
+// So many a batch, in 64 programs.
+const BATCH: u64 = 64 * PROGRAM;
 
 /// A script of batches, and how many rows they insert.
 #[derive(Drop)]

@@ -9,6 +9,7 @@ use Rattle.lt_model.specs.declared.syntax.Statement.{Statement}
 use Rattle.lt_model.specs.declared.syntax.Item.TheVariants.{Batch}
 use Rattle.lt_model.specs.Cells.{zero_cell}
 use Rattle.lt_model.specs.Limits.{IsStatementWithin, IsProgramWithin, IsWithinLimits}
+use Rattle.lt_gen.specs.Limits.{most_items, most_buyers}
 use Rattle.lt_gen.specs.Draws.{draw, x_after}
 use Rattle.lt_gen.specs.Programs.{stocks, load, buy, requires_stock, stock_query, takes_stock, sells, prints_sales}
 use Rattle.lt_gen.specs.Script.{bench_items, buy_items, buyer, group_at, groups, numbers, stock_of}
@@ -150,7 +151,7 @@ buyer_within seed items p some few hp =
 
 -- ---- the script
 
-pub bench_within : (seed items programs : ℕ) → 1 ≤ items → items ≤ 16384 → programs ≤ 65536 → AllByRecursion IsWithinLimits (bench_items seed items programs)
+pub bench_within : (seed items programs : ℕ) → 1 ≤ items → items ≤ most_items → programs ≤ most_buyers → AllByRecursion IsWithinLimits (bench_items seed items programs)
 bench_within seed items programs some few few_programs =
     let rows = map (stock_of seed) (numbers items) in
     let buyers = map (buyer seed items) (numbers programs) in
@@ -162,7 +163,7 @@ bench_within seed items programs some few few_programs =
     let buy_batch : (j : ℕ) → IsWithinLimits (Batch (group_at buyers j)) = λ j. let h : length (group_at buyers j) ≤ 256 = omega (arith, few_in_group buyers j) in (all_group IsProgramWithin buyers j each_buyer, h) in
     ((lit≤ tt, lit≤ tt, lit≤ tt, lit≤ tt), ((lit≤ tt, lit≤ tt, lit≤ tt, lit≤ tt), (load_batch, all_mapped IsWithinLimits Batch (group_at buyers) (range_with_len 0 ((length buyers + 63) / 64)) buy_batch)))
 
-pub bench_count : (seed items programs : ℕ) → programs ≤ 65536 → length (bench_items seed items programs) ≤ 1027
+pub bench_count : (seed items programs : ℕ) → programs ≤ most_buyers → length (bench_items seed items programs) ≤ 1027
 bench_count seed items programs few =
     let e : length (buy_items seed items programs) ≡ (programs + 63) / 64 = group_total Batch (buyer seed items) programs in
     omega (arith, e, few)

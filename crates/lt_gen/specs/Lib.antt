@@ -4,3 +4,4 @@ pub mod Script
 pub mod Answered
 pub mod Summaries
 pub mod Counted
+pub mod Limits

@@ -1,5 +1,6 @@
 //! Programs that buy.
 ghost use Rattle.std.specs.Prelude.{◌≡◌, ◌++◌, ◌+◌, ◌-◌, ◌*◌, ◌<◌, ◌≤◌, min, map, IfOk, OnOk};
+ghost use Rattle.lt_gen.specs.Limits.{most_buyers, most_items};
 ghost use Rattle.lt_gen.specs.Script.{buy_items, buyer, group_at, numbers};
 
 use crate::draws::Draws;
@@ -14,8 +15,8 @@ use std::alloc::Global;
 // The program behind so many others.
 fn buyer(alloc: Global, draws: &mut Draws, items: u32, before: u32) -> Result<Program, NoMemory>
     requires some { 1 ≤ items }
-    requires few { items ≤ 16384 }
-    requires few_before { before < 65536 }
+    requires few { items ≤ most_items }
+    requires few_before { before < most_buyers }
     requires drawn { draws.old.count ≡ items + 3 * before }
     ensures program { IfOk result (λ program. program ≡ buyer draws.old.seed items (before + 1)) }
     ensures seed { draws.new.seed ≡ draws.old.seed }
@@ -36,8 +37,8 @@ fn buy_group(
     j: u32,
 ) -> Result<ProgramList, NoMemory>
     requires some { 1 ≤ items }
-    requires few { items ≤ 16384 }
-    requires few_programs { programs ≤ 65536 }
+    requires few { items ≤ most_items }
+    requires few_programs { programs ≤ most_buyers }
     requires there { 64 * j < programs }
     requires drawn { draws.old.count ≡ items + 3 * (64 * j) }
     ensures group { IfOk result (λ group. group ≡ group_at (map (buyer draws.old.seed items) (numbers programs)) j) }
@@ -62,8 +63,8 @@ pub fn push_buys(
     programs: u32,
 ) -> Result<(), NoMemory>
     requires some { 1 ≤ items }
-    requires few { items ≤ 16384 }
-    requires few_programs { programs ≤ 65536 }
+    requires few { items ≤ most_items }
+    requires few_programs { programs ≤ most_buyers }
     requires drawn { draws.old.count ≡ items }
     ensures { OnOk result (script.new ≡ script.old ++ buy_items draws.old.seed items programs) }
 {

@@ -1,5 +1,6 @@
 //! Programs that load a row for each item.
 ghost use Rattle.std.specs.Prelude.{◌≡◌, ◌+◌, ◌-◌, ◌*◌, ◌<◌, ◌≤◌, min, map, IfOk, OnOk};
+ghost use Rattle.lt_gen.specs.Limits.{most_items};
 ghost use Rattle.lt_gen.specs.Programs.{load};
 ghost use Rattle.lt_gen.specs.Script.{group_at, groups, numbers, stock_of};
 
@@ -14,7 +15,7 @@ use std::alloc::Global;
 
 // The row of the item behind so many others.
 fn stock_of(alloc: Global, draws: &mut Draws, before: u32) -> Result<Statement, NoMemory>
-    requires few { before < 16384 }
+    requires few { before < most_items }
     requires drawn { draws.old.count ≡ before }
     ensures statement { IfOk result (λ statement. statement ≡ stock_of draws.old.seed (before + 1)) }
     ensures seed { draws.new.seed ≡ draws.old.seed }
@@ -31,7 +32,7 @@ fn load_group(
     items: u32,
     j: u32,
 ) -> Result<StatementList, NoMemory>
-    requires few { items ≤ 16384 }
+    requires few { items ≤ most_items }
     requires there { 64 * j < items }
     requires drawn { draws.old.count ≡ 64 * j }
     ensures group { IfOk result (λ group. group ≡ group_at (map (stock_of draws.old.seed) (numbers items)) j) }
@@ -49,7 +50,7 @@ fn load_group(
 
 /// The programs of the batch that loads the items.
 pub fn load_programs(alloc: Global, draws: &mut Draws, items: u32) -> Result<ProgramList, NoMemory>
-    requires few { items ≤ 16384 }
+    requires few { items ≤ most_items }
     requires drawn { draws.old.count ≡ 0 }
     ensures programs { IfOk result (λ programs. programs ≡ map load (groups (map (stock_of draws.old.seed) (numbers items)))) }
     ensures seed { draws.new.seed ≡ draws.old.seed }

@@ -2,6 +2,7 @@
 ghost use Rattle.std.specs.Prelude.{◌≡◌, ◌≤◌, ◌∷◌, [], length, IfOk};
 ghost use Rattle.std.specs.List.{AllByRecursion};
 ghost use Rattle.lt_model.specs.Limits.{IsWithinLimits};
+ghost use Rattle.lt_gen.specs.Limits.{most_buyers, most_items};
 ghost use Rattle.lt_gen.specs.Script.{bench_items, sale_item, stock_item};
 
 use crate::buying::push_buys;
@@ -42,8 +43,8 @@ pub fn bench_script(
     items: u32,
     programs: u32,
 ) -> Result<ItemList, NoMemory>
-    requires items { (1 ≤ items) × (items ≤ 16384) }
-    requires programs { (1 ≤ programs) × (programs ≤ 65536) }
+    requires items { (1 ≤ items) × (items ≤ most_items) }
+    requires programs { (1 ≤ programs) × (programs ≤ most_buyers) }
     ensures script { IfOk result (λ script. script ≡ bench_items seed items programs) }
     ensures within { IfOk result (λ script. AllByRecursion IsWithinLimits script) }
     ensures few { IfOk result (λ script. length script ≤ 1027) }

@@ -1,5 +1,5 @@
 //! What an item answers at a pipe: its lines of the report, and a line where there are none.
-ghost use Rattle.std.specs.Prelude.{◌≡◌, ◌≤◌, false, OnOk};
+ghost use Rattle.std.specs.Prelude.{OnOk};
 ghost use Rattle.std.specs.Io.KnownBytes.{Appends};
 ghost use Rattle.lt_model.specs.declared.syntax.Item.TheVariants as items;
 ghost use Rattle.lt_model.specs.Limits.{IsWithinLimits};
@@ -12,29 +12,12 @@ use lt_model::kind::KindList;
 use lt_model::name::Name;
 use lt_model::syntax::Item;
 use lt_report::{put_bad_item, put_line};
+use lt_telling::settings::options;
 use lt_world::halt::Halt;
-use lt_world::options::Options;
 use lt_world::world::World;
 use std::alloc::Global;
 use std::sync::Wait;
 use std::thread::Threads;
-
-// The most workers.
-const MOST: u32 = 16;
-
-/// How the world runs batches: by so many workers, from 1 to 16.
-pub fn options(workers: u32) -> Options
-    ensures some { 1 ≤ result.workers }
-    ensures few { result.workers ≤ 16 }
-    ensures unmarked { result.marks ≡ false }
-{
-    Options {
-        workers: workers.clamp(1, MOST),
-        pipeline: 1,
-        marks: false,
-        trace: false,
-    }
-}
 
 // A declaration. One that is taken is told.
 fn declare<K: Sink>(

@@ -7,13 +7,13 @@ ghost use Rattle.std.specs.Prelude.{◌≤◌, length};
 ghost use Rattle.lt_face.specs.Limits.{most_programs};
 ghost use Rattle.lt_world.specs.World.{IsWorld, Takes};
 
-use crate::answers::options;
 use crate::reasons::{put_reasons, put_show_reason};
 use lt_edges::{OpenGate, Sink};
 use lt_model::kind::KindList;
 use lt_model::name::Name;
 use lt_model::syntax::{Item, Program};
 use lt_report::{put_bad_item, put_line};
+use lt_telling::settings::options;
 use lt_telling::telling::put_reason;
 use lt_world::batch::put_ran;
 use lt_world::halt::Halt;

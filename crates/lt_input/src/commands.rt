@@ -1,4 +1,5 @@
 //! Commands: lines that begin with a point.
+use lt_face::limits::MOST_WORKERS;
 use std::str;
 
 /// A command.
@@ -35,9 +36,6 @@ impl NoCommand {
         }
     }
 }
-
-// The most workers.
-const MOST: u32 = 16;
 
 // The commands that may stand without arguments.
 const LONE: [(&str, Command<'static>); 6] = [
@@ -89,7 +87,7 @@ fn timed(word: &str) -> Result<Command<'static>, NoCommand> {
 // The command that sets how many workers run a batch.
 fn worked(word: &str) -> Result<Command<'static>, NoCommand> {
     match word.parse::<u32>() {
-        Ok(count) if 1 <= count && count <= MOST => Ok(Command::Workers { count }),
+        Ok(count) if 1 <= count && count <= MOST_WORKERS as u32 => Ok(Command::Workers { count }),
         _ => Err(NoCommand::Argument),
     }
 }

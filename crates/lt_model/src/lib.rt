@@ -1,4 +1,4 @@
-//! The language: its plain data here, and in `specs/` what they mean. It has no logic.
+//! The language: its plain data here, and in `specs/` what they mean. Its only code compares names and texts.
 //!
 //! Read `specs` in this order: `Tokens`, `Grammar` (what is a script), `Report` (what it answers), then what these name: `Check` (codes),
 //! `Effect` and `Answers` (what a statement does), `Serial` (programs one after another). In `src`, `syntax` is a script as it is written
@@ -13,6 +13,7 @@ pub mod name;
 pub mod normal;
 pub mod reply;
 pub mod syntax;
+pub mod texts;
 pub mod theorems;
 
 pub use kind::{Kind, KindList};

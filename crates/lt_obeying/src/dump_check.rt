@@ -4,13 +4,13 @@ ghost use Rattle.lt_base.specs.Tables.{state_of};
 ghost use Rattle.lt_script.specs.Feed.{HasFed};
 ghost use Rattle.lt_obeying.specs.Dumped.{IsDumped, IsMadeBy, Makes};
 
-use crate::running::options;
 use lt_dump::comparing::{are_same_headings, is_same_state};
 use lt_dump::dump::dump_text;
 use lt_dump::inserts::Inserts;
 use lt_edges::{OpenGate, Sink, SureSink};
 use lt_face::NoMemory;
 use lt_script::{Feed, FeedStep};
+use lt_telling::settings::options;
 use lt_telling::text::put_text;
 use lt_world::halt::Halt;
 use lt_world::world::World;

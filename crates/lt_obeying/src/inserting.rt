@@ -3,13 +3,13 @@ ghost use Rattle.std.specs.Prelude.{OnOk};
 ghost use Rattle.lt_model.specs.Limits.{IsWithinLimits};
 ghost use Rattle.lt_world.specs.World.{IsWorld};
 
-use crate::running::options;
 use lt_edges::{OpenGate, SureSink};
 use lt_face::NoMemory;
 use lt_model::name::Name;
 use lt_model::syntax::Item;
 use lt_tables::loads::{BATCH, programs_of};
 use lt_tables::table_rows::TableRows;
+use lt_telling::settings::options;
 use lt_world::world::World;
 use std::alloc::Global;
 use std::sync::Wait;

@@ -14,7 +14,7 @@ use lt_input::commands::Command;
 use lt_input::places::Spot;
 use lt_input::script::Script;
 use lt_input::words::HELP;
-use lt_model::name::Name;
+use lt_model::name::{LONGEST, Name};
 use lt_report::put_line;
 use lt_tables::table_rows::TableRows;
 use lt_tables::tables::{TableError, export, rows_of};
@@ -39,9 +39,6 @@ pub enum Then<F: Drop> {
     Read(F),
     Quit,
 }
-
-// The most bytes of a name.
-const LONGEST: usize = 15;
 
 // Tells an error of the line that was read last, and does nothing.
 fn refuse<K: Sink>(sink: &mut K, script: &Script, code: u32, about: &str) -> Result<(), Halt> {

@@ -4,7 +4,7 @@ ghost use Rattle.std.specs.List.{list_any};
 ghost use Rattle.std.specs.Str.{bytes_eq};
 ghost use Rattle.lt_script.specs.Parsed.{texts};
 
-use lt_reading::texts::are_same;
+use lt_model::texts::are_same;
 
 /// Whether the text is among these.
 #[inline(always)]

@@ -11,6 +11,7 @@ use crate::slots::{Blank, Slot};
 use lt_face::key::Key;
 use lt_face::memory::NoMemory;
 use lt_model::form::CellList;
+use lt_model::name::LONGEST;
 use std::alloc::Global;
 
 /// The bytes behind a statement, and how many lines it goes down.
@@ -19,9 +20,6 @@ pub struct Behind<'a> {
     pub rest: &'a [u8],
     pub lines: u64,
 }
-
-// The bytes of the longest symbol.
-const LONGEST: usize = 15;
 
 /// What stands behind this text, where the bytes begin with it.
 fn left_behind<'a>(bytes: &'a [u8], text: &[u8]) -> Option<&'a [u8]>

@@ -9,6 +9,7 @@ use crate::label::{Label, Unreserved};
 use crate::reserved::{find_reserved, find_sign};
 use crate::runs::{digits_len, line_len, word_len};
 use crate::token::{Lexeme, Token};
+use lt_model::name::LONGEST;
 
 /// The next token, the end of the bytes, or the code of a fault inside a token.
 #[derive(Clone, Copy)]
@@ -24,9 +25,6 @@ pub struct Lexer<'a> {
     pub rest: &'a [u8],
     pub line: u64,
 }
-
-// The bytes of the longest word.
-const LONGEST: usize = 15;
 
 impl<'a> Lexer<'a> {
     /// At the first of these bytes, on line 1.

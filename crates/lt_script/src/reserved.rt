@@ -4,7 +4,7 @@ ghost use Rattle.std.specs.Str.{bytes_eq};
 ghost use Rattle.lt_model.specs.Tokens.{sign_at};
 ghost use Rattle.lt_script.specs.Reserved.{reserved_of, first_sign};
 
-use lt_reading::texts::are_same;
+use lt_model::texts::are_same;
 
 /// A word that is no name.
 #[derive(Clone, Copy, PartialEq, Eq)]

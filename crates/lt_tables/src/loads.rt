@@ -7,7 +7,7 @@ ghost use Rattle.lt_tables.specs.Loads.{AreConstants};
 
 use crate::table_rows::TableRows;
 use lt_face::NoMemory;
-use lt_face::key::Key;
+use lt_face::key::{CELL_LIMIT, Key};
 use lt_face::limits::{MOST_COLUMNS, MOST_STATEMENTS};
 use lt_model::form::Wording;
 use lt_model::kind::Kind;
@@ -21,15 +21,12 @@ use std::alloc::Global;
 const PROGRAMS: usize = 64;
 
 /// How many rows a batch inserts.
-pub const BATCH: usize = 4096;
-
-// The first number that is no cell.
-const END: Key = 1 << 120;
+pub const BATCH: usize = PROGRAMS * MOST_STATEMENTS;
 
 fn is_cell(cell: Key) -> bool
     ensures { result ≡ true → IsCell cell }
 {
-    1 <= cell && cell < END
+    1 <= cell && cell < CELL_LIMIT
 }
 
 // The cells of a row as constants, up to the first that is none.

@@ -7,9 +7,7 @@ ghost use Rattle.lt_model.specs.Tokens.{in_word};
 ghost use Rattle.lt_values.specs.Symbols.{is_symbol};
 
 use lt_face::key::Key;
-
-/// The most bytes that a symbol has.
-const LONGEST: usize = 15;
+use lt_model::name::LONGEST;
 
 /// The cell of a symbol: the number whose 15 digits to the base 256 are its bytes and then zeros. None exactly where
 /// the text hasn't 1 to 15 bytes or has one other than `a`-`z`, `0`-`9` and `_`.
