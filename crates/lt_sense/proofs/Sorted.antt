@@ -1,69 +1,31 @@
--- The orders of gaps and of hits, and lists that stand in an order.
-use Rattle.std.proofs.Common.{◌≡◌, ℕ, zero, suc, ◌<◌, ◌≤◌, true, false, List, [], ◌∷◌, ◌++◌, map, length, Some, refl, sym, ap, ◌∙◌, subst, arith, inl, inr}
+-- Orders, and lists that stand in one.
+use Rattle.std.proofs.Common.{◌≡◌, ℕ, zero, suc, ◌<◌, ◌≤◌, true, false, List, [], ◌∷◌, ◌++◌, map, Some, refl, sym, ap, ◌∙◌, subst, arith, inl, inr}
 use mathlib.Core.Bool.{true≢false}
 use Rattle.std.specs.Prelude.{slice_get}
 use Rattle.std.specs.List.{AllByRecursion}
 use Rattle.std.specs.Ordering.{nat_cmp, is_eq, is_gt, ordering_then, MatchOrdering}
 use Rattle.std.specs.declared.cmp.Ordering.{Ordering}
 use Rattle.std.specs.declared.cmp.Ordering.TheVariants.{Less, Equal, Greater}
-use Rattle.std.specs.Cmp.{IsTotalOrder, ranks}
+use Rattle.std.specs.Cmp.{ranks}
 use Rattle.std.specs.FinMap.{nat_cmp-IsAntisymmetric}
-use Rattle.std.proofs.lemmas.Cmp.{nat_cmp_total, on_total, then_total, alike_right}
 use Rattle.lt_face.specs.Rows.{row_cmp}
 use Rattle.lt_face.specs.Lists.{IsIn, AreInOrder}
-use Rattle.lt_face.proofs.RowLemmas.{rows_total, rows_exact}
+use Rattle.lt_face.proofs.RowLemmas.{rows_exact}
 use Rattle.lt_sense.specs.declared.covering.KeptGap.{KeptGap}
-use Rattle.lt_sense.specs.declared.covering.Hit.{Hit}
-use Rattle.lt_sense.specs.Ordered.{family_cmp, place_cmp, gap_cmp, hit_cmp, IsGapBefore}
-
-pub family_total : IsTotalOrder family_cmp
-family_total = then_total (on_total (λ (g : KeptGap). g.relation) nat_cmp_total) (on_total (λ (g : KeptGap). g.columns) rows_total)
-
-pub place_total : IsTotalOrder place_cmp
-place_total = then_total family_total (on_total (λ (g : KeptGap). g.prefix) rows_total)
-
-pub gap_total : IsTotalOrder gap_cmp
-gap_total = then_total place_total (on_total (λ (g : KeptGap). g.lo) nat_cmp_total)
-
-pub hit_total : IsTotalOrder hit_cmp
-hit_total = then_total (on_total (λ (h : Hit). h.relation) nat_cmp_total) (on_total (λ (h : Hit). h.row) rows_total)
-
--- ---- what two orders in turn say
-
-pub first_up : (o x : Ordering) → is_gt (ordering_then o x) ≡ false → is_gt o ≡ false
-first_up Less x h = refl
-first_up Equal x h = refl
-first_up Greater x h = h
+use Rattle.lt_sense.specs.Ordered.{family_cmp}
 
 pub both_tied : (o x : Ordering) → ordering_then o x ≡ Equal → (o ≡ Equal) × (x ≡ Equal)
 both_tied Less x h = absurd cc
 both_tied Equal x h = (refl, h)
 both_tied Greater x h = absurd cc
 
-pub at_tie : (o x : Ordering) → o ≡ Equal → ordering_then o x ≡ x
-at_tie o x e = ap (λ p. ordering_then p x) e
-
 pub less_up : (o : Ordering) → o ≡ Less → is_gt o ≡ false
 less_up o e = ap is_gt e
-
-pub tie_up : (o : Ordering) → o ≡ Equal → is_gt o ≡ false
-tie_up o e = ap is_gt e
 
 pub is_tie : (o : Ordering) → is_eq o ≡ true → o ≡ Equal
 is_tie Less h = absurd (true≢false (sym h))
 is_tie Equal h = refl
 is_tie Greater h = absurd (true≢false (sym h))
-
-pub number_less : (x y : ℕ) → nat_cmp x y ≡ Less → x < y
-number_less x y e = subst (λ o. MatchOrdering o (x < y) (x ≡ y) (y < x)) e (ranks x y)
-
-pub number_up : (x y : ℕ) → is_gt (nat_cmp x y) ≡ false → x ≤ y
-number_up x y h = by (nat_cmp x y) (ranks x y) h
-  where
-    by : (o : Ordering) → MatchOrdering o (x < y) (x ≡ y) (y < x) → is_gt o ≡ false → x ≤ y
-    by Less m h = omega (arith, m)
-    by Equal m h = omega (arith, m)
-    by Greater m h = absurd (true≢false h)
 
 pub up_number : (x y : ℕ) → x ≤ y → is_gt (nat_cmp x y) ≡ false
 up_number x y le = by (nat_cmp x y) (ranks x y)
@@ -73,41 +35,10 @@ up_number x y le = by (nat_cmp x y) (ranks x y)
     by Equal m = refl
     by Greater m = absurd (omega (arith, m, le))
 
--- what lies between two that tie ties with them
-pub between : {K : Type 0} {R : K → K → Ordering} → IsTotalOrder R → (a b c : K) → is_gt (R a b) ≡ false → is_gt (R b c) ≡ false → R a c ≡ Equal → R a b ≡ Equal
-between {K} {R} o a b c ab bc ac = by (R a b) (R b c) refl refl ab bc
-  where
-    by : (p q : Ordering) → R a b ≡ p → R b c ≡ q → is_gt p ≡ false → is_gt q ≡ false → R a b ≡ Equal
-    by Equal q e f h k = e
-    by Less Less e f h k = (let g : Less ≡ Equal = sym (o.trans a b c e f) ∙ ac in absurd cc)
-    by Less Equal e f h k = (let g : Less ≡ Equal = sym e ∙ alike_right o b c a f ∙ ac in absurd cc)
-    by Less Greater e f h k = absurd (true≢false k)
-    by Greater q e f h k = absurd (true≢false h)
-
 -- ---- gaps
 
 pub same_family_parts : (a b : KeptGap) → family_cmp a b ≡ Equal → (a.relation ≡ b.relation) × (a.columns ≡ b.columns)
 same_family_parts a b e = let k = both_tied (nat_cmp a.relation b.relation) (row_cmp a.columns b.columns) e in (nat_cmp-IsAntisymmetric a.relation b.relation k.0, rows_exact a.columns b.columns k.1)
-
-pub same_place_parts : (a b : KeptGap) → place_cmp a b ≡ Equal → (family_cmp a b ≡ Equal) × (a.prefix ≡ b.prefix)
-same_place_parts a b e = let k = both_tied (family_cmp a b) (row_cmp a.prefix b.prefix) e in (k.0, rows_exact a.prefix b.prefix k.1)
-
-pub before_up : (a b : KeptGap) → IsGapBefore a b → is_gt (place_cmp a b) ≡ false
-before_up a b h = first_up (place_cmp a b) (nat_cmp a.lo b.lo) (less_up (gap_cmp a b) h.order)
-
-pub before_lower : (a b : KeptGap) → IsGapBefore a b → place_cmp a b ≡ Equal → a.lo < b.lo
-before_lower a b h e = number_less a.lo b.lo (sym (at_tie (place_cmp a b) (nat_cmp a.lo b.lo) e) ∙ h.order)
-
-pub gap_before_trans : (a b c : KeptGap) → IsGapBefore a b → IsGapBefore b c → IsGapBefore a c
-gap_before_trans a b c h k = record {
-  order = gap_total.trans a b c h.order k.order;
-  apart = λ e.
-      let ab = between place_total a b c (before_up a b h) (before_up b c k) e in
-      let bc : place_cmp b c ≡ Equal = sym (place_total.congr a b c ab) ∙ e in
-      let x = h.apart ab in
-      let y = before_lower b c k bc in
-      omega arith;
-}
 
 -- ---- lists in order
 
@@ -158,11 +89,6 @@ some_is x y e = cc
 
 pub same_at : {X : Type 0} (xs : List X) (p q : ℕ) (x y : X) → slice_get xs p ≡ Some x → slice_get xs q ≡ Some y → p ≡ q → x ≡ y
 same_at xs p q x y a b e = some_is x y (sym a ∙ (ap (slice_get xs) e ∙ b))
-
-pub there_is : {X : Type 0} (xs : List X) (p : ℕ) → p < length xs → (x : X) × (slice_get xs p ≡ Some x)
-there_is [] p lt = absurd (omega arith)
-there_is (x ∷ xs) zero lt = (x, refl)
-there_is (x ∷ xs) (suc p) lt = there_is xs p (omega arith)
 
 pub in_order_at : {X : Type 0} (B : X → X → Type 0) (xs : List X) (p q : ℕ) (x y : X) → AreInOrder B xs → slice_get xs p ≡ Some x → slice_get xs q ≡ Some y → p < q → B x y
 in_order_at B [] p q x y h a b lt = absurd cc

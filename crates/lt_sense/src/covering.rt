@@ -2,7 +2,6 @@
 ghost use Rattle.std.specs.Prelude.{◌≡◌, ◌≤◌, length, slice_index};
 ghost use Rattle.lt_face.specs.Limits.{most_columns};
 ghost use Rattle.lt_face.specs.State.{permuted};
-ghost use Rattle.lt_sense.specs.Sense.{lies_in as lies_within, gap_covers};
 
 use lt_face::items::Perm;
 use lt_face::key::Key;
@@ -20,22 +19,6 @@ pub struct KeptGap {
     pub hi: Key,
 }
 
-impl KeptGap {
-    /// Whether the gap covers the row.
-    pub fn covers(&self, relation: u32, row: &Row) -> bool
-        ensures { result ≡ gap_covers self.now relation row.now }
-    {
-        self.relation == relation
-            && lies_in(
-                self.prefix.cells(),
-                self.columns.as_slice(),
-                self.lo,
-                self.hi,
-                row,
-            )
-    }
-}
-
 /// A row that was met.
 #[derive(Drop)]
 pub struct Hit {
@@ -44,7 +27,7 @@ pub struct Hit {
 }
 
 /// The cell in a column, 0 past the last.
-fn cell_at(row: &Row, column: u32) -> Key
+pub(crate) fn cell_at(row: &Row, column: u32) -> Key
     ensures { result ≡ slice_index row.now column }
 {
     let column = column as usize;
@@ -65,20 +48,4 @@ pub(crate) fn cells_in(alloc: Global, columns: &[u32], row: &Row) -> Row
         cells.push(cell_at(row, *column));
     }
     cells
-}
-
-/// Whether the row's cells, in the gap's order of columns, begin with its prefix and the next lies within its bounds.
-pub(crate) fn lies_in(prefix: &[Key], columns: &[u32], lo: Key, hi: Key, row: &Row) -> bool
-    ensures { result ≡ lies_within prefix.now lo hi (permuted columns.now row.now) }
-{
-    if columns.len() <= prefix.len() {
-        return false;
-    }
-    for i in 0..prefix.len() {
-        if cell_at(row, columns[i]) != prefix[i] {
-            return false;
-        }
-    }
-    let next = cell_at(row, columns[prefix.len()]);
-    lo <= next && next < hi
 }

@@ -1,35 +1,41 @@
 //! What an evaluation was sensitive to: gaps between keys that its moves passed, and rows that it met.
 //!
-//! `store` has everything in flat lists: orders of columns once each (families), prefixes once for all gaps under them (runs), gaps of
-//! three fields, hits, and all cells in one list. `sense` is seen as the plain lists of gaps and hits of `specs/Kept`. `cutting` cuts gaps
-//! at cells. `order` compares gaps and hits, `merging` puts both in order by merging parts that are in order, `sealing` and `hits` say how
-//! one more goes behind such a list; `counted` looks a row up among them by binary searches; read `specs/Ordered` for what order is,
-//! `specs/Cells` for what joined gaps keep. A look-up asks the families first: where none is of the row's relation, no gap is looked at.
-//! No family has more columns than a row has cells, and no prefix, so what adds a gap asks for that. A join doesn't know whether its sense
-//! is kept: `senses` says what takes each gap as it is passed, and each hit, as a row or by `keys_at`, the keys of a walk's levels.
-//! `Sense` keeps them; `no_sense` keeps nothing and takes no bytes, its gaps and hits stand in clauses alone (what makes it is proved by
-//! hand, as those of `lt_face/count` are).
+//! A join hands each of them to a `Senses` (`senses`; `keys_at` has rows by the keys of a walk's levels): `Gathering` keeps them, `no_sense`
+//! keeps nothing and takes no bytes. Clauses see gaps and hits (`covering`, `specs/Kept`); `specs/Sense` says which rows these cover.
+//! At run time there are ranges of rows: under a prefix of cells all rows, met or absent, whose next cell lies from one key to below
+//! another (`specs/Spans`). `spans` has those of one index as a walk gathers them, `gathering` a list for each index, `met` puts rows
+//! that were met among them, `adding` those of another gathering. `specs/Gathered`: they have just the rows that are covered.
+//! `Gathering::seal` makes a `Sense` (`sense`): the ranges of an index stand in the order of rows (`specs/Apart`; mostly they were
+//! gathered so, else `sorting` puts them so), and `halves` looks a row up among them. `specs/Held` says how many ranges there are.
 #![tactic(auto)]
 
-mod counted;
+mod adding;
+mod by_key;
+mod by_key_cut;
+mod by_key_lists;
+mod by_key_rest;
+mod by_key_seen;
+mod by_key_sense;
+mod by_key_spans;
+mod by_key_taking;
 mod covering;
-mod cutting;
-mod hits;
-mod joining;
+mod gathering;
+mod halves;
 mod keys_at;
-mod merging;
+mod met;
 mod no_sense;
-mod order;
-mod sealing;
+mod pieces;
 mod sense;
 mod senses;
-mod spot;
-mod store;
+mod sorting;
+mod spans;
 
+pub use by_key::GatheringByKey;
+pub use by_key_sense::SenseByKey;
 pub use covering::{Hit, KeptGap};
+pub use gathering::Gathering;
 pub use keys_at::KeysAt;
 pub use lt_face::items::Changes;
 pub use no_sense::NoSense;
 pub use sense::Sense;
 pub use senses::{Sensed, Senses};
-pub use spot::Spot;

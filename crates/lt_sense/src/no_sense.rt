@@ -19,6 +19,10 @@ impl Model for NoSense {
     ghost also_owns = { λ _. ftrue };
 }
 
+unsafe impl Send for NoSense {}
+
+unsafe impl Sync for NoSense {}
+
 impl NoSense {
     /// With the gaps and hits that its caller says.
     #[inline]

@@ -4,9 +4,8 @@ ghost use Rattle.std.specs.List.{AllByRecursion};
 ghost use Rattle.lt_face.specs.Limits.{most_columns};
 ghost use Rattle.lt_sense.specs.Kept.{Sense as Kept};
 
-use crate::keys_at::{KeysAt, row_of};
+use crate::keys_at::KeysAt;
 use crate::no_sense::NoSense;
-use crate::sense::Sense;
 use lt_face::items::Perm;
 use lt_face::key::Key;
 use lt_face::memory::NoMemory;
@@ -64,55 +63,6 @@ pub trait Senses: Drop {
     fn all_of(&mut self, other: &Self) -> Result<(), NoMemory>
         ensures gaps { OnOk result ((seen self.new).gaps ≡ (seen self.old).gaps ++ (seen other.now).gaps) }
         ensures hits { OnOk result ((seen self.new).hits ≡ (seen self.old).hits ++ (seen other.now).hits) };
-}
-
-impl Senses for Sense {
-    ghost seen = { λ s. s };
-
-    #[inline]
-    fn none(alloc: Global) -> Sense {
-        Sense::new(alloc)
-    }
-
-    #[inline]
-    fn opens_at(_key: Key) -> Key {
-        0
-    }
-
-    #[inline]
-    fn gap(
-        &mut self,
-        relation: u32,
-        perm: &Perm,
-        prefix: &[Key],
-        lo: Key,
-        hi: Key,
-    ) -> Result<(), NoMemory> {
-        self.add_gap_under(relation, perm, prefix, lo, hi)?;
-        Ok(())
-    }
-
-    #[inline]
-    fn hit(&mut self, relation: u32, row: &Row) -> Result<(), NoMemory> {
-        self.add_hit(relation, row)?;
-        Ok(())
-    }
-
-    fn hit_at<K: KeysAt>(
-        &mut self,
-        alloc: Global,
-        relation: u32,
-        places: &[usize],
-        keys: &K,
-    ) -> Result<(), NoMemory> {
-        let row = row_of(alloc, places, keys);
-        self.add_hit(relation, &row)?;
-        Ok(())
-    }
-
-    fn all_of(&mut self, other: &Sense) -> Result<(), NoMemory> {
-        self.add_all(other)
-    }
 }
 
 impl Senses for NoSense {

@@ -1,0 +1,14 @@
+use Rattle.std.proofs.Common.{refl, arith}
+use Rattle.lt_sense.specs.Gathered.{ranges_in}
+use Rattle.lt_sense.proofs.Costs.{count_some}
+use Rattle.lt_sense.proofs.Spanned.{none_kept}
+use Rattle.lt_sense.proofs.Stepped.{ok_map}
+use Rattle.lt_sense.proofs.adding.add_part.Goals as goal
+
+pub returns-then-hi-lo-clause-added : goal.returns-then-hi-lo-clause-added
+returns-then-hi-lo-clause-added c =
+    let all = ranges_in c.args.lists.now.items in
+    none_kept all all c.args.other.now.relation c.args.other.now.columns c.args.prefix.now c.args.lo c.args.hi refl c.if-hi-lo.true
+
+pub returns-clause-few : goal.returns-clause-few
+returns-clause-few c = (let e = count_some c.args.lo c.args.hi (omega (arith, c.if-hi-lo.false)) in ok_map c.add_at.result (λ f. omega (arith, e, f)) c.add_at.ensures.few)

@@ -1,0 +1,4 @@
+use Rattle.lt_sense.proofs.by_key_seen.SeenByKey.with_slice.Given as goal
+
+abbrev pub ghost-of : goal.ghost-of
+ghost-of g a = g.all

@@ -1,0 +1,9 @@
+use Rattle.std.proofs.Common.{◌<◌, length, arith}
+use Rattle.lt_sense.proofs.ByKeyGains.{keys_next}
+use Rattle.lt_sense.proofs.by_key_sense.add_keys.Goals as goal
+
+pub loop-i-preserved : goal.loop-i-preserved
+loop-i-preserved c =
+    let rest = c.args.rest.now.items in
+    let lt : c.loop-i.i < length rest = omega (arith, c.loop-i-test.true, c.len-i-end.ensures) in
+    keys_next rest c.loop-i.i c.index.result.now c.args.relation c.args.row.now c.args.keys.now.items c.loop-i.keys.items c.add_key.new.keys.items lt c.index.ensures c.loop-i.invariant c.in_ok-add_key.ensures

@@ -1,0 +1,17 @@
+use Rattle.std.proofs.Common.{◌≡◌, ◌≤◌, length, take}
+use Rattle.std.specs.List.{AllByRecursion}
+use Rattle.lt_sense.specs.Gathered.{ranges_in}
+use Rattle.lt_sense.specs.Held.{held_in, indexes}
+use Rattle.lt_sense.specs.Done.{IsDone}
+use Rattle.lt_sense.specs.Spans.{HaveSameRows, IsSpans}
+use Rattle.lt_sense.proofs.sense.finish_all.Given as goal
+
+abbrev pub invariant-loop-at : goal.invariant-loop-at
+invariant-loop-at l = record {
+  long : length l.lists.items ≡ length l.fn.lists.items;
+  sound : AllByRecursion IsSpans l.lists.items;
+  rows : HaveSameRows (ranges_in l.lists.items) (ranges_in l.fn.lists.items);
+  same : indexes l.lists.items ≡ indexes l.fn.lists.items;
+  few : held_in l.lists.items ≤ held_in l.fn.lists.items;
+  done : AllByRecursion IsDone (take l.at l.lists.items);
+}
