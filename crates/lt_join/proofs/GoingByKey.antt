@@ -6,7 +6,7 @@ use Rattle.lt_query.specs.declared.plans.Level.{Level}
 use Rattle.lt_query.specs.Holding.{atoms_at_level}
 use Rattle.lt_query.specs.Plan.{term_at}
 use Rattle.lt_sense.specs.Kept.{Sense}
-use Rattle.lt_join.specs.declared.slicing.Slice.{Slice}
+use Rattle.lt_join.specs.Slices.{Slice}
 use Rattle.lt_join.specs.AtomIter.{AtomView}
 use Rattle.lt_join.specs.Cost.{cost_from, iterators_at}
 use Rattle.lt_join.specs.Explored.{Fits}

@@ -21,7 +21,7 @@ use Rattle.lt_query.specs.Plan.{levels_of, term_at}
 use Rattle.lt_sense.specs.declared.covering.KeptGap.{KeptGap}
 use Rattle.lt_sense.specs.Kept.{Sense}
 use Rattle.lt_sense.specs.Sense.{IsTight}
-use Rattle.lt_join.specs.declared.slicing.Slice.{Slice}
+use Rattle.lt_join.specs.Slices.{Slice}
 use Rattle.lt_join.specs.Cost.{LevelGains, iterators_at}
 use Rattle.lt_join.specs.Explored.{Fits, before}
 use Rattle.lt_join.specs.Holders.{AreUnder}
@@ -59,7 +59,7 @@ before_none : (ms : List ℕ) → before 0 ms ≡ []
 before_none [] = refl
 before_none (m ∷ ms) = let no_m : nat_lt m 0 ≡ false = le-ltb m 0 (omega arith) in rw no_m refl
 
-rooted_more : (old new : Sense) → AreRootGaps old → AreUnder [] old new → AreRootGaps new
+pub rooted_more : (old new : Sense) → AreRootGaps old → AreUnder [] old new → AreRootGaps new
 rooted_more old new so under =
     All_of (λ (gap : KeptGap). gap.prefix ≡ []) new.gaps (λ gap there. elim (under gap there) [
       | inl before_it ↦ All_at (λ (gap : KeptGap). gap.prefix ≡ []) old.gaps gap so before_it

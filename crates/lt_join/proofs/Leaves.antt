@@ -19,7 +19,7 @@ use Rattle.lt_query.specs.Answering.{AreTestsBound}
 use Rattle.lt_sense.specs.Kept.{Sense}
 use Rattle.lt_sense.specs.declared.covering.Hit.{Hit}
 use Rattle.lt_face.specs.State.{Has}
-use Rattle.lt_query.specs.Answering.{Stands, Lacks, IsAnswer}
+use Rattle.lt_query.specs.Answering.{Stands, IsAnswer}
 use Rattle.lt_join.specs.Certify.{Certifies, IsWitness, IsMet, IsMissed, IsGapped}
 use Rattle.lt_sense.specs.Sense.{covers, IsTight}
 use Rattle.lt_query.specs.declared.plans.Level.{Level}

@@ -11,6 +11,7 @@ pub mod Hopeless
 pub mod Walks
 pub mod Under
 pub mod LevelLists
+pub mod Crossing
 pub mod Deeper
 pub mod Hitting
 pub mod Roots
@@ -24,12 +25,17 @@ pub mod MendedGaps
 pub mod MendLaws
 pub mod Spotted
 pub mod MendKeys
-pub mod MendMerge
-pub mod MendWith
+pub mod PutRows
 pub mod PinnedPlan
 pub mod MendCopies
 pub mod MendJoin
-pub mod Alike
+pub mod Keyed
+pub mod TouchedBy
+pub mod Handed
+pub mod HandedKeys
+pub mod NotedGaps
+pub mod JoinedIn
+pub mod JoinedKeys
 mod MendSamples
 pub mod Looked
 pub mod LookingUp

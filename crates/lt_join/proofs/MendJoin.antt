@@ -20,12 +20,12 @@ use Rattle.lt_query.specs.Plan.{term_at, IsDetermined, IsLevelOf, IsPlanOf}
 use Rattle.lt_query.specs.Runnable.{IsRunnable}
 use Rattle.lt_sense.specs.Kept.{Sense}
 use Rattle.lt_sense.specs.Sense.{IsTight}
-use Rattle.lt_join.specs.declared.slicing.Slice.{Slice}
+use Rattle.lt_join.specs.Slices.{Slice}
 use Rattle.lt_join.specs.Certify.{Certifies}
 use Rattle.lt_join.specs.Cost.{bound}
 use Rattle.lt_join.specs.Holders.{IsPrepared}
 use Rattle.lt_join.specs.MendedPlan.{pinned_plan, MayPin, IsForbidden, first_admits, slice_cost, mending_cost}
-use Rattle.lt_join.specs.Sliced.{pinned, slice_keys, IsSliceOf}
+use Rattle.lt_join.specs.Sliced.{pinned, IsSliceOf}
 use Rattle.lt_join.proofs.Lists.{take_more}
 use Rattle.lt_join.proofs.Hopeless.{pins_fit}
 use Rattle.lt_join.proofs.Pinned.{holds_pinned}
@@ -140,19 +140,6 @@ key_is keys i lt = whatever keys i lt (get_or keys i 0) where
   whatever [] n below other = absurd (omega arith)
   whatever (k ∷ ks) zero below other = refl
   whatever (k ∷ ks) (suc n) below other = whatever ks n (omega arith) other
-
-pub keys_more : (keys : List ℕ) (i key : ℕ) (slices more : List Slice) (slice : Slice) → i < length keys → key ≡ get_or keys i key → slice.key ≡ key → more ≡ slices ++ slice ∷ [] → slice_keys slices ≡ take i keys → slice_keys more ≡ take (i + 1) keys
-keys_more keys i key slices more slice lt is at pushed so =
-    ap slice_keys pushed ∙ map-push slices ∙ ap (λ ks. ks ++ slice.key ∷ []) so ∙ ap (λ k. take i keys ++ k ∷ []) at ∙ sym (take_more keys i key lt is) where
-      map-push : (slices : List Slice) → slice_keys (slices ++ slice ∷ []) ≡ slice_keys slices ++ slice.key ∷ []
-      map-push [] = refl
-      map-push (s ∷ slices) = ap (λ ks. s.key ∷ ks) (map-push slices)
-
-pub each_more : (P : Slice → Type 0) (slices more : List Slice) (slice : Slice) → P slice → more ≡ slices ++ slice ∷ [] → AllByRecursion P slices → AllByRecursion P more
-each_more P slices more slice is pushed each = subst (AllByRecursion P) (sym pushed) (push slices each) where
-  push : (slices : List Slice) → AllByRecursion P slices → AllByRecursion P (slices ++ slice ∷ [])
-  push [] each = (is, tt)
-  push (s ∷ slices) each = (each.0, push slices each.1)
 
 -- ---- what they cost
 

@@ -1,51 +1,40 @@
 -- The touched keys, gathered.
-use Rattle.std.specs.Prelude.{◌≡◌, ℕ, zero, suc, ◌+◌, ◌<◌, ◌≤◌, Bool, true, false, filter, ◌==◌, nat_eq, List, [], ◌∷◌, ◌++◌, length, take, slice_get, slice_index, Some, None, ◌⊎◌}
+use Rattle.std.specs.Prelude.{◌≡◌, ℕ, ◌+◌, ◌<◌, ◌≤◌, true, false, ◌==◌, nat_eq, List, [], ◌∷◌, ◌++◌, length, take, ◌⊎◌}
 use Rattle.std.specs.List.{dedup, dedup_from, list_any}
 use Rattle.std.specs.List.Retain.{IsFiltered, DiffersFromLast}
 use Rattle.std.specs.List.Sorted.{IsPermutation, IsSorted, IsStrictlySortedBy}
 use Rattle.std.specs.Ordering.{nat_cmp}
 use Rattle.std.specs.declared.cmp.Ordering.TheVariants.{Less, Equal, Greater}
-use Rattle.std.proofs.Common.{refl, sym, ap, ◌∙◌, subst, inl, inr, arith, cond, get_or}
-use Rattle.std.proofs.lemmas.Bool.{and_parts, or_left, eqb-true, eq-eqb, cases_order, true≢false}
+use Rattle.std.proofs.Common.{refl, sym, ◌∙◌, subst, inl, inr, cond, get_or}
+use Rattle.std.proofs.lemmas.Bool.{or_left, eqb-true, eq-eqb, cases_order}
 use Rattle.std.specs.Cmp.{nat_cmp_is}
 use Rattle.std.proofs.lemmas.Cmp.{nat_cmp_total}
 use Rattle.std.proofs.lemmas.List.Filters.{dedup_is}
 use Rattle.std.proofs.lemmas.List.Kept.{IsStrictlySortedBy-dedup}
 use Rattle.std.proofs.lemmas.List.Sorted.{list_any-IsPermutation}
 use Rattle.lt_face.specs.Lists.{IsIn}
-use Rattle.lt_face.specs.State.{Row, State, permuted}
+use Rattle.lt_face.specs.State.{Row, State}
 use Rattle.lt_face.proofs.Membership.{IsIn-append_left, IsIn-append_right, IsIn-append_cases}
 use Rattle.lt_face.proofs.RowLemmas.{each_weaker}
-use Rattle.lt_trie.specs.Under.{next_cell}
 use Rattle.lt_query.specs.Lists.{IsRising}
 use Rattle.lt_sense.specs.declared.covering.KeptGap.{KeptGap}
 use Rattle.lt_sense.specs.Kept.{Sense}
 use Rattle.lt_sense.specs.declared.covering.Hit.{Hit}
-use Rattle.lt_sense.specs.Sense.{lies_in, covers, gap_covers, hit_covers}
-use Rattle.lt_sense.specs.Spots.{AreUncovered}
-use Rattle.lt_join.specs.declared.slicing.Slice.{Slice}
-use Rattle.lt_join.specs.Mended.{LiesAt, Touches, HaveTouched}
-use Rattle.lt_join.specs.MendedKeys.{IsDisturbed, IsSliceTouched, IsRowLying, IsRootTouched, AreTouched, NameCovered, GainsJust, HaveSame}
+use Rattle.lt_sense.specs.Sense.{covers, gap_covers, hit_covers}
+use Rattle.lt_join.specs.Slices.{Slice}
+use Rattle.lt_join.specs.Mended.{Touches, HaveTouched}
+use Rattle.lt_sense.specs.ByKey.{GainsJust}
+use Rattle.lt_join.specs.MendedKeys.{AreTouched, NameCovered, HaveSame}
 use Rattle.lt_join.specs.Sliced.{united}
 use Rattle.lt_join.proofs.Spotted.{covered_root, covered_slice}
 use Rattle.lt_join.proofs.Lists.{take_more, take_all}
-use Rattle.lt_join.proofs.Repair.{All_at, list_any_from, list_any_of}
+use Rattle.lt_join.proofs.Repair.{list_any_from, list_any_of}
 use Rattle.lt_answers.proofs.SortedRows.{eq_nat}
 
 -- ---- what comes
 
 pub GainsJust-none : (tells : ℕ → Type 0) (xs : List ℕ) → ((k : ℕ) → tells k → ⊥) → GainsJust tells xs xs
 GainsJust-none tells xs none = record { stay = λ k h. h; come = λ k h. absurd (none k h); no_other = λ k h. inl h }
-
-pub GainsJust-push : (tells : ℕ → Type 0) (xs : List ℕ) (key : ℕ) → tells key → ((k : ℕ) → tells k → key ≡ k) → GainsJust tells xs (xs ++ key ∷ [])
-GainsJust-push tells xs key is only = record {
-  stay = λ k h. IsIn-append_left k xs (key ∷ []) h;
-  come = λ k h. IsIn-append_right k xs (key ∷ []) (inl (only k h));
-  no_other = λ k h. elim (IsIn-append_cases k xs (key ∷ []) h) [
-    | inl old ↦ inl old
-    | inr new ↦ elim new [ inl e ↦ inr (subst tells e is) | inr none ↦ absurd none ]
-  ];
-}
 
 module _ {X : Type 0} (P : X → ℕ → Type 0) where
   -- it is so of one of them
@@ -80,63 +69,6 @@ module _ {X : Type 0} (P : X → ℕ → Type 0) where
 
   pub GainsJust-all : (xs : List X) (i : ℕ) (old new : List ℕ) → length xs ≤ i → GainsJust (OfOne (take i xs)) old new → GainsJust (OfOne xs) old new
   GainsJust-all xs i old new all h = subst (λ ys. GainsJust (OfOne ys) old new) (take_all xs i all) h
-
--- ---- one gap
-
--- a row in a gap has a cell behind the gap's prefix
-pub cell_behind : (prefix columns : List ℕ) (lo hi : ℕ) (row : Row) → lies_in prefix lo hi (permuted columns row) ≡ true → (length prefix < length columns) × (next_cell prefix (permuted columns row) ≡ Some (slice_index row (slice_index columns (length prefix))))
-cell_behind prefix [] lo hi row h = cc
-cell_behind [] (c ∷ columns) lo hi row h = (omega arith, refl)
-cell_behind (p ∷ prefix) (c ∷ columns) lo hi row h =
-    let both = and_parts (p == slice_index row c) (lies_in prefix lo hi (permuted columns row)) h in
-    let rest = cell_behind prefix columns lo hi row both.1 in
-    let lt = rest.0 in
-    ((let wide : length (p ∷ prefix) < length (c ∷ columns) = omega arith in wide), ap (λ b. cond b (next_cell prefix (permuted columns row)) None) both.0 ∙ rest.1)
-
--- a row lies in a gap at one key
-pub one_cell : (gap : KeptGap) (relation : ℕ) (row : Row) (j k : ℕ) → LiesAt gap relation row j → LiesAt gap relation row k → j ≡ k
-one_cell gap relation row j k h i = let a = h.1 in let b = i.1 in cc
-
--- ---- gaps that cover a row
-
-in_filter : (p : KeptGap → Bool) (gap : KeptGap) (gaps : List KeptGap) → IsIn gap (filter p gaps) → IsIn gap gaps
-in_filter p gap [] h = h
-in_filter p gap (g ∷ gaps) h =
-    elim (p g) as (λ b. IsIn gap (cond b (g ∷ filter p gaps) (filter p gaps)) → IsIn gap (g ∷ gaps)) [
-      | true ↦ λ i. elim i [ inl e ↦ inl e | inr r ↦ inr (in_filter p gap gaps r) ]
-      | false ↦ λ i. inr (in_filter p gap gaps i)
-    ] h
-
-to_filter : (p : KeptGap → Bool) (gap : KeptGap) (gaps : List KeptGap) → p gap ≡ true → IsIn gap gaps → IsIn gap (filter p gaps)
-to_filter p gap [] so h = h
-to_filter p gap (g ∷ gaps) so h =
-    elim h [
-      | inl e ↦ (let one : p g ≡ true = ap p e ∙ so in subst (λ b. IsIn gap (cond b (g ∷ filter p gaps) (filter p gaps))) (sym one) (inl e))
-      | inr r ↦ (let rest = to_filter p gap gaps so r in
-          elim (p g) as (λ b. IsIn gap (cond b (g ∷ filter p gaps) (filter p gaps))) [ true ↦ inr rest | false ↦ rest ])
-    ]
-
--- where gaps are those of others that cover the row, it lies in them as in these
-pub lying_in_all : (gaps others : List KeptGap) (relation : ℕ) (row : Row) (old new : List ℕ) → gaps ≡ filter (λ gap. gap_covers gap relation row) others → GainsJust (λ k. IsRowLying gaps relation row k) old new → GainsJust (λ k. IsRowLying others relation row k) old new
-lying_in_all gaps others relation row old new are so = record {
-  stay = so.stay;
-  come = λ k h. so.come k (h.0, subst (IsIn h.0) (sym are) (to_filter (λ gap. gap_covers gap relation row) h.0 others h.2.0 h.1), h.2);
-  no_other = λ k h. elim (so.no_other k h) [
-    | inl o ↦ inl o
-    | inr g ↦ inr (g.0, in_filter (λ gap. gap_covers gap relation row) g.0 others (subst (IsIn g.0) are g.1), g.2)
-  ];
-}
-
-get_in : {X : Type 0} (xs : List X) (i : ℕ) (x : X) → slice_get xs i ≡ Some x → IsIn x xs
-get_in [] i x e = cc
-get_in (y ∷ xs) zero x e = inl (cc)
-get_in (y ∷ xs) (suc i) x e = inr (get_in xs i x e)
-
-pub disturbed_at : (sense : Sense) (changes : List (ℕ × Row)) (i : ℕ) (change : ℕ × Row) → slice_get changes i ≡ Some change → covers sense change.0 change.1 ≡ true → IsDisturbed sense changes
-disturbed_at sense changes i change is covered = (change, get_in changes i change is, covered)
-
-pub undisturbed : (sense : Sense) (changes : List (ℕ × Row)) → AreUncovered sense changes → IsDisturbed sense changes → ⊥
-undisturbed sense changes none h = let no = All_at (λ (change : ℕ × Row). covers sense change.0 change.1 ≡ false) changes h.0 none h.1 in true≢false (sym h.2 ∙ no)
 
 -- ---- in order, each once
 
@@ -196,20 +128,15 @@ sorted_same xs ys zs order kept = subst (HaveSame xs) (sym (dedup_is nat_eq ys z
 
 -- ---- all touched keys
 
-pub touched_is : (root : Sense) (slices : List Slice) (changes : List (ℕ × Row)) (sliced rooted keys : List ℕ) → GainsJust (IsSliceTouched changes slices) [] sliced → GainsJust (IsRootTouched changes root.gaps) sliced rooted → HaveSame rooted keys → IsRising keys → AreTouched root slices changes keys
-touched_is root slices changes sliced rooted keys first later same rising = record {
+-- a changed row touches the key
+abbrev pub TouchedBy : Sense → List Slice → ℕ × Row → ℕ → Type 0
+TouchedBy root slices change k = Touches root slices change.0 change.1 k
+
+pub touched_is : (root : Sense) (slices : List Slice) (changes : List (ℕ × Row)) (found keys : List ℕ) → GainsJust (OfOne (TouchedBy root slices) changes) [] found → HaveSame found keys → IsRising keys → AreTouched root slices changes keys
+touched_is root slices changes found keys gained same rising = record {
   ascending = rising;
-  all = λ k touched. same.there k (elim touched.2 [
-    | inl s ↦ later.stay k (first.come k (s.0, s.1, (s.2, (touched.0, touched.1, s.3))))
-    | inr g ↦ later.come k (touched.0, touched.1, g)
-  ]);
-  no_other = λ k at. elim (later.no_other k (same.back k at)) [
-    | inl old ↦ elim (first.no_other k old) [
-      | inl none ↦ absurd none
-      | inr s ↦ (s.2.1.0, s.2.1.1, inl (s.0, s.1, s.2.0, s.2.1.2))
-    ]
-    | inr g ↦ (g.0, g.1, inr g.2)
-  ];
+  all = λ k touched. same.there k (gained.come k touched);
+  no_other = λ k at. elim (gained.no_other k (same.back k at)) [ inl none ↦ absurd none | inr touched ↦ touched ];
 }
 
 -- what touches a key is covered

@@ -19,7 +19,7 @@ use Rattle.lt_query.specs.declared.plans.Plan.{Plan}
 use Rattle.lt_sense.specs.declared.covering.KeptGap.{KeptGap}
 use Rattle.lt_sense.specs.Kept.{Sense}
 use Rattle.lt_sense.specs.Sense.{lies_in, gap_covers, AgreeWhereCovered, IsTight}
-use Rattle.lt_join.specs.declared.slicing.Slice.{Slice}
+use Rattle.lt_join.specs.Slices.{Slice}
 use Rattle.lt_join.specs.Certify.{Certifies}
 use Rattle.lt_join.specs.Explored.{IsPassed}
 use Rattle.lt_sense.specs.Cut.{cut}
@@ -160,7 +160,7 @@ rooted_cut keys body plan root old new mended rooted k cell =
     ]
 
 -- the parts of root gaps are root gaps
-root_gaps_cut : (keys : List ℕ) (root : Sense) → AreRootGaps root → AreRootGaps (cut keys root)
+pub root_gaps_cut : (keys : List ℕ) (root : Sense) → AreRootGaps root → AreRootGaps (cut keys root)
 root_gaps_cut keys root are = All_of (λ (gap : KeptGap). gap.prefix ≡ []) (cut keys root).gaps (λ part at.
     let found = cut_from keys root part at in
     sym found.2.prefix ∙ All_at (λ (gap : KeptGap). gap.prefix ≡ []) root.gaps found.0 are found.1)

@@ -15,17 +15,14 @@ use Rattle.lt_leap.specs.Common.{common_keys}
 use Rattle.lt_query.specs.Lists.{IsRising}
 use Rattle.lt_query.specs.Plan.{term_at}
 use Rattle.lt_query.specs.declared.plans.Plan.{Plan}
-use Rattle.lt_sense.specs.Cells.{HaveSameCells}
 use Rattle.lt_sense.specs.Kept.{Sense}
-use Rattle.lt_sense.specs.Sense.{IsTight}
 use Rattle.lt_sense.specs.declared.covering.KeptGap.{KeptGap}
-use Rattle.lt_join.specs.declared.slicing.Slice.{Slice}
+use Rattle.lt_join.specs.Slices.{Slice}
 use Rattle.lt_join.specs.Cost.{iterators_at}
 use Rattle.lt_join.specs.Mended.{AreSlicesOn}
 use Rattle.lt_join.specs.Parts.{IsBetween, IsAtMost, AreSlicesWithin}
 use Rattle.lt_join.specs.Sliced.{slice_keys, united, IsSliceOf}
 use Rattle.lt_join.specs.Walked.{at}
-use Rattle.lt_join.proofs.Alike.{rooted_alike, root_gaps_alike, no_hits_alike}
 use Rattle.lt_join.proofs.Lists.{length_append}
 use Rattle.lt_join.proofs.Lists.{all_append}
 use Rattle.lt_join.proofs.PartLaws.{grows_one, grows_next, tight_both}
@@ -91,14 +88,14 @@ united_both one more all root next both m n is g h a b =
 
 -- ---- a range with all keys
 
-pub slices_whole : (terms : List Term) (body : Body) (plan : Plan) (state : State) (lo hi : ℕ) (root kept : Sense) (slices : List Slice) → lo ≡ 0 → 2 ^ 120 ≤ hi → HaveSameCells root.gaps kept.gaps → length kept.hits ≤ length root.hits → (IsTight root state → IsTight kept state) → AreSlicesWithin terms body plan state lo hi root slices → AreSlicesOn terms body plan state kept slices
-slices_whole terms body plan state lo hi root kept slices none high same few stays so = record {
+pub slices_whole : (terms : List Term) (body : Body) (plan : Plan) (state : State) (lo hi : ℕ) (root : Sense) (slices : List Slice) → lo ≡ 0 → 2 ^ 120 ≤ hi → AreSlicesWithin terms body plan state lo hi root slices → AreSlicesOn terms body plan state root slices
+slices_whole terms body plan state lo hi root slices none high so = record {
   ascending = so.ascending;
   each = so.each;
-  rooted = rooted_alike body plan root kept (slice_keys slices) same (λ k cell.
+  rooted = λ k cell.
       let small : k < 2 ^ 120 = ltb-true k (2 ^ 120) (and_parts (nat_lt 0 k) (nat_lt k (2 ^ 120)) cell).1 in
-      so.rooted k cell (omega arith, omega arith));
-  tight = stays so.tight;
-  root_hits = no_hits_alike root kept few so.root_hits;
-  root_gaps = root_gaps_alike root kept same so.root_gaps;
+      so.rooted k cell (omega arith, omega arith);
+  tight = so.tight;
+  root_hits = so.root_hits;
+  root_gaps = so.root_gaps;
 }

@@ -1,5 +1,5 @@
 -- The steps of a walk.
-use Rattle.std.specs.Prelude.{◌≡◌, ℕ, zero, suc, ◌+◌, ◌-◌, ◌^◌, ◌<◌, ◌≤◌, Bool, true, false, ◌==◌, List, [], ◌∷◌, ◌++◌, map, length, slice_get, take, drop, ◌⊎◌, Some, nat_lt}
+use Rattle.std.specs.Prelude.{◌≡◌, ℕ, zero, suc, ◌+◌, ◌-◌, ◌^◌, ◌<◌, ◌≤◌, true, false, ◌==◌, List, [], ◌∷◌, ◌++◌, map, length, slice_get, take, drop, ◌⊎◌, Some, nat_lt}
 use Rattle.std.specs.List.{AllByRecursion, AllZip, list_any, list_all}
 use Rattle.lt_model.specs.declared.normal.Atom.{Atom}
 use Rattle.lt_sense.specs.declared.covering.KeptGap.{KeptGap}

@@ -5,10 +5,12 @@ pub mod Explored
 pub mod Holders
 pub mod Mended
 pub mod MendedKeys
-pub mod MendedMerge
 pub mod MendedPlan
+pub mod MendedRows
+pub mod Noted
 pub mod Parts
 pub mod Sliced
+pub mod Slices
 pub mod Values
 pub mod Walked
 pub mod LookUp

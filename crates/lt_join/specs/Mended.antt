@@ -12,7 +12,7 @@ use Rattle.lt_query.specs.Plan.{term_at}
 use Rattle.lt_sense.specs.declared.covering.KeptGap.{KeptGap}
 use Rattle.lt_sense.specs.Kept.{Sense}
 use Rattle.lt_sense.specs.Sense.{covers, gap_covers, IsTight}
-use Rattle.lt_join.specs.declared.slicing.Slice.{Slice}
+use Rattle.lt_join.specs.Slices.{Slice}
 use Rattle.lt_join.specs.Sliced.{slice_keys, IsSliceOf, AreRooted, AreRootGaps}
 
 -- the root gaps of a body on a state, and its slices, ascending by their keys; beside the root gaps, which have the empty prefix,
@@ -51,7 +51,3 @@ pub record AreMended (keys : List ℕ) (old new : List Slice) : Type 0 where
 -- each slice of one of the keys is of this state
 abbrev pub AreJoinedOn : List ℕ → List Term → Body → Plan → State → List Slice → Type 0
 AreJoinedOn keys terms body plan state slices = (slice : Slice) → IsIn slice slices → IsIn slice.key keys → IsSliceOf terms body (term_at plan.levels 0) state slice
-
--- each slice of a key of the first ones is one of them
-abbrev pub AreFrom : List Slice → List Slice → Type 0
-AreFrom first slices = (slice : Slice) → IsIn slice slices → IsIn slice.key (slice_keys first) → IsIn slice first

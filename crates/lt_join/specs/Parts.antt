@@ -1,5 +1,5 @@
 -- What a body answers where the cell of a term lies in a range, and what that was sensitive to.
-use Rattle.std.specs.Prelude.{◌≡◌, ℕ, Bool, ◌≤◌, ◌<◌, ◌^◌, true, List, [], length, slice_index, slice_get, Some, ◌⊎◌, ◌+◌}
+use Rattle.std.specs.Prelude.{◌≡◌, ℕ, Bool, ◌≤◌, ◌<◌, ◌^◌, true, List, [], length, slice_index, ◌⊎◌, ◌+◌}
 use Rattle.std.specs.List.{AllByRecursion}
 use Rattle.lt_face.specs.Lists.{IsIn, AnyByRecursion}
 use Rattle.lt_face.specs.State.{Row, State}
@@ -13,12 +13,11 @@ use Rattle.lt_query.specs.Answering.{Stands, Lacks, AreTestsBound}
 use Rattle.lt_query.specs.Lists.{IsRising, below}
 use Rattle.lt_query.specs.Plan.{IsPlanOf, term_at}
 use Rattle.lt_query.specs.declared.plans.Guide.{Guide}
-use Rattle.lt_query.specs.declared.plans.Level.{Level}
 use Rattle.lt_query.specs.declared.plans.Plan.{Plan}
 use Rattle.lt_join.specs.Holders.{IsPrepared}
 use Rattle.lt_sense.specs.Kept.{Sense}
 use Rattle.lt_sense.specs.Sense.{IsTight}
-use Rattle.lt_join.specs.declared.slicing.Slice.{Slice}
+use Rattle.lt_join.specs.Slices.{Slice}
 use Rattle.lt_join.specs.Certify.{IsMet, IsMissed}
 use Rattle.lt_join.specs.Sliced.{slice_keys, IsSliceOf, AreRootGaps, AreFoundKeys}
 use Rattle.lt_join.specs.Walked.{IsSkipped}
@@ -71,6 +70,10 @@ pub record AreSlicesWithin (terms : List Term) (body : Body) (plan : Plan) (stat
   pub root_gaps : AreRootGaps root
 
 -- ---- where ranges begin and end
+
+-- there are at most so many parts
+abbrev pub most_parts : ℕ
+most_parts = 16
 
 abbrev pub bound_at : List ℕ → ℕ → ℕ
 bound_at bounds i = slice_index bounds i

@@ -12,11 +12,10 @@ use Rattle.lt_model.specs.Answers.{Assignment, cell_of, holds, answers}
 use Rattle.lt_model.specs.Cells.{is_cell}
 use Rattle.lt_leap.specs.Common.{common_keys}
 use Rattle.lt_sense.specs.Kept.{Sense}
-use Rattle.lt_sense.specs.Ordered.{IsSealed}
 use Rattle.lt_sense.specs.Sense.{IsTight}
 use Rattle.lt_query.specs.declared.plans.Plan.{Plan}
 use Rattle.lt_query.specs.declared.plans.Level.{Level}
-use Rattle.lt_join.specs.declared.slicing.Slice.{Slice}
+use Rattle.lt_join.specs.Slices.{Slice}
 use Rattle.lt_join.specs.Certify.{Certifies, IsMissed}
 use Rattle.lt_join.specs.Cost.{iterators_at}
 use Rattle.lt_join.specs.Walked.{at, IsSkipped}
@@ -52,10 +51,6 @@ united root slices = record {
   gaps = root.gaps ++ flat_map (λ slice. slice.sense.gaps) slices;
   hits = root.hits ++ flat_map (λ slice. slice.sense.hits) slices;
 }
-
--- the root gaps stand in order, and so does what each slice keeps
-abbrev pub AreSealed : Sense → List Slice → Type 0
-AreSealed root slices = IsSealed root × AllByRecursion (λ slice. IsSealed slice.sense) slices
 
 -- the rows of the slices, key after key
 abbrev pub sliced_rows : List Slice → List Row

@@ -6,7 +6,6 @@ ghost use Rattle.lt_model.specs.Bound.{are_bound};
 ghost use Rattle.lt_query.specs.Answering.{AreTestsBound};
 ghost use Rattle.lt_query.specs.Lists.{below};
 ghost use Rattle.lt_query.specs.Plan.{IsPlanOf};
-ghost use Rattle.lt_sense.specs.Ordered.{IsSealed};
 ghost use Rattle.lt_sense.specs.Sense.{IsTight};
 ghost use Rattle.lt_join.specs.Asked.{CanJoin, AreAnswerable};
 ghost use Rattle.lt_join.specs.Certify.{Certifies, Vouches};
@@ -23,10 +22,10 @@ use lt_face::items::RowList;
 use lt_face::memory::NoMemory;
 use lt_face::moves::Moves;
 use lt_query::{Body, Plan, TermList};
-use lt_sense::{NoSense, Sense, Senses};
+use lt_sense::{Gathering, NoSense, Senses};
 use std::alloc::Global;
 
-/// As `answers_unsealed`, of a body and a plan that can be walked, however many literals there are, with what took the gaps and hits.
+/// As `answers`, of a body and a plan that can be walked, however many literals there are, with what took the gaps and hits.
 pub(crate) fn answers_prepared<I: Indexes, S: Senses, L>(
     alloc: Global,
     body: &Body,
@@ -59,15 +58,17 @@ pub(crate) fn answers_prepared<I: Indexes, S: Senses, L>(
     Ok((rows, sense.into_senses()))
 }
 
-/// As `answers`, with the sense in the order in which it was gathered.
-pub fn answers_unsealed<I: Indexes, L>(
+/// The answers of a body, ascending and each once: the terms' cells under the assignments that hold, whose rows are in the
+/// indexes' state, and none of whose absent rows is; and what they were sensitive to, as it was gathered. The plan is any of the body's,
+/// each index that it goes through is there, and so is the first index of each negated atom.
+pub fn answers<I: Indexes, L>(
     alloc: Global,
     body: &Body,
     plan: &Plan,
     terms: &TermList,
     indexes: &I,
     moves: &mut Moves<L>,
-) -> Result<(RowList, Sense), NoMemory>
+) -> Result<(RowList, Gathering), NoMemory>
     requires can_join { CanJoin (I.state indexes.now) (I.has_index indexes.now) body.now plan.now }
     requires answerable { AreAnswerable body.now terms.now }
     ensures rows { IfOk result (λ found. found.0 ≡ answers_of terms.now body.now (I.state indexes.now)) }
@@ -80,34 +81,6 @@ pub fn answers_unsealed<I: Indexes, L>(
     ensures moves { moves.old ≤ moves.new }
 {
     answers_prepared(alloc, body, plan, terms, indexes, moves)
-}
-
-/// The answers of a body, ascending and each once: the terms' cells under the assignments that hold, whose rows are in the
-/// indexes' state, and none of whose absent rows is; and what they were sensitive to, sealed. The plan is any of the body's, each
-/// index that it goes through is there, and so is the first index of each negated atom.
-pub fn answers<I: Indexes, L>(
-    alloc: Global,
-    body: &Body,
-    plan: &Plan,
-    terms: &TermList,
-    indexes: &I,
-    moves: &mut Moves<L>,
-) -> Result<(RowList, Sense), NoMemory>
-    requires can_join { CanJoin (I.state indexes.now) (I.has_index indexes.now) body.now plan.now }
-    requires answerable { AreAnswerable body.now terms.now }
-    ensures rows { IfOk result (λ found. found.0 ≡ answers_of terms.now body.now (I.state indexes.now)) }
-    ensures certified { IfOk result (λ found. Certifies found.1 body.now (I.state indexes.now)) }
-    ensures tight { IfOk result (λ found. IsTight found.1 (I.state indexes.now)) }
-    ensures gaps { IfOk result (λ found. moves.old + length found.1.gaps ≤ moves.new) }
-    ensures hits { IfOk result (λ found. moves.old + length found.1.hits ≤ moves.new) }
-    // also where memory is refused
-    ensures cost { moves.new ≤ moves.old + bound body.now plan.now (I.state indexes.now) }
-    ensures moves { moves.old ≤ moves.new }
-    ensures sealed { IfOk result (λ found. IsSealed found.1) }
-{
-    let (rows, mut sense) = answers_unsealed(alloc, body, plan, terms, indexes, moves)?;
-    sense.seal()?;
-    Ok((rows, sense))
 }
 
 /// The answers of a body, ascending and each once, as of `answers`. Nothing is kept of what they were sensitive to.
@@ -134,7 +107,7 @@ pub fn answers_alone<I: Indexes, L>(
     Ok(rows)
 }
 
-/// As `some_unsealed`, with what took the gaps and hits.
+/// As `some`, with what took the gaps and hits.
 fn some_sensed<I: Indexes, S: Senses, L>(
     alloc: Global,
     body: &Body,
@@ -158,14 +131,14 @@ fn some_sensed<I: Indexes, S: Senses, L>(
     Ok((truth, walk.found.sense.into_senses()))
 }
 
-/// As `some`, with the sense in the order in which it was gathered.
-pub fn some_unsealed<I: Indexes, L>(
+/// Whether the body has an answer, and what that was sensitive to. It stops at the first.
+pub fn some<I: Indexes, L>(
     alloc: Global,
     body: &Body,
     plan: &Plan,
     indexes: &I,
     moves: &mut Moves<L>,
-) -> Result<(bool, Sense), NoMemory>
+) -> Result<(bool, Gathering), NoMemory>
     requires can_join { CanJoin (I.state indexes.now) (I.has_index indexes.now) body.now plan.now }
     ensures truth { IfOk result (λ found. found.0 ≡ some_answer body.now (I.state indexes.now)) }
     ensures vouched { IfOk result (λ found. Vouches found.1 body.now (I.state indexes.now)) }
@@ -178,30 +151,6 @@ pub fn some_unsealed<I: Indexes, L>(
 {
     let found = some_sensed(alloc, body, plan, indexes, moves)?;
     Ok(found)
-}
-
-/// Whether the body has an answer, and what that was sensitive to, sealed. It stops at the first.
-pub fn some<I: Indexes, L>(
-    alloc: Global,
-    body: &Body,
-    plan: &Plan,
-    indexes: &I,
-    moves: &mut Moves<L>,
-) -> Result<(bool, Sense), NoMemory>
-    requires can_join { CanJoin (I.state indexes.now) (I.has_index indexes.now) body.now plan.now }
-    ensures truth { IfOk result (λ found. found.0 ≡ some_answer body.now (I.state indexes.now)) }
-    ensures vouched { IfOk result (λ found. Vouches found.1 body.now (I.state indexes.now)) }
-    ensures tight { IfOk result (λ found. IsTight found.1 (I.state indexes.now)) }
-    ensures gaps { IfOk result (λ found. moves.old + length found.1.gaps ≤ moves.new) }
-    ensures hits { IfOk result (λ found. moves.old + length found.1.hits ≤ moves.new) }
-    // also where memory is refused
-    ensures cost { moves.new ≤ moves.old + bound body.now plan.now (I.state indexes.now) }
-    ensures moves { moves.old ≤ moves.new }
-    ensures sealed { IfOk result (λ found. IsSealed found.1) }
-{
-    let (truth, mut sense) = some_unsealed(alloc, body, plan, indexes, moves)?;
-    sense.seal()?;
-    Ok((truth, sense))
 }
 
 /// Whether the body has an answer. It stops at the first, and keeps nothing of what that was sensitive to.

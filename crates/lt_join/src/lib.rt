@@ -12,10 +12,11 @@
 //! (`splitting`, with a sense or without one, and key by key `splitting_slices`): `bounds` cuts the keys of the first level into ranges at
 //! keys of one of its indexes, `parts` does the ranges by halves, each half in a thread of its own where there can be one, `ranging` walks
 //! over one range, `slicing` gathers the slices of one, and neighbouring parts are put together: rows, slices and senses one behind the
-//! other. `Parts` has what a part is. `slicing` answers a body key by key of its first variable, and `mending` says what slices stay on
+//! other. `Parts` has what a part is. `slicing` answers a body key by key of its first variable (`noting` takes the gaps of the first
+//! level), `sliced` keeps that: one sense for all keys, and the rows of each key (`key_rows`). `mending` says what slices stay on
 //! another state (read `specs/Sliced`, then `specs/Mended`). `mending_touched` finds the touched keys, `mending_join` joins their slices
-//! by a body and a plan that `mending_copy` pins to the key, `mending_merged` puts them in their places, `mending_read` reads slices;
-//! slices are shared (`mending_shared`). `values` and `conditions` are public: the nested loops of `lt_reference` use them.
+//! by a body and a plan that `mending_copy` pins to the key, and puts them in their places. `values` and `conditions` are public: the
+//! nested loops of `lt_reference` use them.
 //! Of its specs read `Certify` (when a sense stands for the answers), `Cost` (the bound), `Explored` (what a walk has established),
 //! `Level` (a level that is open), `Way` (what a walk leaves), `Sliced` (a body with a term pinned, its slices).
 #![tactic(auto)]
@@ -26,21 +27,21 @@ mod bounds;
 pub mod conditions;
 mod covering;
 mod hints;
+mod key_rows;
 mod leaf;
 mod level;
 mod looking_up;
 mod mending;
 mod mending_copy;
 mod mending_join;
-mod mending_merged;
 mod mending_plan;
-mod mending_read;
-mod mending_shared;
 mod mending_touched;
 mod narrowing;
+mod noting;
 mod parts;
 mod path;
 mod ranging;
+mod sliced;
 mod slicing;
 mod splitting;
 mod splitting_slices;
@@ -49,17 +50,16 @@ mod walk;
 mod wanted;
 mod way;
 
-pub use answer::{answers, answers_alone, answers_unsealed, some, some_alone, some_unsealed};
+pub use answer::{answers, answers_alone, some, some_alone};
 pub use covering::agreeing_states_answer_alike;
 use lt_face::items::RowList;
 use lt_sense::{Sensed, Senses};
 pub use mending::{mended_slices_are_slices, slices_stay};
 pub use mending_join::mend;
 pub use mending_plan::pinned_plans_are_plans;
-pub use mending_read::{rows_of_slices, spot_in};
-pub use mending_shared::{SharedSlice, SharedSlices};
 pub use mending_touched::touched_keys;
-pub use slicing::{Slice, slices, slices_make_the_whole, slices_unsealed};
+pub use sliced::{Slices, rows_of_slices};
+pub use slicing::{slices, slices_make_the_whole};
 pub use splitting::{answers_split, answers_split_alone};
 pub use splitting_slices::slices_split;
 

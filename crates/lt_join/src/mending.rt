@@ -12,7 +12,7 @@ ghost use Rattle.lt_query.specs.declared.plans.Plan.{Plan as PlanView};
 ghost use Rattle.lt_sense.specs.Kept.{Sense as SenseView};
 ghost use Rattle.lt_sense.specs.Sense.{AgreeWhereCovered, IsTight};
 ghost use Rattle.lt_join.specs.Certify.{Certifies};
-ghost use Rattle.lt_join.specs.declared.slicing.Slice.{Slice as SliceView};
+ghost use Rattle.lt_join.specs.Slices.{Slice as SliceView};
 ghost use Rattle.lt_sense.specs.Cut.{cut};
 ghost use Rattle.lt_join.specs.Mended.{AreSlicesOn, HaveTouched, AreMended, AreJoinedOn};
 ghost use Rattle.lt_join.specs.Sliced.{slice_keys, united, sliced_rows};

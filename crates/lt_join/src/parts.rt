@@ -7,7 +7,7 @@ ghost use Rattle.lt_model.specs.declared.normal.Term.{Term as TermView};
 ghost use Rattle.lt_model.specs.declared.normal.Body.{Body as BodyView};
 ghost use Rattle.lt_query.specs.declared.plans.Plan.{Plan as PlanView};
 ghost use Rattle.lt_join.specs.Cost.{bound};
-ghost use Rattle.lt_join.specs.Parts.{AreBounds, IsJoinable, bound_at};
+ghost use Rattle.lt_join.specs.Parts.{AreBounds, IsJoinable, bound_at, most_parts};
 
 use crate::bounds::bounds_of;
 use lt_edges::Gate;
@@ -77,7 +77,7 @@ fn find_part<R: Wait, I: Indexes, W: Ranged<F>, F: Drop, G: Gate, L>(
     requires ready { IsJoinable (I.state indexes.now) (I.has_index indexes.now) body.now plan.now terms.now }
     requires bounds { AreBounds bounds.now }
     requires within { number + 1 < length bounds.now }
-    requires few { length bounds.now ≤ 17 }
+    requires few { length bounds.now ≤ most_parts + 1 }
     ensures found { IfOk result.found (W.is_found way.now terms.now body.now plan.now (I.state indexes.now) (bound_at bounds.now number) (bound_at bounds.now (number + 1))) }
     ensures paid { IfOk result.found (λ found. W.is_paid found result.moves) }
     ensures cost { result.moves ≤ bound body.now plan.now (I.state indexes.now) }
@@ -151,7 +151,7 @@ where
     I::Rows: Sync,
     requires ready { IsJoinable (I.state indexes.now) (I.has_index indexes.now) body.now plan.now terms.now }
     requires bounds { AreBounds bounds.now }
-    requires few { length bounds.now ≤ 17 }
+    requires few { length bounds.now ≤ most_parts + 1 }
     requires some { first < end }
     requires within { end < length bounds.now }
     ensures found { IfOk result.found (W.is_found way.now terms.now body.now plan.now (I.state indexes.now) (bound_at bounds.now first) (bound_at bounds.now end)) }
@@ -167,7 +167,7 @@ where
     let (one, next) = join(
         rt,
         || -> Part<F, L>
-            requires { IsSync R.row × IsSync I.row × IsSync W.row × IsJoinable (I.state indexes.now) (I.has_index indexes.now) body.now plan.now terms.now × AreBounds bounds.now × (length bounds.now ≤ 17) × (first < middle) × (middle < length bounds.now) }
+            requires { IsSync R.row × IsSync I.row × IsSync W.row × IsJoinable (I.state indexes.now) (I.has_index indexes.now) body.now plan.now terms.now × AreBounds bounds.now × (length bounds.now ≤ most_parts + 1) × (first < middle) × (middle < length bounds.now) }
             ensures { IfOk result.found (W.is_found way.entry.now terms.entry.now body.entry.now plan.entry.now (I.state indexes.entry.now) (bound_at bounds.entry.now first) (bound_at bounds.entry.now middle)) × IfOk result.found (λ found. W.is_paid found result.moves) × (result.moves ≤ (middle - first) * bound body.entry.now plan.entry.now (I.state indexes.entry.now)) }
         {
             find_parts::<R, L, I, W, F, G>(
@@ -175,7 +175,7 @@ where
             )
         },
         || -> Part<F, L>
-            requires { IsSync R.row × IsSync I.row × IsSync W.row × IsJoinable (I.state indexes.now) (I.has_index indexes.now) body.now plan.now terms.now × AreBounds bounds.now × (length bounds.now ≤ 17) × (middle < end) × (end < length bounds.now) }
+            requires { IsSync R.row × IsSync I.row × IsSync W.row × IsJoinable (I.state indexes.now) (I.has_index indexes.now) body.now plan.now terms.now × AreBounds bounds.now × (length bounds.now ≤ most_parts + 1) × (middle < end) × (end < length bounds.now) }
             ensures { IfOk result.found (W.is_found way.entry.now terms.entry.now body.entry.now plan.entry.now (I.state indexes.entry.now) (bound_at bounds.entry.now middle) (bound_at bounds.entry.now end)) × IfOk result.found (λ found. W.is_paid found result.moves) × (result.moves ≤ (end - middle) * bound body.entry.now plan.entry.now (I.state indexes.entry.now)) }
         {
             find_parts::<R, L, I, W, F, G>(
@@ -210,7 +210,7 @@ where
     I::Rows: Sync,
     requires ready { IsJoinable (I.state indexes.now) (I.has_index indexes.now) body.now plan.now terms.now }
     requires some { 0 < parts }
-    requires few { parts ≤ 16 }
+    requires few { parts ≤ most_parts }
     ensures found { IfOk result (W.is_found way.now terms.now body.now plan.now (I.state indexes.now) 0 end_key) }
     ensures paid { IfOk result (λ found. W.is_paid found (moves.new - moves.old)) }
     // also where memory is refused

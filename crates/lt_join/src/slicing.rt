@@ -1,9 +1,9 @@
 //! The answers of a body, key by key of its first variable.
-ghost use Rattle.std.specs.Prelude.{◌≡◌, ◌≤◌, ◌<◌, ◌+◌, ◌-◌, ◌^◌, ◌∷◌, [], ℕ, List, true, false, length, slice_get, drop, Some, IfOk, IsTrue};
+ghost use Rattle.std.specs.Prelude.{◌≡◌, ◌≤◌, ◌<◌, ◌+◌, ◌-◌, ◌^◌, ◌∷◌, ◌++◌, [], ℕ, List, true, false, length, slice_get, drop, Some, IfOk, OnOk, IsTrue};
 ghost use Rattle.std.specs.List.{AllByRecursion};
 ghost use Rattle.lt_face.specs.Keys.{end_key};
 ghost use Rattle.lt_face.specs.Lists.{IsIn};
-ghost use Rattle.lt_face.specs.State.{Row as RowView, State};
+ghost use Rattle.lt_face.specs.State.{State};
 ghost use Rattle.lt_model.specs.declared.normal.Term.{Term as TermView};
 ghost use Rattle.lt_model.specs.declared.normal.Body.{Body as BodyView};
 ghost use Rattle.lt_model.specs.Answers.{answers as answers_of, ascending as ascending_rows, terms_of};
@@ -13,10 +13,8 @@ ghost use Rattle.lt_query.specs.Answering.{AreTestsBound};
 ghost use Rattle.lt_query.specs.Lists.{IsRising};
 ghost use Rattle.lt_query.specs.Plan.{term_at};
 ghost use Rattle.lt_query.specs.declared.plans.Plan.{Plan as PlanView};
-ghost use Rattle.lt_sense.specs.Cells.{HaveSameCells};
 ghost use Rattle.lt_sense.specs.Kept.{Sense as SenseView};
-ghost use Rattle.lt_sense.specs.Ordered.{IsSealed};
-ghost use Rattle.lt_sense.specs.Sense.{covers, IsTight};
+ghost use Rattle.lt_sense.specs.Sense.{IsTight};
 ghost use Rattle.lt_join.specs.Asked.{CanJoin, AreAnswerable};
 ghost use Rattle.lt_join.specs.Certify.{Certifies};
 ghost use Rattle.lt_join.specs.Cost.{bound, cost_from};
@@ -25,36 +23,30 @@ ghost use Rattle.lt_join.specs.Holders.{atoms_at};
 ghost use Rattle.lt_join.specs.Level.{AreAtomsAt};
 ghost use Rattle.lt_query.specs.declared.plans.Level.{Level as LevelView};
 ghost use Rattle.lt_join.specs.Walked.{at};
-ghost use Rattle.lt_join.specs.declared.slicing.Slice.{Slice as SliceView};
+ghost use Rattle.lt_join.specs.Slices.{AreKeyed, Slice as SliceView, sense_keys, slices_of};
 ghost use Rattle.lt_join.specs.Mended.{AreSlicesOn};
 ghost use Rattle.lt_join.specs.Parts.{IsAtMost, IsJoinable, AreSlicesWithin};
-ghost use Rattle.lt_join.specs.Sliced.{pinned, slice_keys, united, sliced_rows, AreSealed, CertifiesBut, IsSliceOf, AreRooted, AreRootGaps, AreFoundKeys};
+ghost use Rattle.lt_join.specs.Sliced.{pinned, slice_keys, united, sliced_rows, CertifiesBut, IsSliceOf, AreRooted, AreRootGaps, AreFoundKeys};
 
 use crate::Found;
 use crate::atom_iter::AtomIter;
+use crate::key_rows::{KeyRows, add_key};
 use crate::level::{next_key, open};
-use crate::mending_shared::{SharedSlice, SharedSlices};
+use crate::noting::{Noted, hand_over};
 use crate::path::Path;
+use crate::sliced::{Gathered, Slices};
 use crate::values::Values;
 use crate::walk::{Walk, explore_key};
 use crate::way::Way;
 use lt_answers::ascending::ascending;
 use lt_face::indexes::Indexes;
-use lt_face::items::{Items, RowList};
+use lt_face::items::RowList;
 use lt_face::key::{END, Key};
 use lt_face::memory::NoMemory;
 use lt_face::moves::Moves;
 use lt_query::{Body, Plan, TermList};
-use lt_sense::{Sense, Sensed};
+use lt_sense::{Gathering, GatheringByKey, Sensed};
 use std::alloc::Global;
-
-/// What a body answers under one key of its first variable, and what that was sensitive to.
-#[derive(Drop)]
-pub struct Slice {
-    pub key: Key,
-    pub rows: RowList,
-    pub sense: Sense,
-}
 
 /// Where a sense certifies a body but for some keys of a term of its atoms, it and slices for these keys certify the whole
 /// body; they are tight together, and the body's answers are those of the slices.
@@ -64,31 +56,14 @@ pub fn slices_make_the_whole()
     ensures answers { (root : SenseView) (slices : List SliceView) (terms : List TermView) (term : TermView) (body : BodyView) (state : State) → AreTestsBound body → are_bound body terms ≡ true → IsIn term (terms_of body.atoms) → CertifiesBut (slice_keys slices) term root body state → AllByRecursion (IsSliceOf terms body term state) slices → answers_of terms body state ≡ ascending_rows (sliced_rows slices) }
 {}
 
-/// A sense put in order where that is asked for.
-fn sealed_if(mut sense: Sense, sealing: bool) -> Result<Sense, NoMemory>
-    ensures sealed { IfOk result (λ kept. sealing ≡ true → IsSealed kept) }
-    ensures cells { IfOk result (λ kept. HaveSameCells sense.gaps kept.gaps) }
-    ensures covers { IfOk result (λ kept. (relation : ℕ) (row : RowView) → covers kept relation row ≡ covers sense relation row) }
-    ensures gaps { IfOk result (λ kept. length kept.gaps ≤ length sense.gaps) }
-    ensures hits { IfOk result (λ kept. length kept.hits ≤ length sense.hits) }
-    ensures tight { IfOk result (λ kept. (state : State) → IsTight sense state → IsTight kept state) }
-{
-    if !sealing {
-        return Ok(sense);
-    }
-    sense.seal()?;
-    Ok(sense)
-}
-
-/// The slice of the key at which the first level stands.
+/// The slice of the key at which the first level stands: its rows, and what they were sensitive to.
 fn slice_at<'a, I: Indexes, L>(
     way: &Way<'a, I>,
     iters: &mut [AtomIter<'a, I::Rows>],
     keys: &mut Path,
     key: Key,
     moves: &mut Moves<L>,
-    sealing: bool,
-) -> Result<Slice, NoMemory>
+) -> Result<(RowList, Gathering), NoMemory>
     requires at_root { keys.old ≡ [] }
     requires all { way.now.first ≡ false }
     requires whole { length way.now.plan.levels ≤ way.now.wanted }
@@ -103,25 +78,35 @@ fn slice_at<'a, I: Indexes, L>(
     ensures moves { moves.old ≤ moves.new }
     ensures back { IfOk result (λ _. keys.new ≡ []) }
     ensures iters { IfOk result (λ _. iters.new ≡ iters.old) }
-    ensures key { IfOk result (λ slice. slice.key ≡ key) }
-    ensures slice { IfOk result (IsSliceOf way.now.terms way.now.body (term_at way.now.plan.levels 0) way.now.state) }
-    ensures sealed { IfOk result (λ slice. sealing ≡ true → IsSealed slice.sense) }
-    ensures gaps { IfOk result (λ slice. length slice.sense.gaps + moves.old ≤ moves.new) }
-    ensures hits { IfOk result (λ slice. length slice.sense.hits + moves.old ≤ moves.new + length (atoms_at way.now.plan.guides 0)) }
+    ensures slice { IfOk result (λ found. IsSliceOf way.now.terms way.now.body (term_at way.now.plan.levels 0) way.now.state (record { key = key; rows = found.0; sense = found.1 })) }
+    ensures gaps { IfOk result (λ found. length found.1.gaps + moves.old ≤ moves.new) }
+    ensures hits { IfOk result (λ found. length found.1.hits + moves.old ≤ moves.new + length (atoms_at way.now.plan.guides 0)) }
 {
-    let mut walk: Walk<Sense> = Walk::new(way.alloc);
+    let mut walk: Walk<Gathering> = Walk::new(way.alloc);
     explore_key(way, iters, keys, key, &mut walk, moves)?;
     let Found { sense, rows } = walk.found;
     let rows = ascending(rows.into_vec())?;
-    let sense = sealed_if(sense.into_senses(), sealing)?;
-    Ok(Slice { key, rows, sense })
+    Ok((rows, sense.into_senses()))
 }
 
-/// What was gathered of a range of keys: the root gaps, and the slices of the keys that were found in it.
-#[derive(Drop)]
-pub(crate) struct Gathered {
-    pub(crate) root: Sense,
-    pub(crate) slices: SharedSlices,
+/// Adds the slice of a key above all others.
+fn add_slice(
+    alloc: Global,
+    sense: &mut GatheringByKey,
+    rows: &mut Vec<KeyRows>,
+    key: Key,
+    found: RowList,
+    part: Gathering,
+) -> Result<(), NoMemory>
+    requires keyed { AreKeyed sense.old.slices rows.old.items }
+    requires above { AllByRecursion (λ k. k < key) (sense_keys sense.old.slices) }
+    ensures keyed { OnOk result (AreKeyed sense.new.slices rows.new.items) }
+    ensures slices { OnOk result (slices_of rows.new.items sense.new.slices ≡ slices_of rows.old.items sense.old.slices ++ record { key = key; rows = found; sense = part } ∷ []) }
+    ensures root { OnOk result (sense.new.root ≡ sense.old.root) }
+{
+    sense.add_slice(key, part)?;
+    add_key(alloc, rows, key, found)?;
+    Ok(())
 }
 
 /// Gathers the slices of the keys from `lo` to below `hi`, by a way.
@@ -131,7 +116,6 @@ fn gather_keys<'a, I: Indexes, L>(
     lo: Key,
     hi: Key,
     moves: &mut Moves<L>,
-    sealing: bool,
 ) -> Result<Gathered, NoMemory>
     requires iters { AreAtomsAt way.now.plan way.now.state [] iters.old }
     requires all { way.now.first ≡ false }
@@ -140,27 +124,28 @@ fn gather_keys<'a, I: Indexes, L>(
     requires tests { AreTestsBound way.now.body }
     requires heads { IsTrue (are_bound way.now.body way.now.terms) }
     requires bound { lo ≤ 2 ^ 120 }
-    ensures slices { IfOk result (λ found. AreSlicesWithin way.now.terms way.now.body way.now.plan way.now.state lo hi found.root found.slices) }
-    ensures few { IfOk result (λ found. IsAtMost (united found.root found.slices) (moves.new - moves.old)) }
-    ensures sealed { IfOk result (λ found. sealing ≡ true → AllByRecursion (λ slice. IsSealed slice.sense) found.slices) }
+    ensures slices { IfOk result (λ found. AreSlicesWithin way.now.terms way.now.body way.now.plan way.now.state lo hi found.sense.root (slices_of found.rows.items found.sense.slices)) }
+    ensures few { IfOk result (λ found. IsAtMost (united found.sense.root (slices_of found.rows.items found.sense.slices)) (moves.new - moves.old)) }
+    ensures keyed { IfOk result (λ found. AreKeyed found.sense.slices found.rows.items) }
     // also where memory is refused
     ensures cost { moves.new ≤ moves.old + bound way.now.body way.now.plan way.now.state }
     ensures moves { moves.old ≤ moves.new }
 {
-    let mut root: Sensed<Sense> = Sensed::none(way.alloc);
-    let mut slices = Items::new(way.alloc);
+    let mut sense = GatheringByKey::new(way.alloc);
+    let mut rows = Vec::new(way.alloc);
+    let mut noted: Sensed<Noted> = Sensed::none(way.alloc);
     let mut keys = Path::root();
     let values = Values::none();
     let range = way.range_below(&keys, &values);
-    let mut met = open(way, iters, &keys, lo, range, &values, &mut root, moves)?;
+    let mut met = open(way, iters, &keys, lo, range, &values, &mut noted, moves)?;
+    noted = hand_over(noted, &mut sense)?;
     while met.key < hi {
-        let slice = slice_at(way, iters, &mut keys, met.key, moves, sealing)?;
-        let shared = SharedSlice::new(way.alloc, slice)?;
-        slices.push(shared)?;
-        met = next_key(way, iters, &keys, met, range, &mut root, moves)?;
+        let (found, part) = slice_at(way, iters, &mut keys, met.key, moves)?;
+        add_slice(way.alloc, &mut sense, &mut rows, met.key, found, part)?;
+        met = next_key(way, iters, &keys, met, range, &mut noted, moves)?;
+        noted = hand_over(noted, &mut sense)?;
     }
-    let root = root.into_senses();
-    Ok(Gathered { root, slices })
+    Ok(Gathered { sense, rows })
 }
 
 /// Gathers the slices of the keys from `lo` to below `hi`.
@@ -173,13 +158,12 @@ pub(crate) fn gather_range<I: Indexes, L>(
     lo: Key,
     hi: Key,
     moves: &mut Moves<L>,
-    sealing: bool,
 ) -> Result<Gathered, NoMemory>
     requires ready { IsJoinable (I.state indexes.now) (I.has_index indexes.now) body.now plan.now terms.now }
     requires bound { lo ≤ 2 ^ 120 }
-    ensures slices { IfOk result (λ found. AreSlicesWithin terms.now body.now plan.now (I.state indexes.now) lo hi found.root found.slices) }
-    ensures few { IfOk result (λ found. IsAtMost (united found.root found.slices) (moves.new - moves.old)) }
-    ensures sealed { IfOk result (λ found. sealing ≡ true → AllByRecursion (λ slice. IsSealed slice.sense) found.slices) }
+    ensures slices { IfOk result (λ found. AreSlicesWithin terms.now body.now plan.now (I.state indexes.now) lo hi found.sense.root (slices_of found.rows.items found.sense.slices)) }
+    ensures few { IfOk result (λ found. IsAtMost (united found.sense.root (slices_of found.rows.items found.sense.slices)) (moves.new - moves.old)) }
+    ensures keyed { IfOk result (λ found. AreKeyed found.sense.slices found.rows.items) }
     // also where memory is refused
     ensures cost { moves.new ≤ moves.old + bound body.now plan.now (I.state indexes.now) }
     ensures moves { moves.old ≤ moves.new }
@@ -187,85 +171,21 @@ pub(crate) fn gather_range<I: Indexes, L>(
     let wanted = plan.levels.len();
     let way = Way::new(alloc, indexes, body, plan, terms.as_slice(), false, wanted)?;
     let mut iters = way.iters()?;
-    gather_keys(&way, &mut iters, lo, hi, moves, sealing)
+    gather_keys(&way, &mut iters, lo, hi, moves)
 }
 
-/// The slices of a range that all keys are in, and its root gaps, put in order where that is asked for.
-pub(crate) fn whole_of(found: Gathered, sealing: bool) -> Result<(Sense, SharedSlices), NoMemory>
-    ensures slices { IfOk result (λ whole. (terms : List TermView) (body : BodyView) (plan : PlanView) (state : State) → AreSlicesWithin terms body plan state 0 end_key found.root found.slices → AreSlicesOn terms body plan state whole.0 whole.1 × AreFoundKeys plan state (slice_keys whole.1)) }
-    ensures few { IfOk result (λ whole. (n : ℕ) → IsAtMost (united found.root found.slices) n → IsAtMost (united whole.0 whole.1) n) }
-    ensures sealed { IfOk result (λ whole. sealing ≡ true → AllByRecursion (λ slice. IsSealed slice.sense) found.slices → AreSealed whole.0 whole.1) }
+/// The slices of a range that all keys are in, and its root gaps.
+pub(crate) fn whole_of(found: Gathered) -> Result<Slices, NoMemory>
+    requires keyed { AreKeyed found.sense.slices found.rows.items }
+    requires root_gaps { AreRootGaps found.sense.root }
+    ensures slices { IfOk result (λ whole. (terms : List TermView) (body : BodyView) (plan : PlanView) (state : State) → AreSlicesWithin terms body plan state 0 end_key found.sense.root (slices_of found.rows.items found.sense.slices) → AreSlicesOn terms body plan state whole.root whole.slices × AreFoundKeys plan state (slice_keys whole.slices)) }
+    ensures few { IfOk result (λ whole. (n : ℕ) → IsAtMost (united found.sense.root (slices_of found.rows.items found.sense.slices)) n → IsAtMost (united whole.root whole.slices) n) }
 {
-    let root = sealed_if(found.root, sealing)?;
-    Ok((root, found.slices))
-}
-
-/// As `slices`, which seals, and `slices_unsealed`, which doesn't.
-pub(crate) fn gather_slices<I: Indexes, L>(
-    alloc: Global,
-    body: &Body,
-    plan: &Plan,
-    terms: &TermList,
-    indexes: &I,
-    moves: &mut Moves<L>,
-    sealing: bool,
-) -> Result<(Sense, SharedSlices), NoMemory>
-    requires can_join { CanJoin (I.state indexes.now) (I.has_index indexes.now) body.now plan.now }
-    requires answerable { AreAnswerable body.now terms.now }
-    requires has_levels { 0 < length plan.now.levels }
-    ensures ascending { IfOk result (λ found. IsRising (slice_keys found.1)) }
-    ensures slices { IfOk result (λ found. AllByRecursion (IsSliceOf terms.now body.now (term_at plan.now.levels 0) (I.state indexes.now)) found.1) }
-    ensures found { IfOk result (λ found. AreFoundKeys plan.now (I.state indexes.now) (slice_keys found.1)) }
-    ensures rooted { IfOk result (λ found. AreRooted body.now plan.now found.0 (slice_keys found.1)) }
-    ensures root_gaps { IfOk result (λ found. AreRootGaps found.0) }
-    ensures root_hits { IfOk result (λ found. found.0.hits ≡ []) }
-    ensures rows { IfOk result (λ found. ascending_rows (sliced_rows found.1) ≡ answers_of terms.now body.now (I.state indexes.now)) }
-    ensures certified { IfOk result (λ found. Certifies (united found.0 found.1) body.now (I.state indexes.now)) }
-    ensures tight { IfOk result (λ found. IsTight (united found.0 found.1) (I.state indexes.now)) }
-    ensures gaps { IfOk result (λ found. moves.old + length (united found.0 found.1).gaps ≤ moves.new) }
-    ensures hits { IfOk result (λ found. moves.old + length (united found.0 found.1).hits ≤ moves.new) }
-    // also where memory is refused
-    ensures cost { moves.new ≤ moves.old + bound body.now plan.now (I.state indexes.now) }
-    ensures moves { moves.old ≤ moves.new }
-    ensures sealed { IfOk result (λ found. sealing ≡ true → AreSealed found.0 found.1) }
-{
-    let found = gather_range(alloc, body, plan, terms, indexes, 0, END, moves, sealing)?;
-    let whole = whole_of(found, sealing)?;
-    Ok(whole)
-}
-
-/// As `slices`, with the senses in the order in which they were gathered.
-pub fn slices_unsealed<I: Indexes, L>(
-    alloc: Global,
-    body: &Body,
-    plan: &Plan,
-    terms: &TermList,
-    indexes: &I,
-    moves: &mut Moves<L>,
-) -> Result<(Sense, SharedSlices), NoMemory>
-    requires can_join { CanJoin (I.state indexes.now) (I.has_index indexes.now) body.now plan.now }
-    requires answerable { AreAnswerable body.now terms.now }
-    requires has_levels { 0 < length plan.now.levels }
-    ensures ascending { IfOk result (λ found. IsRising (slice_keys found.1)) }
-    ensures slices { IfOk result (λ found. AllByRecursion (IsSliceOf terms.now body.now (term_at plan.now.levels 0) (I.state indexes.now)) found.1) }
-    ensures found { IfOk result (λ found. AreFoundKeys plan.now (I.state indexes.now) (slice_keys found.1)) }
-    ensures rooted { IfOk result (λ found. AreRooted body.now plan.now found.0 (slice_keys found.1)) }
-    ensures root_gaps { IfOk result (λ found. AreRootGaps found.0) }
-    ensures root_hits { IfOk result (λ found. found.0.hits ≡ []) }
-    ensures rows { IfOk result (λ found. ascending_rows (sliced_rows found.1) ≡ answers_of terms.now body.now (I.state indexes.now)) }
-    ensures certified { IfOk result (λ found. Certifies (united found.0 found.1) body.now (I.state indexes.now)) }
-    ensures tight { IfOk result (λ found. IsTight (united found.0 found.1) (I.state indexes.now)) }
-    ensures gaps { IfOk result (λ found. moves.old + length (united found.0 found.1).gaps ≤ moves.new) }
-    ensures hits { IfOk result (λ found. moves.old + length (united found.0 found.1).hits ≤ moves.new) }
-    // also where memory is refused
-    ensures cost { moves.new ≤ moves.old + bound body.now plan.now (I.state indexes.now) }
-    ensures moves { moves.old ≤ moves.new }
-{
-    gather_slices(alloc, body, plan, terms, indexes, moves, false)
+    Slices::of(found)
 }
 
 /// The body's answers and what they were sensitive to, key by key of its first variable: the root gaps, which are those of
-/// that variable's level, and a slice for each key that was found there, all sealed. The body has an atom; else it is as in `answers`.
+/// that variable's level, and a slice for each key that was found there. The body has an atom; else it is as in `answers`.
 pub fn slices<I: Indexes, L>(
     alloc: Global,
     body: &Body,
@@ -273,25 +193,26 @@ pub fn slices<I: Indexes, L>(
     terms: &TermList,
     indexes: &I,
     moves: &mut Moves<L>,
-) -> Result<(Sense, SharedSlices), NoMemory>
+) -> Result<Slices, NoMemory>
     requires can_join { CanJoin (I.state indexes.now) (I.has_index indexes.now) body.now plan.now }
     requires answerable { AreAnswerable body.now terms.now }
     requires has_levels { 0 < length plan.now.levels }
-    ensures ascending { IfOk result (λ found. IsRising (slice_keys found.1)) }
-    ensures slices { IfOk result (λ found. AllByRecursion (IsSliceOf terms.now body.now (term_at plan.now.levels 0) (I.state indexes.now)) found.1) }
-    ensures found { IfOk result (λ found. AreFoundKeys plan.now (I.state indexes.now) (slice_keys found.1)) }
-    ensures rooted { IfOk result (λ found. AreRooted body.now plan.now found.0 (slice_keys found.1)) }
-    ensures root_gaps { IfOk result (λ found. AreRootGaps found.0) }
-    ensures root_hits { IfOk result (λ found. found.0.hits ≡ []) }
-    ensures rows { IfOk result (λ found. ascending_rows (sliced_rows found.1) ≡ answers_of terms.now body.now (I.state indexes.now)) }
-    ensures certified { IfOk result (λ found. Certifies (united found.0 found.1) body.now (I.state indexes.now)) }
-    ensures tight { IfOk result (λ found. IsTight (united found.0 found.1) (I.state indexes.now)) }
-    ensures gaps { IfOk result (λ found. moves.old + length (united found.0 found.1).gaps ≤ moves.new) }
-    ensures hits { IfOk result (λ found. moves.old + length (united found.0 found.1).hits ≤ moves.new) }
+    ensures ascending { IfOk result (λ found. IsRising (slice_keys found.slices)) }
+    ensures slices { IfOk result (λ found. AllByRecursion (IsSliceOf terms.now body.now (term_at plan.now.levels 0) (I.state indexes.now)) found.slices) }
+    ensures found { IfOk result (λ found. AreFoundKeys plan.now (I.state indexes.now) (slice_keys found.slices)) }
+    ensures rooted { IfOk result (λ found. AreRooted body.now plan.now found.root (slice_keys found.slices)) }
+    ensures root_gaps { IfOk result (λ found. AreRootGaps found.root) }
+    ensures root_hits { IfOk result (λ found. found.root.hits ≡ []) }
+    ensures rows { IfOk result (λ found. ascending_rows (sliced_rows found.slices) ≡ answers_of terms.now body.now (I.state indexes.now)) }
+    ensures certified { IfOk result (λ found. Certifies (united found.root found.slices) body.now (I.state indexes.now)) }
+    ensures tight { IfOk result (λ found. IsTight (united found.root found.slices) (I.state indexes.now)) }
+    ensures gaps { IfOk result (λ found. moves.old + length (united found.root found.slices).gaps ≤ moves.new) }
+    ensures hits { IfOk result (λ found. moves.old + length (united found.root found.slices).hits ≤ moves.new) }
     // also where memory is refused
     ensures cost { moves.new ≤ moves.old + bound body.now plan.now (I.state indexes.now) }
     ensures moves { moves.old ≤ moves.new }
-    ensures sealed { IfOk result (λ found. AreSealed found.0 found.1) }
 {
-    gather_slices(alloc, body, plan, terms, indexes, moves, true)
+    let found = gather_range(alloc, body, plan, terms, indexes, 0, END, moves)?;
+    let whole = whole_of(found)?;
+    Ok(whole)
 }

@@ -1,11 +1,11 @@
 //! The answers of a body by ranges of the keys of its first level.
 ghost use Rattle.std.specs.Prelude.{◌≡◌, ◌<◌, ◌≤◌, ◌+◌, ◌*◌, length, IfOk};
 ghost use Rattle.lt_model.specs.Answers.{answers as answers_of};
-ghost use Rattle.lt_sense.specs.Ordered.{IsSealed};
 ghost use Rattle.lt_sense.specs.Sense.{IsTight};
 ghost use Rattle.lt_join.specs.Asked.{CanJoin, AreAnswerable};
 ghost use Rattle.lt_join.specs.Certify.{Certifies};
 ghost use Rattle.lt_join.specs.Cost.{bound};
+ghost use Rattle.lt_join.specs.Parts.{most_parts};
 
 use crate::Found;
 use crate::answer::answers_prepared;
@@ -19,7 +19,7 @@ use lt_face::key::Key;
 use lt_face::memory::NoMemory;
 use lt_face::moves::Moves;
 use lt_query::{Body, Plan, TermList};
-use lt_sense::{NoSense, Sense, Senses};
+use lt_sense::{Gathering, NoSense, Senses};
 use std::alloc::Global;
 use std::sync::Wait;
 use std::thread::Threads;
@@ -83,7 +83,7 @@ where
     requires can_join { CanJoin (I.state indexes.now) (I.has_index indexes.now) body.now plan.now }
     requires answerable { AreAnswerable body.now terms.now }
     requires some { 0 < parts }
-    requires few { parts ≤ 16 }
+    requires few { parts ≤ most_parts }
     ensures rows { IfOk result (λ found. found.0 ≡ answers_of terms.now body.now (I.state indexes.now)) }
     ensures certified { IfOk result (λ found. Certifies (S.seen found.1) body.now (I.state indexes.now)) }
     ensures tight { IfOk result (λ found. IsTight (S.seen found.1) (I.state indexes.now)) }
@@ -117,13 +117,13 @@ pub fn answers_split<R: Threads + Wait + Sync, I: Indexes + Sync, G: Gate, L: Se
     parts: u32,
     gate: &G,
     moves: &mut Moves<L>,
-) -> Result<(RowList, Sense), NoMemory>
+) -> Result<(RowList, Gathering), NoMemory>
 where
     I::Rows: Sync,
     requires can_join { CanJoin (I.state indexes.now) (I.has_index indexes.now) body.now plan.now }
     requires answerable { AreAnswerable body.now terms.now }
     requires some { 0 < parts }
-    requires few { parts ≤ 16 }
+    requires few { parts ≤ most_parts }
     ensures rows { IfOk result (λ found. found.0 ≡ answers_of terms.now body.now (I.state indexes.now)) }
     ensures certified { IfOk result (λ found. Certifies found.1 body.now (I.state indexes.now)) }
     ensures tight { IfOk result (λ found. IsTight found.1 (I.state indexes.now)) }
@@ -132,13 +132,8 @@ where
     // also where memory is refused
     ensures cost { moves.new ≤ moves.old + parts * bound body.now plan.now (I.state indexes.now) }
     ensures moves { moves.old ≤ moves.new }
-    ensures sealed { IfOk result (λ found. IsSealed found.1) }
 {
-    let (rows, mut sense): (RowList, Sense) = by_parts(
-        rt, alloc, body, plan, terms, indexes, parts, gate, moves,
-    )?;
-    sense.seal()?;
-    Ok((rows, sense))
+    by_parts(rt, alloc, body, plan, terms, indexes, parts, gate, moves)
 }
 
 /// The answers of a body, as of `answers_alone`, by at most so many parts: each joins for a range of the first level's keys, in a
@@ -160,7 +155,7 @@ where
     requires can_join { CanJoin (I.state indexes.now) (I.has_index indexes.now) body.now plan.now }
     requires answerable { AreAnswerable body.now terms.now }
     requires some { 0 < parts }
-    requires few { parts ≤ 16 }
+    requires few { parts ≤ most_parts }
     ensures rows { IfOk result (λ rows. rows ≡ answers_of terms.now body.now (I.state indexes.now)) }
     // also where memory is refused
     ensures cost { moves.new ≤ moves.old + parts * bound body.now plan.now (I.state indexes.now) }

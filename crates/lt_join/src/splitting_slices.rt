@@ -8,36 +8,34 @@ ghost use Rattle.lt_sense.specs.Sense.{IsTight};
 ghost use Rattle.lt_join.specs.Asked.{CanJoin, AreAnswerable};
 ghost use Rattle.lt_join.specs.Certify.{Certifies};
 ghost use Rattle.lt_join.specs.Cost.{bound};
-ghost use Rattle.lt_join.specs.Sliced.{slice_keys, united, sliced_rows, AreSealed, IsSliceOf, AreRooted, AreRootGaps, AreFoundKeys};
+ghost use Rattle.lt_join.specs.Parts.{most_parts};
+ghost use Rattle.lt_join.specs.Sliced.{slice_keys, united, sliced_rows, IsSliceOf, AreRooted, AreRootGaps, AreFoundKeys};
 
-use crate::mending_shared::SharedSlices;
 use crate::parts::{Ranged, find_whole};
-use crate::slicing::{Gathered, gather_range, whole_of};
+use crate::sliced::{Gathered, Slices};
+use crate::slicing::{gather_range, whole_of};
 use lt_edges::Gate;
 use lt_face::indexes::Indexes;
-use lt_face::items::Items;
 use lt_face::key::Key;
 use lt_face::memory::NoMemory;
 use lt_face::moves::Moves;
 use lt_query::{Body, Plan, TermList};
-use lt_sense::Sense;
 use std::alloc::Global;
 use std::sync::Wait;
 use std::thread::Threads;
 
-/// The way to join for slices, whose senses are sealed.
+/// The way to join for slices.
 #[derive(Drop)]
 pub(crate) struct Slicing;
 
 impl Ranged<Gathered> for Slicing {
-    ghost use Rattle.std.specs.List.{AllByRecursion};
-    ghost use Rattle.lt_sense.specs.Ordered.{IsSealed};
+    ghost use Rattle.lt_join.specs.Slices.{AreKeyed, slices_of};
     ghost use Rattle.lt_join.specs.Parts.{IsAtMost, AreSlicesWithin};
     ghost use Rattle.lt_join.specs.Sliced.{united};
 
-    ghost is_found = { λ way terms body plan state lo hi found. AreSlicesWithin terms body plan state lo hi found.root found.slices × AllByRecursion (λ slice. IsSealed slice.sense) found.slices };
+    ghost is_found = { λ way terms body plan state lo hi found. AreSlicesWithin terms body plan state lo hi found.sense.root (slices_of found.rows.items found.sense.slices) × AreKeyed found.sense.slices found.rows.items };
 
-    ghost is_paid = { λ found n. IsAtMost (united found.root found.slices) n };
+    ghost is_paid = { λ found n. IsAtMost (united found.sense.root (slices_of found.rows.items found.sense.slices)) n };
 
     fn find<I: Indexes, L>(
         &self,
@@ -50,20 +48,19 @@ impl Ranged<Gathered> for Slicing {
         hi: Key,
         moves: &mut Moves<L>,
     ) -> Result<Gathered, NoMemory> {
-        let found = gather_range(alloc, body, plan, terms, indexes, lo, hi, moves, true)?;
+        let found = gather_range(alloc, body, plan, terms, indexes, lo, hi, moves)?;
         Ok(found)
     }
 
     fn unite(&self, one: Gathered, next: Gathered) -> Result<Gathered, NoMemory> {
-        let Gathered { mut root, slices } = one;
-        let mut slices = slices.into_vec();
-        let mut more = next.slices.into_vec();
-        slices.append(&mut more)?;
-        root.add_all(&next.root)?;
-        Ok(Gathered {
-            root,
-            slices: Items::from_vec(slices),
-        })
+        let Gathered {
+            mut sense,
+            mut rows,
+        } = one;
+        let mut more = next.rows;
+        rows.append(&mut more)?;
+        sense.add_all(&next.sense)?;
+        Ok(Gathered { sense, rows })
     }
 }
 
@@ -80,33 +77,32 @@ pub fn slices_split<R: Threads + Wait + Sync, I: Indexes + Sync, G: Gate, L: Sen
     parts: u32,
     gate: &G,
     moves: &mut Moves<L>,
-) -> Result<(Sense, SharedSlices), NoMemory>
+) -> Result<Slices, NoMemory>
 where
     I::Rows: Sync,
     requires can_join { CanJoin (I.state indexes.now) (I.has_index indexes.now) body.now plan.now }
     requires answerable { AreAnswerable body.now terms.now }
     requires has_levels { 0 < length plan.now.levels }
     requires some { 0 < parts }
-    requires few { parts ≤ 16 }
-    ensures ascending { IfOk result (λ found. IsRising (slice_keys found.1)) }
-    ensures slices { IfOk result (λ found. AllByRecursion (IsSliceOf terms.now body.now (term_at plan.now.levels 0) (I.state indexes.now)) found.1) }
-    ensures found { IfOk result (λ found. AreFoundKeys plan.now (I.state indexes.now) (slice_keys found.1)) }
-    ensures rooted { IfOk result (λ found. AreRooted body.now plan.now found.0 (slice_keys found.1)) }
-    ensures root_gaps { IfOk result (λ found. AreRootGaps found.0) }
-    ensures root_hits { IfOk result (λ found. found.0.hits ≡ []) }
-    ensures rows { IfOk result (λ found. ascending_rows (sliced_rows found.1) ≡ answers_of terms.now body.now (I.state indexes.now)) }
-    ensures certified { IfOk result (λ found. Certifies (united found.0 found.1) body.now (I.state indexes.now)) }
-    ensures tight { IfOk result (λ found. IsTight (united found.0 found.1) (I.state indexes.now)) }
-    ensures gaps { IfOk result (λ found. moves.old + length (united found.0 found.1).gaps ≤ moves.new) }
-    ensures hits { IfOk result (λ found. moves.old + length (united found.0 found.1).hits ≤ moves.new) }
+    requires few { parts ≤ most_parts }
+    ensures ascending { IfOk result (λ found. IsRising (slice_keys found.slices)) }
+    ensures slices { IfOk result (λ found. AllByRecursion (IsSliceOf terms.now body.now (term_at plan.now.levels 0) (I.state indexes.now)) found.slices) }
+    ensures found { IfOk result (λ found. AreFoundKeys plan.now (I.state indexes.now) (slice_keys found.slices)) }
+    ensures rooted { IfOk result (λ found. AreRooted body.now plan.now found.root (slice_keys found.slices)) }
+    ensures root_gaps { IfOk result (λ found. AreRootGaps found.root) }
+    ensures root_hits { IfOk result (λ found. found.root.hits ≡ []) }
+    ensures rows { IfOk result (λ found. ascending_rows (sliced_rows found.slices) ≡ answers_of terms.now body.now (I.state indexes.now)) }
+    ensures certified { IfOk result (λ found. Certifies (united found.root found.slices) body.now (I.state indexes.now)) }
+    ensures tight { IfOk result (λ found. IsTight (united found.root found.slices) (I.state indexes.now)) }
+    ensures gaps { IfOk result (λ found. moves.old + length (united found.root found.slices).gaps ≤ moves.new) }
+    ensures hits { IfOk result (λ found. moves.old + length (united found.root found.slices).hits ≤ moves.new) }
     // also where memory is refused
     ensures cost { moves.new ≤ moves.old + parts * bound body.now plan.now (I.state indexes.now) }
     ensures moves { moves.old ≤ moves.new }
-    ensures sealed { IfOk result (λ found. AreSealed found.0 found.1) }
 {
     let found = find_whole::<R, L, I, Slicing, Gathered, G>(
         rt, &Slicing, alloc, body, plan, terms, indexes, parts, gate, moves,
     )?;
-    let whole = whole_of(found, true)?;
+    let whole = whole_of(found)?;
     Ok(whole)
 }

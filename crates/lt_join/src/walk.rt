@@ -1,11 +1,10 @@
 //! The walk over the levels of a plan.
-ghost use Rattle.std.specs.Prelude.{◌≡◌, ◌+◌, ◌<◌, ◌≤◌, ◌-◌, ◌^◌, ◌⊎◌, ◌∷◌, ◌++◌, [], ℕ, List, None, true, false, length, take, drop, slice_get, Some, IfOk, OnOk};
+ghost use Rattle.std.specs.Prelude.{◌≡◌, ◌+◌, ◌<◌, ◌≤◌, ◌-◌, ◌⊎◌, ◌∷◌, ◌++◌, [], None, true, false, length, take, drop, slice_get, Some, IfOk, OnOk};
 ghost use Rattle.std.specs.List.{AllByRecursion};
 ghost use Rattle.lt_face.specs.Limits.{most_variables};
 ghost use Rattle.lt_model.specs.Cells.{is_cell};
 ghost use Rattle.lt_model.specs.Fits.{IsTermOf};
 ghost use Rattle.lt_query.specs.declared.plans.Level.{Level as LevelView};
-ghost use Rattle.lt_query.specs.Holding.{atoms_at_level};
 ghost use Rattle.lt_query.specs.Plan.{IsDetermined, term_at};
 ghost use Rattle.lt_sense.specs.Sense.{IsTight};
 ghost use Rattle.lt_join.specs.Cost.{cost_from};

@@ -1,4 +1,8 @@
-use Rattle.std.proofs.Common.{◌-◌, refl, sym, arith}
+use denote.Exit.{no}
+use denote.Param.Send.{param_send, arg_send}
+use Rattle.std.proofs.Common.{◌-◌, sym, arith}
+use Rattle.lt_join.specs.contracts.sliced.Gathered as Gathered
+use Rattle.lt_join.proofs.Crossing.{gathered_send}
 use Rattle.lt_join.proofs.MendLaws.{certified_of, tight_of, answers_of}
 use Rattle.lt_join.proofs.Prepared.{IsJoinable-from}
 use Rattle.lt_join.proofs.splitting_slices.slices_split.Goals as goal
@@ -28,18 +32,18 @@ returns-clause-root_hits g c = (c.in_ok-whole.ensures.slices c.args.terms.now c.
 pub returns-clause-rows : goal.returns-clause-rows
 returns-clause-rows g c =
     let state = g.I.Indexes.state c.args.indexes.now in
-    sym (answers_of c.args.terms.now c.args.body.now c.args.plan.now state c.in_ok-whole.whole.0 c.in_ok-whole.whole.1 c.requires.can_join.of_body c.requires.has_levels (c.requires.can_join.fits.is_bound, c.requires.can_join.fits.are_absents_bound) c.requires.answerable.are_bound
+    sym (answers_of c.args.terms.now c.args.body.now c.args.plan.now state c.in_ok-whole.whole.root c.in_ok-whole.whole.slices c.requires.can_join.of_body c.requires.has_levels (c.requires.can_join.fits.is_bound, c.requires.can_join.fits.are_absents_bound) c.requires.answerable.are_bound
     (c.in_ok-whole.ensures.slices c.args.terms.now c.args.body.now c.args.plan.now state c.in_ok-found.ensures.found.0).0)
 
 pub returns-clause-certified : goal.returns-clause-certified
 returns-clause-certified g c =
     let state = g.I.Indexes.state c.args.indexes.now in
-    certified_of c.args.terms.now c.args.body.now c.args.plan.now state c.in_ok-whole.whole.0 c.in_ok-whole.whole.1 c.requires.can_join.of_body c.requires.has_levels (c.in_ok-whole.ensures.slices c.args.terms.now c.args.body.now c.args.plan.now state c.in_ok-found.ensures.found.0).0
+    certified_of c.args.terms.now c.args.body.now c.args.plan.now state c.in_ok-whole.whole.root c.in_ok-whole.whole.slices c.requires.can_join.of_body c.requires.has_levels (c.in_ok-whole.ensures.slices c.args.terms.now c.args.body.now c.args.plan.now state c.in_ok-found.ensures.found.0).0
 
 pub returns-clause-tight : goal.returns-clause-tight
 returns-clause-tight g c =
     let state = g.I.Indexes.state c.args.indexes.now in
-    tight_of c.args.terms.now c.args.body.now c.args.plan.now state c.in_ok-whole.whole.0 c.in_ok-whole.whole.1 (c.in_ok-whole.ensures.slices c.args.terms.now c.args.body.now c.args.plan.now state c.in_ok-found.ensures.found.0).0
+    tight_of c.args.terms.now c.args.body.now c.args.plan.now state c.in_ok-whole.whole.root c.in_ok-whole.whole.slices (c.in_ok-whole.ensures.slices c.args.terms.now c.args.body.now c.args.plan.now state c.in_ok-found.ensures.found.0).0
 
 pub returns-clause-gaps : goal.returns-clause-gaps
 returns-clause-gaps g c =
@@ -51,5 +55,8 @@ returns-clause-hits g c =
     let most = (c.in_ok-whole.ensures.few (c.find_whole.new.moves - c.args.moves.now) c.in_ok-found.ensures.paid).hits in
     omega arith
 
-pub returns-clause-sealed : goal.returns-clause-sealed
-returns-clause-sealed g c = c.in_ok-whole.ensures.sealed refl c.in_ok-found.ensures.found.1
+pub whole_of-requires-clause-root_gaps : goal.whole_of-requires-clause-root_gaps
+whole_of-requires-clause-root_gaps g c = c.in_ok-found.ensures.found.0.root_gaps
+
+pub find_whole-requires-send-F : goal.find_whole-requires-send-F
+find_whole-requires-send-F g c κs within = param_send 4 _ (arg_send _ no Gathered.the_row gathered_send)
