@@ -18,12 +18,14 @@ use Rattle.lt_join.specs.Mended.{HaveTouched}
 use Rattle.lt_join.specs.MendedPlan.{mending_cost}
 use Rattle.lt_program.specs.declared.course.Course.{Course}
 use Rattle.lt_program.specs.declared.course.Laid.{Laid}
-use Rattle.lt_program.specs.declared.part.Part.{Part}
+use Rattle.lt_program.specs.Part.{Part}
 use Rattle.lt_program.specs.Asked.{CanEvaluate}
 use Rattle.lt_program.specs.Tally.{IsPartOn, HasIndexesOf, IsLaidOn, Grows, next, statement_cost}
 use Rattle.lt_program.specs.Run.{reads_rows}
+use Rattle.lt_program.specs.Split.{statement_cost_by, whole_cost}
 use Rattle.lt_program.proofs.Bare.{reads_none}
 use Rattle.lt_program.proofs.NoAtoms.{nothing, part_same, effect_same, cost_same}
+use Rattle.lt_program.proofs.SplitCosts.{statement_whole}
 use Rattle.lt_program.proofs.Widths.{AreWide-laid, FitsStatement-laid}
 
 module _ (base : List Table) (marks : Marks) (tables : List Table) (on : IsLaidOn base marks tables) where
@@ -42,8 +44,8 @@ module _ (base : List Table) (marks : Marks) (tables : List Table) (on : IsLaidO
   pub evaluates_on : (stmt : Stmt) → CanEvaluate base stmt → CanEvaluate tables stmt
   evaluates_on stmt can = record { wide = wide_on can.wide; indexes = indexes_on (body_of stmt) can.indexes; fits = fits_on stmt can.fits }
 
-  pub cost_on : (stmt : Stmt) (old new : ℕ) → new ≤ old + statement_cost stmt (state_of tables) → new ≤ old + statement_cost stmt (laid (state_of base) marks)
-  cost_on stmt old new h = subst (λ (s : State). new ≤ old + statement_cost stmt s) on.state h
+  pub cost_on : (most : Body → State → ℕ) (stmt : Stmt) (old new : ℕ) → new ≤ old + statement_cost_by most stmt (state_of tables) → new ≤ old + statement_cost_by most stmt (laid (state_of base) marks)
+  cost_on most stmt old new h = subst (λ (s : State). new ≤ old + statement_cost_by most stmt s) on.state h
 
   pub mending_on_laid : (stmt : Stmt) (keys : List ℕ) (old new : ℕ) → new ≤ old + mending_cost keys (body_of stmt) (stated_plan (body_of stmt)) (state_of tables) → new ≤ old + mending_cost keys (body_of stmt) (stated_plan (body_of stmt)) (laid (state_of base) marks)
   mending_on_laid stmt keys old new h = subst (λ (s : State). new ≤ old + mending_cost keys (body_of stmt) (stated_plan (body_of stmt)) s) on.state h
@@ -67,7 +69,7 @@ module _ (base : List Table) (marks : Marks) (tables : List Table) (on : IsLaidO
       }
 
 -- the part of a statement that reads no relation is that on any state
-pub grows_alone : (base : State) (number : ℕ) (stmt : Stmt) (part own : Part) (e : Effect) (old new : Course) → reads_rows stmt ≡ false → IsPartOn stmt base part → e ≡ effect stmt base → own ≡ record { outcome = part.outcome; sense = nothing; slices = [] }
+pub grows_alone : (base : State) (number : ℕ) (stmt : Stmt) (part own : Part) (e : Effect) (old new : Course) → reads_rows stmt ≡ false → IsPartOn stmt base part → e ≡ effect stmt base → own ≡ record { outcome = part.outcome; sense = nothing; slices = []; by_key = false }
     → new.parts ≡ old.parts ++ own ∷ [] → new.reply ≡ (next number e (old.reply, old.marks)).0 → new.marks ≡ (next number e (old.reply, old.marks)).1 → Grows number stmt base old new
 grows_alone base number stmt part own e old new none is is_effect is_own parts reply marks_are =
     let told : e ≡ effect stmt (laid base old.marks) = is_effect ∙ effect_same base (laid base old.marks) stmt (reads_none stmt none) in
@@ -79,8 +81,8 @@ grows_alone base number stmt part own e old new none is is_effect is_own parts r
       marks = marks_are ∙ ap (λ f. (next number f (old.reply, old.marks)).1) told;
     }
 
-pub cost_alone : (base : State) (marks : Marks) (stmt : Stmt) (old new : ℕ) → reads_rows stmt ≡ false → new ≤ old + statement_cost stmt base → new ≤ old + statement_cost stmt (laid base marks)
-cost_alone base marks stmt old new none h = subst (λ n. new ≤ old + n) (cost_same base (laid base marks) stmt (reads_none stmt none)) h
+pub cost_alone : (base : State) (marks : Marks) (stmt : Stmt) (old new : ℕ) → reads_rows stmt ≡ false → new ≤ old + statement_cost_by whole_cost stmt base → new ≤ old + statement_cost stmt (laid base marks)
+cost_alone base marks stmt old new none h = subst (λ n. new ≤ old + n) (statement_whole stmt base ∙ cost_same base (laid base marks) stmt (reads_none stmt none)) h
 
 -- what is laid is of no account
 pub grows_taken : (number : ℕ) (stmt : Stmt) (base : State) (old mid new : Course) (l : Option Laid) → mid ≡ record old { laid = l } → Grows number stmt base mid new → Grows number stmt base old new

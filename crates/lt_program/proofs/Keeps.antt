@@ -14,7 +14,7 @@ use Rattle.lt_sense.specs.Sense.{AgreeWhereCovered}
 use Rattle.lt_join.specs.Mended.{HaveTouched}
 use Rattle.lt_join.specs.MendedPlan.{mending_cost}
 use Rattle.lt_program.specs.declared.course.Course.{Course}
-use Rattle.lt_program.specs.declared.part.Part.{Part}
+use Rattle.lt_program.specs.Part.{Part}
 use Rattle.lt_program.specs.Kept.{IsOrdered, marks_past}
 use Rattle.lt_program.specs.Sound.{tally_of, IsSound}
 use Rattle.lt_program.specs.Tally.{TallyView, IsPartOn, IsMendedPart, IsRun, is_next_sliced, is_sliced, is_sliced_at, mending_on, run_of_first, sense_of, state_before}

@@ -28,7 +28,7 @@ use Rattle.lt_sense.specs.declared.covering.Hit.{Hit}
 use Rattle.lt_sense.specs.declared.covering.KeptGap.{KeptGap}
 use Rattle.lt_sense.specs.Kept.{Sense}
 use Rattle.lt_sense.specs.Sense.{IsTight}
-use Rattle.lt_join.specs.declared.slicing.Slice.{Slice}
+use Rattle.lt_join.specs.Slices.{Slice, SlicesView}
 use Rattle.lt_join.specs.Certify.{Certifies}
 use Rattle.lt_join.specs.Cost.{bound}
 use Rattle.lt_sense.specs.Cut.{cut}
@@ -37,13 +37,15 @@ use Rattle.lt_join.specs.MendedPlan.{mending_cost}
 use Rattle.lt_join.specs.Sliced.{slice_keys, united, sliced_rows, IsSliceOf, AreRooted, AreRootGaps}
 use Rattle.lt_join.proofs.MendLaws.{certified_of, tight_of, answers_of}
 use Rattle.lt_join.proofs.Repair.{GapIsTight}
+use Rattle.lt_program.specs.declared.part.Certificate.{Certificate}
+use Rattle.lt_program.specs.declared.part.Certificate.TheVariants.{Whole, ByKey}
 use Rattle.lt_program.specs.declared.part.Found.{Found}
 use Rattle.lt_program.specs.declared.part.Found.TheVariants.{Both}
-use Rattle.lt_program.specs.declared.part.Part.{Part}
+use Rattle.lt_program.specs.Part.{Part, kept_by, part_of}
 use Rattle.lt_program.specs.Planned.{IsPlanned, ArePicked}
 use Rattle.lt_join.specs.Asked.{CanJoin, AreAnswerable}
 use Rattle.lt_program.specs.Asked.{CanFollow, CanEvaluate}
-use Rattle.lt_program.specs.Tally.{IsPartOn, IsKeptAs, IsMendedPart, CertifiesKeys, VouchesFor, keyed_on, outcome_on, has_level, is_sliced, slice_terms}
+use Rattle.lt_program.specs.Tally.{IsPartOn, IsKeptAs, IsMendedPart, IsWhole, CertifiesKeys, VouchesFor, keyed_on, outcome_on, has_level, is_sliced, sense_of, slice_terms}
 use Rattle.lt_program.proofs.IndexesMade.{body_fits}
 use Rattle.lt_program.proofs.Picked.{head_picked, print_picked}
 use Rattle.lt_program.proofs.TwoHeads.{both_picked, first_answers, second_answers}
@@ -158,12 +160,12 @@ module _ (base state : State) (stmt : Stmt) (root : Sense) (slices : List Slice)
   rows_by rows is =
       is ∙ sym (answers_of (slice_terms stmt) (body_of stmt) (stated_plan (body_of stmt)) state root slices (IsPlanOf-stated (body_of stmt)) with_level ((body_fits base stmt fits).is_bound, (body_fits base stmt fits).are_absents_bound) (terms_picked base stmt wide fits sliced).bound are)
 
-  pub part_by_is : (outcome : Found) → outcome ≡ outcome_on stmt state → IsPartOn stmt state (record { outcome = outcome; sense = root; slices = slices })
+  pub part_by_is : (outcome : Found) → outcome ≡ outcome_on stmt state → IsPartOn stmt state (record { outcome = outcome; sense = root; slices = slices; by_key = true })
   part_by_is outcome is = record {
     outcome = is;
     vouches = vouches_by (united root slices) stmt state sliced (certified_of (slice_terms stmt) (body_of stmt) (stated_plan (body_of stmt)) state root slices (IsPlanOf-stated (body_of stmt)) with_level are);
     tight = tight_of (slice_terms stmt) (body_of stmt) (stated_plan (body_of stmt)) state root slices are;
-    sliced = record { by_slices = λ _. are; whole = λ no. absurd (true≢false (sym sliced ∙ no)) };
+    sliced = record { by_key = sym sliced; by_slices = λ _. are; whole = λ no. absurd (true≢false (sym sliced ∙ no)) };
   }
 
 -- without slices the root gaps are all
@@ -173,9 +175,17 @@ sense_by gaps hits = record { gaps = gaps; hits = hits }
 pub united_none : (s : Sense) → united s [] ≡ s
 united_none s = ap (λ (gaps : List KeptGap). sense_by gaps (s.hits ++ [])) (append-nil s.gaps) ∙ ap (sense_by s.gaps) (append-nil s.hits)
 
+kept_united : (outcome : Found) (certificate : Certificate) → kept_by certificate ≡ sense_of (part_of outcome certificate)
+kept_united outcome (Whole sense) = sym (united_none sense)
+kept_united outcome (ByKey found) = refl
+
+-- what a certificate keeps is what its part was sensitive to
+pub kept_is : (outcome : Found) (certificate : Certificate) (part : Part) → part_of outcome certificate ≡ part → kept_by certificate ≡ sense_of part
+kept_is outcome certificate part is = kept_united outcome certificate ∙ ap sense_of is
+
 -- a part without slices, of a statement that isn't kept by them
-pub kept_whole : (stmt : Stmt) (state : State) (part : Part) → is_sliced stmt ≡ false → part.slices ≡ [] → IsKeptAs stmt state part
-kept_whole stmt state part not none = record { by_slices = λ yes. absurd (true≢false (sym yes ∙ not)); whole = λ _. none }
+pub kept_whole : (stmt : Stmt) (state : State) (part : Part) → is_sliced stmt ≡ false → IsWhole part → IsKeptAs stmt state part
+kept_whole stmt state part not one = record { by_key = one.by_key ∙ sym not; by_slices = λ yes. absurd (true≢false (sym yes ∙ not)); whole = λ _. one.slices }
 
 -- ---- two heads
 
@@ -226,40 +236,48 @@ each_first : {X : Type 0} (P : X → Type 0) (xs ys : List X) → AllByRecursion
 each_first P [] ys h = tt
 each_first P (x ∷ xs) ys h = (h.0, each_first P xs ys h.1)
 
--- what a join answers are the statement's slices
-pub found_are : (stmt : Stmt) (body : Body) (plan : Plan) (terms : List Term) (state : State) (root : Sense) (slices : List Slice) → body ≡ body_of stmt → IsPlanned (body_of stmt) plan → terms ≡ slice_terms stmt
+-- what a join answers are the slices of its body
+pub found_are : (terms : List Term) (body : Body) (plan : Plan) (state : State) (root : Sense) (slices : List Slice)
     → IsRising (slice_keys slices) → AllByRecursion (IsSliceOf terms body (term_at plan.levels 0) state) slices → AreRooted body plan root (slice_keys slices) → IsTight (united root slices) state → root.hits ≡ [] → AreRootGaps root
-    → AreSlicesOn (slice_terms stmt) (body_of stmt) (stated_plan (body_of stmt)) state root slices
-found_are stmt body plan terms state root slices is planned terms_are rising each rooted tight none gaps =
+    → AreSlicesOn terms body plan state root slices
+found_are terms body plan state root slices rising each rooted tight none gaps =
     let of_root : IsTight root state = record {
       gaps = each_first (GapIsTight state) root.gaps (flat_map (λ (slice : Slice). slice.sense.gaps) slices) tight.gaps;
       hits = each_first (λ (hit : Hit). Has state hit.relation hit.row) root.hits (flat_map (λ (slice : Slice). slice.sense.hits) slices) tight.hits;
     } in
-    are_moved terms (slice_terms stmt) body (body_of stmt) plan (stated_plan (body_of stmt)) state root slices terms_are is planned.stated
-    (record { ascending = rising; each = each; rooted = rooted; tight = of_root; root_hits = none; root_gaps = gaps })
+    record { ascending = rising; each = each; rooted = rooted; tight = of_root; root_hits = none; root_gaps = gaps }
 
-pub cost_told : (state : State) (stmt : Stmt) (body : Body) (plan : Plan) (old new : ℕ) → body ≡ body_of stmt → IsPlanned (body_of stmt) plan → new ≤ old + bound body plan state → new ≤ old + bound (body_of stmt) (stated_plan (body_of stmt)) state
-cost_told state stmt body plan old new is planned h = subst (λ (p : Plan). new ≤ old + bound (body_of stmt) p state) planned.stated (subst (λ (b : Body). new ≤ old + bound b plan state) is h)
+-- so they are the statement's, where it is the statement's body
+pub stated_are : (stmt : Stmt) (body : Body) (plan : Plan) (terms : List Term) (state : State) (root : Sense) (slices : List Slice) → body ≡ body_of stmt → IsPlanned (body_of stmt) plan → terms ≡ slice_terms stmt
+    → AreSlicesOn terms body plan state root slices → AreSlicesOn (slice_terms stmt) (body_of stmt) (stated_plan (body_of stmt)) state root slices
+stated_are stmt body plan terms state root slices is planned terms_are are = are_moved terms (slice_terms stmt) body (body_of stmt) plan (stated_plan (body_of stmt)) state root slices terms_are is planned.stated are
+
+pub slices_picked : (tables : List Table) (stmt : Stmt) (body : Body) (terms : List Term) → body ≡ body_of stmt → terms ≡ slice_terms stmt → CanEvaluate tables stmt → is_sliced stmt ≡ true → ArePicked body terms
+slices_picked tables stmt body terms is terms_are can sliced =
+    subst (λ (b : Body). ArePicked b terms) (sym is) (subst (ArePicked (body_of stmt)) (sym terms_are) (terms_picked (state_of tables) stmt can.wide can.fits sliced))
 
 -- ---- mending
 
-pub old_rises : (stmt : Stmt) (s : State) (old : Part) (xs : List Slice) → xs ≡ old.slices → is_sliced stmt ≡ true → IsPartOn stmt s old → IsRising (slice_keys xs)
-old_rises stmt s old xs is sliced part = subst (λ (l : List Slice). IsRising (slice_keys l)) (sym is) (part.sliced.by_slices sliced).ascending
+-- the slices that a part keeps are its root gaps and its slices
+pub record AreOf (part : Part) (kept : SlicesView) : Type 0 where
+  pub root : kept.root ≡ part.sense
+  pub slices : kept.slices ≡ part.slices
 
 -- what the mending of a part answers are the statement's slices
-pub mended_are : (stmt : Stmt) (body : Body) (plan : Plan) (terms : List Term) (s t : State) (old : Part) (xs : List Slice) (ks keys : List ℕ) (root : Sense) (slices : List Slice)
-    → body ≡ body_of stmt → IsPlanned (body_of stmt) plan → terms ≡ slice_terms stmt → xs ≡ old.slices → ks ≡ keys → is_sliced stmt ≡ true → IsPartOn stmt s old → HaveTouched keys old.sense old.slices s t
-    → (AreSlicesOn terms body plan s old.sense xs → HaveTouched ks old.sense xs s t → AreSlicesOn terms body plan t root slices) → AreSlicesOn (slice_terms stmt) (body_of stmt) (stated_plan (body_of stmt)) t root slices
-mended_are stmt body plan terms s t old xs ks keys root slices is planned terms_are xs_are ks_are sliced part touched right =
+pub mended_are : (stmt : Stmt) (body : Body) (plan : Plan) (terms : List Term) (s t : State) (old : Part) (kept : SlicesView) (ks keys : List ℕ) (root : Sense) (slices : List Slice)
+    → body ≡ body_of stmt → IsPlanned (body_of stmt) plan → terms ≡ slice_terms stmt → AreOf old kept → ks ≡ keys → is_sliced stmt ≡ true → IsPartOn stmt s old → HaveTouched keys old.sense old.slices s t
+    → (AreSlicesOn terms body plan s kept.root kept.slices → HaveTouched ks kept.root kept.slices s t → AreSlicesOn terms body plan t root slices) → AreSlicesOn (slice_terms stmt) (body_of stmt) (stated_plan (body_of stmt)) t root slices
+mended_are stmt body plan terms s t old kept ks keys root slices is planned terms_are its ks_are sliced part touched right =
     let were : AreSlicesOn terms body plan s old.sense old.slices = are_moved (slice_terms stmt) terms (body_of stmt) body (stated_plan (body_of stmt)) plan s old.sense old.slices (sym terms_are) (sym is) (sym planned.stated) (part.sliced.by_slices sliced) in
     let have : HaveTouched ks old.sense old.slices s t = subst (λ (l : List ℕ). HaveTouched l old.sense old.slices s t) (sym ks_are) touched in
     are_moved terms (slice_terms stmt) body (body_of stmt) plan (stated_plan (body_of stmt)) t root slices terms_are is planned.stated
-    (right (subst (λ (l : List Slice). AreSlicesOn terms body plan s old.sense l) (sym xs_are) were) (subst (λ (l : List Slice). HaveTouched ks old.sense l s t) (sym xs_are) have))
+    (right (subst (λ (r : Sense). AreSlicesOn terms body plan s r kept.slices) (sym its.root) (subst (λ (l : List Slice). AreSlicesOn terms body plan s old.sense l) (sym its.slices) were))
+    (subst (λ (r : Sense). HaveTouched ks r kept.slices s t) (sym its.root) (subst (λ (l : List Slice). HaveTouched ks old.sense l s t) (sym its.slices) have)))
 
-pub mended_is : (old new : Part) (xs : List Slice) (ks keys : List ℕ) (root : Sense) (slices : List Slice) → xs ≡ old.slices → ks ≡ keys → new.sense ≡ root → new.slices ≡ slices → root ≡ cut ks old.sense → AreMended ks xs slices → IsMendedPart keys old new
-mended_is old new xs ks keys root slices xs_are ks_are root_is slices_are made mended = record {
-  root = root_is ∙ (made ∙ ap (λ (l : List ℕ). cut l old.sense) ks_are);
-  slices = subst (λ (l : List Slice). AreMended keys old.slices l) (sym slices_are) (subst (λ (l : List Slice). AreMended keys l slices) xs_are (subst (λ (l : List ℕ). AreMended l xs slices) ks_are mended));
+pub mended_is : (old new : Part) (kept : SlicesView) (ks keys : List ℕ) (root : Sense) (slices : List Slice) → AreOf old kept → ks ≡ keys → new.sense ≡ root → new.slices ≡ slices → root ≡ cut ks kept.root → AreMended ks kept.slices slices → IsMendedPart keys old new
+mended_is old new kept ks keys root slices its ks_are root_is slices_are made mended = record {
+  root = root_is ∙ (made ∙ (ap (cut ks) its.root ∙ ap (λ (l : List ℕ). cut l old.sense) ks_are));
+  slices = subst (λ (l : List Slice). AreMended keys old.slices l) (sym slices_are) (subst (λ (l : List Slice). AreMended keys l slices) its.slices (subst (λ (l : List ℕ). AreMended l kept.slices slices) ks_are mended));
 }
 
 pub mending_told : (state : State) (stmt : Stmt) (body : Body) (plan : Plan) (ks keys : List ℕ) (old new : ℕ) → body ≡ body_of stmt → IsPlanned (body_of stmt) plan → ks ≡ keys → new ≤ old + mending_cost ks body plan state → new ≤ old + mending_cost keys (body_of stmt) (stated_plan (body_of stmt)) state

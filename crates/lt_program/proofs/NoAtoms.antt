@@ -14,7 +14,7 @@ use Rattle.lt_query.specs.Stated.{stated_plan}
 use Rattle.lt_sense.specs.Kept.{Sense}
 use Rattle.lt_join.specs.Certify.{IsMet, IsMissed, Certifies}
 use Rattle.lt_join.specs.Cost.{bound}
-use Rattle.lt_program.specs.declared.part.Part.{Part}
+use Rattle.lt_program.specs.Part.{Part}
 use Rattle.lt_program.specs.declared.part.Found.{Found}
 use Rattle.lt_program.specs.declared.part.Found.TheVariants.{Rows, Both, Truth}
 use Rattle.lt_program.specs.Tally.{looked_up, outcome_on, CertifiesKeys, VouchesFor, IsPartOn, sense_of, keys_cost, statement_cost}
@@ -86,10 +86,10 @@ module _ (s t : State) where
   }
 
   -- its part is that of the other state, and it was sensitive to nothing
-  pub part_same : (stmt : Stmt) (part : Part) → IsUnread stmt → IsPartOn stmt s part → IsPartOn stmt t (record { outcome = part.outcome; sense = nothing; slices = [] })
+  pub part_same : (stmt : Stmt) (part : Part) → IsUnread stmt → IsPartOn stmt s part → IsPartOn stmt t (record { outcome = part.outcome; sense = nothing; slices = []; by_key = false })
   part_same stmt part e is = record {
     outcome = is.outcome ∙ outcome_same stmt e;
     vouches = vouches_same (sense_of part) stmt e is.vouches;
     tight = record { gaps = tt; hits = tt };
-    sliced = kept_whole stmt t (record { outcome = part.outcome; sense = nothing; slices = [] }) (not_sliced stmt e.0.0) refl;
+    sliced = kept_whole stmt t (record { outcome = part.outcome; sense = nothing; slices = []; by_key = false }) (not_sliced stmt e.0.0) (record { by_key = refl; slices = refl });
   }

@@ -16,8 +16,8 @@ use Rattle.lt_sense.specs.Sense.{IsTight}
 use Rattle.lt_join.specs.Certify.{Certifies}
 use Rattle.lt_program.specs.Displacing.{HaveOneWidth}
 use Rattle.lt_program.specs.declared.part.Found.TheVariants.{Rows, Both}
-use Rattle.lt_program.specs.declared.part.Part.{Part}
-use Rattle.lt_program.specs.Tally.{IsPartOn, CertifiesKeys, looked_up, keyed_on, keys_cost, is_sliced, sense_of}
+use Rattle.lt_program.specs.Part.{Part}
+use Rattle.lt_program.specs.Tally.{IsPartOn, IsWhole, CertifiesKeys, looked_up, keyed_on, keys_cost, is_sliced, sense_of}
 use Rattle.lt_program.proofs.FittingRuns.{head_rows}
 use Rattle.lt_program.proofs.KeptSlices.{kept_whole}
 
@@ -34,7 +34,7 @@ looked_all head keys rows keyed apart = ap (λ b. cond b [] (cond (has_clash key
 
 -- ---- parts
 
-module _ (state : State) (part : Part) (none : part.slices ≡ []) (tight : IsTight (sense_of part) state) where
+module _ (state : State) (part : Part) (one : IsWhole part) (tight : IsTight (sense_of part) state) where
   plain_keys : (head : Atom) (keys : ℕ) (rows : List Row) → is_plain head keys ≡ true → CertifiesKeys (sense_of part) head keys rows state
   plain_keys head keys rows plain = subst (AllByRecursion (λ row. Certifies (sense_of part) (key_body head.relation keys row) state)) (sym (looked_plain head keys rows plain)) tt
 
@@ -43,7 +43,7 @@ module _ (state : State) (part : Part) (none : part.slices ≡ []) (tight : IsTi
     outcome = outcome ∙ sym (ap (λ b. cond b (Rows (answers head.terms body state)) (keyed_on head keys [] (answers head.terms body state) state)) plain);
     vouches = (certified, plain_keys head keys (answers head.terms body state) plain);
     tight = tight;
-    sliced = kept_whole (Insert head keys body) state part whole none;
+    sliced = kept_whole (Insert head keys body) state part whole one;
   }
 
   pub keyed_insert : (head : Atom) (keys : ℕ) (body : Body) → is_plain head keys ≡ false → is_sliced (Insert head keys body) ≡ false → part.outcome ≡ keyed_on head keys [] (answers head.terms body state) state → Certifies (sense_of part) body state
@@ -52,7 +52,7 @@ module _ (state : State) (part : Part) (none : part.slices ≡ []) (tight : IsTi
     outcome = outcome ∙ sym (ap (λ b. cond b (Rows (answers head.terms body state)) (keyed_on head keys [] (answers head.terms body state) state)) keyed);
     vouches = (certified, looked);
     tight = tight;
-    sliced = kept_whole (Insert head keys body) state part whole none;
+    sliced = kept_whole (Insert head keys body) state part whole one;
   }
 
   pub plain_replace : (gone come : Atom) (keys : ℕ) (body : Body) → is_plain come keys ≡ true → is_sliced (Replace gone come keys body) ≡ false → part.outcome ≡ Both (answers gone.terms body state) (answers come.terms body state) → Certifies (sense_of part) body state
@@ -61,7 +61,7 @@ module _ (state : State) (part : Part) (none : part.slices ≡ []) (tight : IsTi
     outcome = outcome ∙ sym (ap (λ b. cond b (Both (answers gone.terms body state) (answers come.terms body state)) (keyed_on come keys (answers gone.terms body state) (answers come.terms body state) state)) plain);
     vouches = (certified, plain_keys come keys (answers come.terms body state) plain);
     tight = tight;
-    sliced = kept_whole (Replace gone come keys body) state part whole none;
+    sliced = kept_whole (Replace gone come keys body) state part whole one;
   }
 
   pub keyed_replace : (gone come : Atom) (keys : ℕ) (body : Body) → is_plain come keys ≡ false → is_sliced (Replace gone come keys body) ≡ false → part.outcome ≡ keyed_on come keys (answers gone.terms body state) (answers come.terms body state) state
@@ -70,7 +70,7 @@ module _ (state : State) (part : Part) (none : part.slices ≡ []) (tight : IsTi
     outcome = outcome ∙ sym (ap (λ b. cond b (Both (answers gone.terms body state) (answers come.terms body state)) (keyed_on come keys (answers gone.terms body state) (answers come.terms body state) state)) keyed);
     vouches = (certified, looked);
     tight = tight;
-    sliced = kept_whole (Replace gone come keys body) state part whole none;
+    sliced = kept_whole (Replace gone come keys body) state part whole one;
   }
 
 -- ---- the look-ups by the keys of rows

@@ -20,7 +20,7 @@ use Rattle.lt_base.specs.Tables.{state_of}
 use Rattle.lt_program.specs.declared.course.Course.{Course}
 use Rattle.lt_program.specs.declared.part.Found.{Found}
 use Rattle.lt_program.specs.declared.part.Found.TheVariants.{Rows, Both, Keyed}
-use Rattle.lt_program.specs.declared.part.Part.{Part}
+use Rattle.lt_program.specs.Part.{Part}
 use Rattle.lt_program.specs.Alone.{is_refusing, with_prints}
 use Rattle.lt_program.specs.Kept.{IsOrdered, first_rows, second_rows, displaced_rows, clashes_in, written_by, refused_by, marks_past, effect_by}
 use Rattle.lt_program.specs.Tally.{TallyView, IsPartOn, IsRun, Grows, looked_up, keyed_on, outcome_on, is_refused, next, run_of_first, state_before}

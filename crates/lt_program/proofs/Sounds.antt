@@ -4,6 +4,7 @@ use Rattle.std.specs.Prelude.{slice_get}
 use Rattle.std.specs.List.{AllByRecursion}
 use Rattle.std.proofs.lemmas.Option.{slice_get-get_or}
 use Rattle.lt_face.specs.State.{State}
+use Rattle.lt_model.specs.declared.normal.Body.{Body}
 use Rattle.lt_model.specs.declared.normal.Stmt.{Stmt}
 use Rattle.lt_model.specs.declared.reply.Reply.TheVariants.{Done}
 use Rattle.lt_model.specs.Fits.{Fits, FitsStatement, FitMarks}
@@ -15,7 +16,8 @@ use Rattle.lt_query.specs.Runnable.{AreWide}
 use Rattle.lt_program.specs.declared.course.Course.{Course}
 use Rattle.lt_program.specs.Asked.{CanEvaluate}
 use Rattle.lt_program.specs.Run.{AreReplied}
-use Rattle.lt_program.specs.Tally.{TallyView, HasIndexes, HasIndexesOf, IsLaid, IsRun, Grows, has_ended, state_before, statement_cost, cost_on, IsOneMore}
+use Rattle.lt_program.specs.Split.{statement_cost_by, cost_on_by}
+use Rattle.lt_program.specs.Tally.{TallyView, HasIndexes, HasIndexesOf, IsLaid, IsRun, Grows, has_ended, state_before, IsOneMore}
 use Rattle.lt_program.specs.Sound.{tally_of, IsSound}
 use Rattle.lt_program.proofs.TallyGrows.{IsRun-one_more, going_on, first_fits}
 
@@ -84,12 +86,12 @@ one_more program base course new t number stmt is grows sound = record {
   run = sound.run;
 }
 
-pub cost_told : (program : List Stmt) (base : List Table) (course : Course) (t : TallyView) (stmt : Stmt) (old new : ℕ) → tally_of program base course ≡ t → IsSound program base course → slice_get program (length course.parts) ≡ Some stmt → new ≤ old + statement_cost stmt (laid (state_of base) course.marks)
-    → new ≤ old + cost_on (slice_get t.program (length t.parts)) (state_before (length t.parts) t.program (state_of t.base))
-cost_told program base course t stmt old new is sound there cost =
-    let before : new ≤ old + statement_cost stmt (state_before (length course.parts) program (state_of base)) = subst (λ m. new ≤ old + statement_cost stmt (laid (state_of base) m)) sound.run.marks cost in
-    let found : new ≤ old + cost_on (slice_get program (length course.parts)) (state_before (length course.parts) program (state_of base)) = subst (λ o. new ≤ old + cost_on o (state_before (length course.parts) program (state_of base))) (sym there) before in
-    subst (λ (v : TallyView). new ≤ old + cost_on (slice_get v.program (length v.parts)) (state_before (length v.parts) v.program (state_of v.base))) is found
+pub cost_told : (most : Body → State → ℕ) (program : List Stmt) (base : List Table) (course : Course) (t : TallyView) (stmt : Stmt) (old new : ℕ) → tally_of program base course ≡ t → IsSound program base course → slice_get program (length course.parts) ≡ Some stmt → new ≤ old + statement_cost_by most stmt (laid (state_of base) course.marks)
+    → new ≤ old + cost_on_by most (slice_get t.program (length t.parts)) (state_before (length t.parts) t.program (state_of t.base))
+cost_told most program base course t stmt old new is sound there cost =
+    let before : new ≤ old + statement_cost_by most stmt (state_before (length course.parts) program (state_of base)) = subst (λ m. new ≤ old + statement_cost_by most stmt (laid (state_of base) m)) sound.run.marks cost in
+    let found : new ≤ old + cost_on_by most (slice_get program (length course.parts)) (state_before (length course.parts) program (state_of base)) = subst (λ o. new ≤ old + cost_on_by most o (state_before (length course.parts) program (state_of base))) (sym there) before in
+    subst (λ (v : TallyView). new ≤ old + cost_on_by most (slice_get v.program (length v.parts)) (state_before (length v.parts) v.program (state_of v.base))) is found
 
 -- the same course, without what is laid
 pub sound_again : (program : List Stmt) (base : List Table) (course : Course) → IsSound program base course → IsSound program base (record course { laid = None })

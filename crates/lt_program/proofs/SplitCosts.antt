@@ -6,7 +6,7 @@ use Rattle.lt_face.specs.State.{State}
 use Rattle.lt_model.specs.declared.normal.Body.{Body}
 use Rattle.lt_model.specs.declared.normal.Stmt.{Stmt}
 use Rattle.lt_model.specs.declared.normal.Stmt.TheVariants.{Insert, Delete, Replace, Require, Print}
-use Rattle.lt_program.specs.Split.{whole_cost, statement_cost_by, cost_on_by, cost_of_first_by}
+use Rattle.lt_program.specs.Split.{IsNoLess, split_cost, whole_cost, statement_cost_by, cost_on_by, cost_of_first_by}
 use Rattle.lt_program.specs.Tally.{statement_cost, cost_on, cost_of_first, ends_at, state_before}
 
 -- ---- joins as wholes
@@ -18,7 +18,7 @@ statement_whole (Replace gone come keys body) state = refl
 statement_whole (Require some body) state = refl
 statement_whole (Print terms kinds body) state = refl
 
-on_whole : (stmt : Option Stmt) (state : State) → cost_on_by whole_cost stmt state ≡ cost_on stmt state
+pub on_whole : (stmt : Option Stmt) (state : State) → cost_on_by whole_cost stmt state ≡ cost_on stmt state
 on_whole None state = refl
 on_whole (Some stmt) state = statement_whole stmt state
 
@@ -27,6 +27,22 @@ costs_whole zero program state = refl
 costs_whole (suc n) program state =
     ap (λ c. c + cost_on_by whole_cost (slice_get program n) (state_before n program state)) (costs_whole n program state)
     ∙ ap (λ c. cost_of_first n program state + c) (on_whole (slice_get program n) (state_before n program state))
+
+pub whole_least : IsNoLess whole_cost
+whole_least body state = omega arith
+
+-- so many parts take no less, where there is one
+pub split_least : (parts : ℕ) → 1 ≤ parts → IsNoLess (split_cost parts)
+split_least zero some body state = absurd (omega (arith, some))
+split_least (suc n) some body state = omega arith
+
+-- where joins may take more, so may the evaluation of a statement
+pub statement_least : (most : Body → State → ℕ) → IsNoLess most → (stmt : Stmt) (state : State) (old new : ℕ) → new ≤ old + statement_cost stmt state → new ≤ old + statement_cost_by most stmt state
+statement_least most least (Insert head keys body) state old new h = (let one = least body state in omega arith)
+statement_least most least (Delete head body) state old new h = (let one = least body state in omega arith)
+statement_least most least (Replace gone come keys body) state old new h = (let one = least body state in omega arith)
+statement_least most least (Require some body) state old new h = h
+statement_least most least (Print terms kinds body) state old new h = (let one = least body state in omega arith)
 
 -- ---- one statement after another
 

@@ -19,12 +19,13 @@ use Rattle.lt_join.proofs.Kept.{some_answer_kept}
 use Rattle.lt_join.proofs.MendLaws.{stay_slices}
 use Rattle.lt_join.proofs.Repair.{answers_same, Certifies-moved, IsTight-moved}
 use Rattle.lt_program.specs.declared.part.Found.TheVariants.{Rows, Both, Keyed, Truth}
-use Rattle.lt_program.specs.declared.part.Part.{Part}
+use Rattle.lt_program.specs.Part.{Part}
 use Rattle.lt_program.specs.Tally.{IsPartOn, IsKeptAs, CertifiesKeys, looked_up, keyed_on, sense_of, slice_terms}
 
 -- its slices stay its slices
 kept_stays : (s t : State) (stmt : Stmt) (part : Part) → AgreeWhereCovered (sense_of part) s t → IsKeptAs stmt s part → IsKeptAs stmt t part
 kept_stays s t stmt part agree is = record {
+  by_key = is.by_key;
   by_slices = λ sliced. stay_slices (slice_terms stmt) (body_of stmt) (stated_plan (body_of stmt)) s t part.sense part.slices (is.by_slices sliced) agree;
   whole = is.whole;
 }

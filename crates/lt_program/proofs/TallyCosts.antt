@@ -1,12 +1,15 @@
 -- The moves of a run, one statement after another.
-use Rattle.std.proofs.Common.{◌≡◌, ℕ, zero, suc, ◌+◌, ◌-◌, ◌<◌, ◌≤◌, true, false, List, [], ◌∷◌, length, refl, sym, ap, ◌∙◌, inl, inr, subst, arith}
+use Rattle.std.proofs.Common.{◌≡◌, ℕ, zero, suc, ◌+◌, ◌-◌, ◌<◌, ◌≤◌, true, false, List, [], ◌∷◌, length, sym, ap, ◌∙◌, inl, inr, subst, arith}
 use Rattle.std.specs.Prelude.{slice_get, ◌==◌, if◌then◌else◌}
 use Rattle.std.proofs.lemmas.Bool.{or_cases, cases_lt, eqb-true}
 use Rattle.std.proofs.lemmas.List.{length-append}
 use Rattle.lt_face.specs.State.{State}
+use Rattle.lt_model.specs.declared.normal.Body.{Body}
 use Rattle.lt_model.specs.declared.normal.Stmt.{Stmt}
 use Rattle.lt_base.specs.Tables.{Table, state_of}
-use Rattle.lt_program.specs.Tally.{TallyView, IsRun, IsOneMore, has_ended, is_refused, run_of_first, cost_on, cost_of_first, ends_from, ends_at, state_before}
+use Rattle.lt_program.specs.Split.{cost_on_by, cost_of_first_by}
+use Rattle.lt_program.specs.Tally.{TallyView, IsRun, IsOneMore, has_ended, is_refused, run_of_first, ends_from, ends_at, state_before}
+use Rattle.lt_program.proofs.SplitCosts.{cost_within}
 use Rattle.lt_program.proofs.TallyGrows.{going_on}
 
 pub one_longer : (old new : TallyView) → IsOneMore old new → length new.parts ≡ suc (length old.parts)
@@ -14,12 +17,12 @@ one_longer old new one =
     let long = length-append old.parts (one.part ∷ []) in
     ap length one.parts ∙ (long ∙ (omega arith))
 
-pub cost_more : (begun mid now n k : ℕ) (p q : List Stmt) (s t : State) → q ≡ p → t ≡ s → mid ≤ begun + cost_of_first n p s → now ≤ mid + cost_on (slice_get q n) (state_before n q t) → k ≡ suc n → now ≤ begun + cost_of_first k p s
-cost_more begun mid now n k p q s t a b before step is =
-    let moved : now ≤ mid + cost_on (slice_get q n) (state_before n q s) = subst (λ y. now ≤ mid + cost_on (slice_get q n) (state_before n q y)) b step in
-    let there : now ≤ mid + cost_on (slice_get p n) (state_before n p s) = subst (λ x. now ≤ mid + cost_on (slice_get x n) (state_before n x s)) a moved in
-    let whole : now ≤ begun + (cost_of_first n p s + cost_on (slice_get p n) (state_before n p s)) = omega arith in
-    subst (λ m. now ≤ begun + cost_of_first m p s) (sym is) whole
+pub cost_more : (most : Body → State → ℕ) (begun mid now n k : ℕ) (p q : List Stmt) (s t : State) → q ≡ p → t ≡ s → mid ≤ begun + cost_of_first_by most n p s → now ≤ mid + cost_on_by most (slice_get q n) (state_before n q t) → k ≡ suc n → now ≤ begun + cost_of_first_by most k p s
+cost_more most begun mid now n k p q s t a b before step is =
+    let moved : now ≤ mid + cost_on_by most (slice_get q n) (state_before n q s) = subst (λ y. now ≤ mid + cost_on_by most (slice_get q n) (state_before n q y)) b step in
+    let there : now ≤ mid + cost_on_by most (slice_get p n) (state_before n p s) = subst (λ x. now ≤ mid + cost_on_by most (slice_get x n) (state_before n x s)) a moved in
+    let whole : now ≤ begun + (cost_of_first_by most n p s + cost_on_by most (slice_get p n) (state_before n p s)) = omega arith in
+    subst (λ m. now ≤ begun + cost_of_first_by most m p s) (sym is) whole
 
 pub fewer_left : (old new : TallyView) → IsOneMore old new → IsRun old → has_ended old ≡ false → length new.program - length new.parts < length old.program - length old.parts
 fewer_left old new one run going =
@@ -89,25 +92,10 @@ module _ (t : TallyView) (run : IsRun t) (going : has_ended t ≡ false) where
       (subst (λ (p : List Stmt). length t.parts < ends_at p (state_of t.base)) a
       (first_goes_on t.program (state_of t.base) (length t.parts) run.evaluated run.went_on (ap is_refused (sym run.reply) ∙ (going_on t going run).0) (going_on t going run).1))
 
--- what the first statements may take grows with their number
-pub cost_grows : (n k : ℕ) (program : List Stmt) (state : State) → n ≤ k → cost_of_first n program state ≤ cost_of_first k program state
-cost_grows n zero program state le = (let e : n ≡ 0 = omega arith in rw e (omega arith))
-cost_grows n (suc k) program state le = elim (cases_lt k n) [
-  | inl lt ↦ (let e : n ≡ suc k = omega arith in rw e (omega arith))
-  | inr ge ↦ (let rest = cost_grows n k program state ge in omega arith)
-]
-
--- a statement was begun, and the moves so far are within what the program's statements may take
-pub cost_within : (begun mid now n : ℕ) (program : List Stmt) (state : State) → n < ends_at program state → mid ≤ begun + cost_of_first n program state → now ≤ mid + cost_on (slice_get program n) (state_before n program state) → now ≤ begun + cost_of_first (ends_at program state) program state
-cost_within begun mid now n program state lt before step =
-    let one = cost_more begun mid now n (suc n) program program state state refl refl before step refl in
-    let most = cost_grows (suc n) (ends_at program state) program state (omega arith) in
-    omega arith
-
--- so it is of a tally
-pub cost_begun : (t : TallyView) (begun mid now : ℕ) (program : List Stmt) (base : List Table) → IsRun t → has_ended t ≡ false → t.program ≡ program → t.base ≡ base → mid ≤ begun + cost_of_first (length t.parts) program (state_of base)
-    → now ≤ mid + cost_on (slice_get t.program (length t.parts)) (state_before (length t.parts) t.program (state_of t.base)) → now ≤ begun + cost_of_first (ends_at program (state_of base)) program (state_of base)
-cost_begun t begun mid now program base run going a b before step =
-    cost_within begun mid now (length t.parts) program (state_of base) (goes_on_to t run going program base a b) before
-    (subst (λ (x : List Table). now ≤ mid + cost_on (slice_get program (length t.parts)) (state_before (length t.parts) program (state_of x))) b
-    (subst (λ (p : List Stmt). now ≤ mid + cost_on (slice_get p (length t.parts)) (state_before (length t.parts) p (state_of t.base))) a step))
+-- a statement of it was begun, and the moves so far are within what the program's statements may take
+pub cost_begun : (most : Body → State → ℕ) (t : TallyView) (begun mid now : ℕ) (program : List Stmt) (base : List Table) → IsRun t → has_ended t ≡ false → t.program ≡ program → t.base ≡ base → mid ≤ begun + cost_of_first_by most (length t.parts) program (state_of base)
+    → now ≤ mid + cost_on_by most (slice_get t.program (length t.parts)) (state_before (length t.parts) t.program (state_of t.base)) → now ≤ begun + cost_of_first_by most (ends_at program (state_of base)) program (state_of base)
+cost_begun most t begun mid now program base run going a b before step =
+    cost_within most program (state_of base) begun mid now (length t.parts) (goes_on_to t run going program base a b) before
+    (subst (λ (x : List Table). now ≤ mid + cost_on_by most (slice_get program (length t.parts)) (state_before (length t.parts) program (state_of x))) b
+    (subst (λ (p : List Stmt). now ≤ mid + cost_on_by most (slice_get p (length t.parts)) (state_before (length t.parts) p (state_of t.base))) a step))

@@ -14,7 +14,7 @@ use Rattle.lt_model.specs.Marks.{Marks, laid}
 use Rattle.lt_model.specs.Run.{run}
 use Rattle.lt_model.specs.State.{IsState}
 use Rattle.lt_base.specs.Tables.{state_of}
-use Rattle.lt_program.specs.declared.part.Part.{Part}
+use Rattle.lt_program.specs.Part.{Part}
 use Rattle.lt_program.specs.Run.{AreReplied}
 use Rattle.lt_program.specs.Tally.{TallyView, IsRun, ArePartsOf, IsPartOn, has_ended, is_refused, next, run_of_first, state_before}
 use Rattle.lt_program.proofs.FittingRuns.{run_fits}

@@ -2,6 +2,7 @@ pub mod Effect
 pub mod Run
 pub mod Keyed
 pub mod Planned
+pub mod Part
 pub mod Tally
 pub mod Asked
 pub mod Sound

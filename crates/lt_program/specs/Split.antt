@@ -1,5 +1,5 @@
 -- What the run of a program may take whose joins are done in some way, as by parts.
-use Rattle.std.specs.Prelude.{ℕ, zero, suc, ◌+◌, ◌*◌, List, slice_get, Option, None, Some}
+use Rattle.std.specs.Prelude.{ℕ, zero, suc, ◌+◌, ◌*◌, ◌≤◌, List, slice_get, Option, None, Some}
 use Rattle.lt_face.specs.State.{State}
 use Rattle.lt_model.specs.declared.normal.Body.{Body}
 use Rattle.lt_model.specs.declared.normal.Stmt.{Stmt}
@@ -16,6 +16,10 @@ whole_cost body state = bound body (stated_plan body) state
 -- so many moves it may take by so many parts: each of them may take what the whole may
 abbrev pub split_cost : ℕ → Body → State → ℕ
 split_cost parts body state = parts * whole_cost body state
+
+-- each join may take what the whole may, or more
+abbrev pub IsNoLess : (Body → State → ℕ) → Type 0
+IsNoLess most = (body : Body) (state : State) → whole_cost body state ≤ most body state
 
 -- so many moves the evaluation of a statement may take, where a join that finds all answers of a body may take `most`: that of its
 -- body, of a `replace` once for each head, and the look-ups by the keys of the rows that come; a requirement's join is always a whole

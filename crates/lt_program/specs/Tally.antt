@@ -32,7 +32,7 @@ use Rattle.lt_program.specs.declared.course.Course.{Course}
 use Rattle.lt_program.specs.declared.course.Laid.{Laid}
 use Rattle.lt_program.specs.declared.part.Found.{Found}
 use Rattle.lt_program.specs.declared.part.Found.TheVariants.{Rows, Both, Keyed, Truth}
-use Rattle.lt_program.specs.declared.part.Part.{Part}
+use Rattle.lt_program.specs.Part.{Part}
 
 -- ---- one statement
 
@@ -98,8 +98,14 @@ is_sliced_at (Some stmt) = is_sliced stmt
 abbrev pub sense_of : Part → Sense
 sense_of part = united part.sense part.slices
 
+-- the part keeps one sense, and no slices
+pub record IsWhole (part : Part) : Type 0 where
+  pub by_key : part.by_key ≡ false
+  pub slices : part.slices ≡ []
+
 -- of a statement kept by slices the part has the root gaps and the slices of its body, and of any other no slices
 pub record IsKeptAs (stmt : Stmt) (state : State) (part : Part) : Type 0 where
+  pub by_key : part.by_key ≡ is_sliced stmt
   pub by_slices : is_sliced stmt ≡ true → AreSlicesOn (slice_terms stmt) (body_of stmt) (stated_plan (body_of stmt)) state part.sense part.slices
   pub whole : is_sliced stmt ≡ false → part.slices ≡ []
 

@@ -17,7 +17,7 @@ ghost use Rattle.lt_program.specs.Tally.{keyed_on, keys_cost, outcome_on};
 use crate::evaluation::keyed;
 use crate::heads::{have_room, split_answers, terms_of_both};
 use crate::joining::Joiner;
-use crate::part::{Found, Part};
+use crate::part::Found;
 use crate::slicing::is_plain;
 use lt_base::Database;
 use lt_face::items::{Items, RowList};
@@ -26,7 +26,7 @@ use lt_face::moves::Moves;
 use lt_join::some_alone;
 use lt_model::normal::{Atom, Body, Stmt, TermList};
 use lt_query::Plan;
-use lt_sense::Sense;
+use lt_sense::Gathering;
 use std::alloc::Global;
 
 /// Whether the body's conditions can be met on the database.
@@ -96,21 +96,8 @@ fn keyed_alone<L>(
     ensures cost { moves.new ≤ moves.old + keys_cost head.now keys come (state_of tables.now) }
     ensures moves { moves.old ≤ moves.new }
 {
-    let part = keyed(
-        alloc,
-        tables,
-        head,
-        keys,
-        gone,
-        come,
-        Sense::new(alloc),
-        moves,
-    )?;
-    let Part {
-        outcome,
-        sense: _,
-        slices: _,
-    } = part;
+    let mut sense = Gathering::new(alloc);
+    let outcome = keyed(alloc, tables, head, keys, gone, come, &mut sense, moves)?;
     Ok(outcome)
 }
 

@@ -10,17 +10,19 @@ ghost use Rattle.lt_query.specs.Lists.{IsRising};
 ghost use Rattle.lt_query.specs.Stated.{stated_plan};
 ghost use Rattle.lt_join.specs.Mended.{HaveTouched};
 ghost use Rattle.lt_join.specs.MendedPlan.{mending_cost};
-ghost use Rattle.lt_program.specs.declared.part.Part.{Part as PartType};
+ghost use Rattle.lt_program.specs.Part.{Part as PartType};
 ghost use Rattle.lt_program.specs.Asked.{CanEvaluate};
 ghost use Rattle.lt_program.specs.Effect.{view};
 ghost use Rattle.lt_program.specs.Run.{reads_rows};
+ghost use Rattle.lt_program.specs.Split.{IsNoLess, statement_cost_by};
 ghost use Rattle.lt_program.specs.Tally.{IsLaid, IsLaidOn, IsLaidUpTo, IsPartOn, IsMendedPart, Grows, is_refused, is_sliced, next, those, with_print, statement_cost};
 
 use crate::copying::copied_reply;
 use crate::effect::Effect;
 use crate::evaluation::{Step, evaluated, mended};
+use crate::joining::{Joiner, Whole};
 use crate::kept::effect_by;
-use crate::part::{Part, SharedPart};
+use crate::part::{Certificate, Part, SharedPart};
 use crate::reading::reads_some;
 use lt_base::Database;
 use lt_delta::Marks;
@@ -135,18 +137,9 @@ fn all_laid(laid: Option<Laid>, base: &Database, marks: &Marks) -> Result<Databa
 
 /// The part, sensitive to nothing.
 fn insensitive(alloc: Global, part: Part) -> Part
-    ensures { result ≡ record { outcome = part.outcome; sense = record { gaps = []; hits = [] }; slices = [] } }
+    ensures { result ≡ record { outcome = part.outcome; sense = record { gaps = []; hits = [] }; slices = []; by_key = false } }
 {
-    let Part {
-        outcome,
-        sense: _,
-        slices: _,
-    } = part;
-    Part {
-        outcome,
-        sense: Sense::new(alloc),
-        slices: Items::new(alloc),
-    }
+    Part::new(part.into_outcome(), Certificate::Whole(Sense::none(alloc)))
 }
 
 /// One more printed list, unless the program was refused. Want of memory leaves the reply as it was.
@@ -325,7 +318,7 @@ impl Course {
         ensures err { OnErr result (self.new ≡ self.old) }
     {
         let alloc = self.parts.allocator();
-        let step = evaluated(alloc, base, stmt, plan, moves)?;
+        let step = evaluated(&Whole, alloc, base, stmt, plan, moves)?;
         let Step { part, effect } = step;
         let part = SharedPart::new(alloc, insensitive(alloc, part))?;
         self.accept(number, part, effect)?;
@@ -364,21 +357,23 @@ impl Course {
     }
 
     /// One more statement, on the database with the marks so far laid on it.
-    fn evaluate_laid<L>(
+    fn evaluate_laid<J: Joiner<L>, L>(
         &mut self,
+        by: &J,
         base: &Database,
         number: u32,
         stmt: &Stmt,
         plan: &Plan,
         moves: &mut Moves<L>,
     ) -> Result<(), NoMemory>
+        requires ready { J.is_ready by.now }
         requires plan { plan.now ≡ stated_plan (body_in stmt.now) }
         requires going { is_refused self.old.reply ≡ false }
         requires can_evaluate { CanEvaluate base.now stmt.now }
         requires marks { FitMarks (state_of base.now) self.old.marks }
         requires laid { IsLaid base.now self.old.marks self.old.laid }
         ensures ok { OnOk result (Grows number stmt.now (state_of base.now) self.old self.new) }
-        ensures cost { moves.new ≤ moves.old + statement_cost stmt.now (laid (state_of base.now) self.old.marks) }
+        ensures cost { moves.new ≤ moves.old + statement_cost_by (J.most by.now) stmt.now (laid (state_of base.now) self.old.marks) }
         ensures moves { moves.old ≤ moves.new }
         ensures laid { IsLaid base.now self.new.marks self.new.laid }
         ensures parts_kept { OnErr result (self.new.parts ≡ self.old.parts) }
@@ -387,7 +382,7 @@ impl Course {
     {
         let alloc = self.parts.allocator();
         let tables = self.take_laid(base)?;
-        let step = evaluated(alloc, &tables, stmt, plan, moves)?;
+        let step = evaluated(by, alloc, &tables, stmt, plan, moves)?;
         self.take_step(base, number, stmt, tables, step)?;
         Ok(())
     }
@@ -443,28 +438,31 @@ impl Course {
         ensures laid { IsLaid _base.now self.new.marks self.new.laid }
         ensures err { OnErr result (self.new ≡ self.old) }
     {
-        let effect = effect_by(self.parts.allocator(), stmt, &part.part().outcome)?;
+        let effect = effect_by(self.parts.allocator(), stmt, part.part().outcome())?;
         let part = part.share()?;
         self.accept(number, part, effect)?;
         Ok(())
     }
 
     /// One more statement.
-    pub(crate) fn evaluate<L>(
+    pub(crate) fn evaluate<J: Joiner<L>, L>(
         &mut self,
+        by: &J,
         base: &Database,
         number: u32,
         stmt: &Stmt,
         plan: &Plan,
         moves: &mut Moves<L>,
     ) -> Result<(), NoMemory>
+        requires ready { J.is_ready by.now }
+        requires least { IsNoLess (J.most by.now) }
         requires plan { plan.now ≡ stated_plan (body_in stmt.now) }
         requires going { is_refused self.old.reply ≡ false }
         requires can_evaluate { CanEvaluate base.now stmt.now }
         requires marks { FitMarks (state_of base.now) self.old.marks }
         requires laid { IsLaid base.now self.old.marks self.old.laid }
         ensures ok { OnOk result (Grows number stmt.now (state_of base.now) self.old self.new) }
-        ensures cost { moves.new ≤ moves.old + statement_cost stmt.now (laid (state_of base.now) self.old.marks) }
+        ensures cost { moves.new ≤ moves.old + statement_cost_by (J.most by.now) stmt.now (laid (state_of base.now) self.old.marks) }
         ensures moves { moves.old ≤ moves.new }
         ensures laid { IsLaid base.now self.new.marks self.new.laid }
         ensures parts_kept { OnErr result (self.new.parts ≡ self.old.parts) }
@@ -472,7 +470,7 @@ impl Course {
         ensures marks_kept { OnErr result (self.new.marks ≡ self.old.marks) }
     {
         if reads_some(stmt) {
-            self.evaluate_laid(base, number, stmt, plan, moves)?;
+            self.evaluate_laid(by, base, number, stmt, plan, moves)?;
         } else {
             self.evaluate_alone(base, number, stmt, plan, moves)?;
         }

@@ -1,6 +1,6 @@
 //! The rows that a row displaces: the other rows of its relation with its key. They are looked up in the relation's own index, by a
 //! seek under the key. What is said of moves holds also where memory is refused.
-ghost use Rattle.std.specs.Prelude.{◌≡◌, ◌+◌, ◌≤◌, ◌++◌, true, false, map, not, filter, length, slice_get, Some, OnOk, IfOk};
+ghost use Rattle.std.specs.Prelude.{◌≡◌, ◌+◌, ◌≤◌, ◌++◌, true, false, map, not, filter, length, slice_get, take, Some, OnOk, IfOk};
 ghost use Rattle.std.specs.List.{AllByRecursion, sum_by};
 ghost use Rattle.lt_face.specs.Rows.{IsAscending, IsRow};
 ghost use Rattle.lt_face.specs.State.{State, rows_in};
@@ -14,7 +14,7 @@ ghost use Rattle.lt_join.specs.Certify.{Certifies};
 ghost use Rattle.lt_join.specs.Walked.{Grows};
 ghost use Rattle.lt_program.specs.Displacing.{AreOwn, HaveOneWidth, has_key_of, with_key};
 
-use crate::noting::{Place, front, note_others};
+use crate::noting::{Place, note_others};
 use lt_answers::ascending::ascending;
 use lt_base::{Database, Rows};
 use lt_face::items::{Items, RowList};
@@ -25,7 +25,7 @@ use lt_face::row::Row;
 use lt_face::row_set::RowReads;
 use lt_face::walk::row_above;
 use lt_query::own_columns;
-use lt_sense::Sense;
+use lt_sense::Gathering;
 use std::alloc::Global;
 
 /// Whether a row has the key of another: its first cells, so many.
@@ -62,6 +62,14 @@ fn is_same(other: &Row, row: &Row) -> bool
     other.cells() == row.cells()
 }
 
+/// The row's cells before a column.
+fn front(alloc: Global, row: &Row, column: usize) -> Row
+    requires { column ≤ length row.now }
+    ensures { result ≡ take column row.now }
+{
+    Row::from_cells(alloc, row.cells().split_at(column).0)
+}
+
 /// The rows with the row's key, by a seek under it. Each row that is found is a move, and the search that ends is one.
 fn rows_with_key<R: RowReads, L>(
     alloc: Global,
@@ -93,7 +101,7 @@ fn rows_with_key<R: RowReads, L>(
 }
 
 /// Keeps that the relation has these rows.
-fn add_hits(relation: u32, rows: &[Row], sense: &mut Sense) -> Result<(), NoMemory>
+fn add_hits(relation: u32, rows: &[Row], sense: &mut Gathering) -> Result<(), NoMemory>
     ensures gaps { OnOk result (sense.new.gaps ≡ sense.old.gaps) }
     ensures hits { OnOk result (sense.new.hits ≡ sense.old.hits ++ map (λ row. record { relation = relation; row = row }) rows.now) }
 {
@@ -117,12 +125,11 @@ fn add_others(row: &Row, alike: &[Row], displaced: &mut Vec<Row>) -> Result<(), 
 
 /// Keeps which rows have the row's key: these, and no others.
 fn note_key(
-    alloc: Global,
     place: &Place,
     keys: usize,
     row: &Row,
     alike: &RowList,
-    sense: &mut Sense,
+    sense: &mut Gathering,
 ) -> Result<(), NoMemory>
     requires own { AreOwn place.now.columns }
     requires row { IsRow (length place.now.columns) row.now }
@@ -133,7 +140,7 @@ fn note_key(
     ensures certified { OnOk result ((state : State) → alike.now ≡ with_key keys row.now (rows_in state place.now.relation) → Certifies sense.new (key_body place.now.relation keys row.now) state) }
     ensures tight { OnOk result ((state : State) → IsState state → IsWide state place.now.relation (length place.now.columns) → alike.now ≡ with_key keys row.now (rows_in state place.now.relation) → IsTight sense.old state → IsTight sense.new state) }
 {
-    note_others(alloc, place, keys, row, alike, sense)?;
+    note_others(place, keys, row, alike, sense)?;
     add_hits(place.relation, alike.as_slice(), sense)?;
     Ok(())
 }
@@ -147,7 +154,7 @@ fn add_displaced<L>(
     keys: usize,
     row: &Row,
     displaced: &mut Vec<Row>,
-    sense: &mut Sense,
+    sense: &mut Gathering,
     moves: &mut Moves<L>,
 ) -> Result<(), NoMemory>
     requires state { IsState (state_of _tables.now) }
@@ -166,7 +173,7 @@ fn add_displaced<L>(
 {
     let alike = rows_with_key(alloc, rows, keys, row, moves)?;
     add_others(row, alike.as_slice(), displaced)?;
-    note_key(alloc, place, keys, row, &alike, sense)?;
+    note_key(place, keys, row, &alike, sense)?;
     Ok(())
 }
 
@@ -178,7 +185,7 @@ pub(crate) fn displaced_by_all<L>(
     keys: usize,
     width: usize,
     come: &RowList,
-    sense: &mut Sense,
+    sense: &mut Gathering,
     moves: &mut Moves<L>,
 ) -> Result<RowList, NoMemory>
     requires some { 1 ≤ keys }

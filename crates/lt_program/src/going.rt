@@ -243,28 +243,6 @@ pub(crate) fn run_by<J: Joiner<L>, L>(
     Ok(Ran { reply, marks })
 }
 
-/// As `run_by`, on a share of the database.
-pub(crate) fn run_on_share<J: Joiner<L>, L>(
-    by: &J,
-    prog: &Planned,
-    base: &Database,
-    moves: &mut Moves<L>,
-) -> Result<Ran, NoMemory>
-    requires ready { J.is_ready by.now }
-    requires fits { Fits (state_of base.now) prog.now }
-    requires indexes { HasIndexes base.now prog.now }
-    ensures reply { IfOk result (λ ran. ran.reply ≡ (run_of prog.now (state_of base.now)).0) }
-    ensures marks { IfOk result (λ ran. ran.marks ≡ (run_of prog.now (state_of base.now)).1) }
-    ensures fits { IfOk result (λ ran. FitMarks (state_of base.now) ran.marks) }
-    ensures printed { IfOk result (λ ran. AreReplied ran.reply) }
-    ensures moves { moves.new ≤ moves.old + cost_of_first_by (J.most by.now) (ends_at prog.now (state_of base.now)) prog.now (state_of base.now) }
-    ensures rises { moves.old ≤ moves.new }
-{
-    let mut own = base.share()?;
-    let ran = run_by(by, prog, &mut own, true, moves)?;
-    Ok(ran)
-}
-
 /// Runs a program that fits the database, which has the indexes that the program needs and takes its marks as they come. They are given,
 /// too, where that is asked for. After want of memory the database is no more than let go. `moves` rises by at most what the joins of the
 /// statements up to the program's end may take, also where memory is refused, and never falls.
@@ -302,6 +280,7 @@ pub fn run_alone<L>(prog: &Planned, base: &Database, moves: &mut Moves<L>) -> Re
     ensures moves { moves.new ≤ moves.old + cost_of_first (ends_at prog.now (state_of base.now)) prog.now (state_of base.now) }
     ensures rises { moves.old ≤ moves.new }
 {
-    let ran = run_on_share(&Whole, prog, base, moves)?;
+    let mut own = base.share()?;
+    let ran = run_in_place(prog, &mut own, true, moves)?;
     Ok(ran)
 }

@@ -4,13 +4,12 @@ ghost use Rattle.std.specs.Prelude.{◌≡◌, ◌+◌, ◌≤◌, ◌++◌, len
 ghost use Rattle.lt_face.specs.Limits.{most_columns};
 ghost use Rattle.lt_model.specs.Answers.{answers as answers_of, ascending as ascending_rows};
 ghost use Rattle.lt_base.specs.Tables.{state_of};
-ghost use Rattle.lt_query.specs.Stated.{stated_plan};
 ghost use Rattle.lt_sense.specs.Sense.{IsTight};
 ghost use Rattle.lt_join.specs.Certify.{Certifies};
-ghost use Rattle.lt_join.specs.Cost.{bound};
 ghost use Rattle.lt_program.specs.Asked.{CanFollow};
 ghost use Rattle.lt_program.specs.Planned.{ArePicked};
 
+use crate::joining::Joiner;
 use lt_answers::ascending::ascending;
 use lt_base::Database;
 use lt_face::items::RowList;
@@ -18,10 +17,9 @@ use lt_face::limits::MOST_COLUMNS;
 use lt_face::memory::NoMemory;
 use lt_face::moves::Moves;
 use lt_face::row::Row;
-use lt_join::answers_unsealed;
 use lt_model::normal::{Body, TermList};
 use lt_query::Plan;
-use lt_sense::Sense;
+use lt_sense::Gathering;
 use std::alloc::Global;
 
 /// The answers of two heads, and what they were sensitive to.
@@ -29,28 +27,7 @@ use std::alloc::Global;
 pub(crate) struct Pair {
     pub first: RowList,
     pub second: RowList,
-    pub sense: Sense,
-}
-
-/// The terms' answers on the database.
-pub(crate) fn found<L>(
-    alloc: Global,
-    tables: &Database,
-    body: &Body,
-    plan: &Plan,
-    terms: &TermList,
-    moves: &mut Moves<L>,
-) -> Result<(RowList, Sense), NoMemory>
-    requires can_follow { CanFollow tables.now body.now plan.now }
-    requires terms { ArePicked body.now terms.now }
-    ensures rows { IfOk result (λ found. found.0 ≡ answers_of terms.now body.now (state_of tables.now)) }
-    ensures certified { IfOk result (λ found. Certifies found.1 body.now (state_of tables.now)) }
-    ensures tight { IfOk result (λ found. IsTight found.1 (state_of tables.now)) }
-    ensures cost { moves.new ≤ moves.old + bound body.now (stated_plan body.now) (state_of tables.now) }
-    ensures moves { moves.old ≤ moves.new }
-{
-    let found = answers_unsealed(alloc, body, plan, terms, tables, moves)?;
-    Ok(found)
+    pub sense: Gathering,
 }
 
 /// Whether the cells of both lists have room in one row.
@@ -118,7 +95,8 @@ pub(crate) fn split_answers(
 }
 
 /// The answers of two heads: by one join for the terms of both, where their cells have room in one row.
-pub(crate) fn found_both<L>(
+pub(crate) fn found_both<J: Joiner<L>, L>(
+    by: &J,
     alloc: Global,
     tables: &Database,
     body: &Body,
@@ -127,6 +105,7 @@ pub(crate) fn found_both<L>(
     second: &TermList,
     moves: &mut Moves<L>,
 ) -> Result<Pair, NoMemory>
+    requires ready { J.is_ready by.now }
     requires can_follow { CanFollow tables.now body.now plan.now }
     requires first { ArePicked body.now first.now }
     requires second { ArePicked body.now second.now }
@@ -134,12 +113,12 @@ pub(crate) fn found_both<L>(
     ensures second { IfOk result (λ pair. pair.second ≡ answers_of second.now body.now (state_of tables.now)) }
     ensures certified { IfOk result (λ pair. Certifies pair.sense body.now (state_of tables.now)) }
     ensures tight { IfOk result (λ pair. IsTight pair.sense (state_of tables.now)) }
-    ensures cost { moves.new ≤ moves.old + (bound body.now (stated_plan body.now) (state_of tables.now) + bound body.now (stated_plan body.now) (state_of tables.now)) }
+    ensures cost { moves.new ≤ moves.old + (J.most by.now body.now (state_of tables.now) + J.most by.now body.now (state_of tables.now)) }
     ensures moves { moves.old ≤ moves.new }
 {
     if have_room(first, second) {
         let terms = terms_of_both(first, second)?;
-        let (rows, sense) = found(alloc, tables, body, plan, &terms, moves)?;
+        let (rows, sense) = by.found(alloc, tables, body, plan, &terms, moves)?;
         let (first, second) = split_answers(alloc, &rows, first.len())?;
         return Ok(Pair {
             first,
@@ -147,8 +126,8 @@ pub(crate) fn found_both<L>(
             sense,
         });
     }
-    let one = found(alloc, tables, body, plan, first, moves)?;
-    let other = found(alloc, tables, body, plan, second, moves)?;
+    let one = by.found(alloc, tables, body, plan, first, moves)?;
+    let other = by.found(alloc, tables, body, plan, second, moves)?;
     let (first, sense) = one;
     let (second, _) = other;
     Ok(Pair {

@@ -2,6 +2,7 @@
 ghost use Rattle.std.specs.Prelude.{◌≡◌, ◌<◌, ◌≤◌, length, take, slice_index, OnOk};
 ghost use Rattle.std.specs.List.{AllByRecursion};
 ghost use Rattle.std.specs.declared.cmp.Ordering.TheVariants.{Less};
+ghost use Rattle.lt_face.specs.Limits.{most_columns};
 ghost use Rattle.lt_face.specs.Rows.{IsAscending, row_cmp};
 ghost use Rattle.lt_program.specs.Displacing.{AreOwn, IsBeside, Notes, Within, Above, Below, Between, Lacking};
 
@@ -9,8 +10,7 @@ use lt_face::items::{Perm, RowList};
 use lt_face::key::{END, Key};
 use lt_face::memory::NoMemory;
 use lt_face::row::Row;
-use lt_sense::Sense;
-use std::alloc::Global;
+use lt_sense::Gathering;
 
 /// A relation, and its columns in their own order.
 #[derive(Drop)]
@@ -20,22 +20,24 @@ pub(crate) struct Place {
 }
 
 /// The row's cells before a column.
-pub(crate) fn front(alloc: Global, row: &Row, column: usize) -> Row
+fn first_cells(row: &Row, column: usize) -> &[Key]
     requires { column ≤ length row.now }
-    ensures { result ≡ take column row.now }
+    ensures first { result.now ≡ take column row.now }
+    ensures narrow { length result.now ≤ most_columns }
 {
-    Row::from_cells(alloc, row.cells().split_at(column).0)
+    row.cells().split_at(column).0
 }
 
 /// Keeps that no row begins with these cells and has one of the gap behind them.
 fn note_gap(
     place: &Place,
-    prefix: &Row,
+    prefix: &[Key],
     lo: Key,
     hi: Key,
-    sense: &mut Sense,
+    sense: &mut Gathering,
 ) -> Result<(), NoMemory>
-    requires { AreOwn place.now.columns }
+    requires own { AreOwn place.now.columns }
+    requires narrow { length prefix.now ≤ most_columns }
     ensures { OnOk result (Notes (Within prefix.now lo hi) place.now.relation (length place.now.columns) sense.old sense.new) }
 {
     sense.add_gap(place.relation, &place.columns, prefix, lo, hi)?;
@@ -43,41 +45,29 @@ fn note_gap(
 }
 
 /// Keeps that no row lies above this one, of those with its cells before a column.
-fn note_above(
-    alloc: Global,
-    place: &Place,
-    row: &Row,
-    from: usize,
-    sense: &mut Sense,
-) -> Result<(), NoMemory>
+fn note_above(place: &Place, row: &Row, from: usize, sense: &mut Gathering) -> Result<(), NoMemory>
     requires own { AreOwn place.now.columns }
     requires row { IsBeside (length place.now.columns) row.now }
     requires within { from ≤ length row.now }
     ensures { OnOk result (Notes (Above row.now from) place.now.relation (length place.now.columns) sense.old sense.new) }
 {
     for column in from..row.width() {
-        let prefix = front(alloc, row, column);
-        note_gap(place, &prefix, row.cell(column) + 1, END, sense)?;
+        let prefix = first_cells(row, column);
+        note_gap(place, prefix, row.cell(column) + 1, END, sense)?;
     }
     Ok(())
 }
 
 /// Keeps that no row lies below this one, of those with its cells before a column.
-fn note_below(
-    alloc: Global,
-    place: &Place,
-    row: &Row,
-    from: usize,
-    sense: &mut Sense,
-) -> Result<(), NoMemory>
+fn note_below(place: &Place, row: &Row, from: usize, sense: &mut Gathering) -> Result<(), NoMemory>
     requires own { AreOwn place.now.columns }
     requires row { IsBeside (length place.now.columns) row.now }
     requires within { from ≤ length row.now }
     ensures { OnOk result (Notes (Below row.now from) place.now.relation (length place.now.columns) sense.old sense.new) }
 {
     for column in from..row.width() {
-        let prefix = front(alloc, row, column);
-        note_gap(place, &prefix, 0, row.cell(column), sense)?;
+        let prefix = first_cells(row, column);
+        note_gap(place, prefix, 0, row.cell(column), sense)?;
     }
     Ok(())
 }
@@ -100,13 +90,7 @@ fn first_difference(low: &Row, high: &Row) -> usize
 }
 
 /// Keeps that no row lies between these two.
-fn note_between(
-    alloc: Global,
-    place: &Place,
-    low: &Row,
-    high: &Row,
-    sense: &mut Sense,
-) -> Result<(), NoMemory>
+fn note_between(place: &Place, low: &Row, high: &Row, sense: &mut Gathering) -> Result<(), NoMemory>
     requires own { AreOwn place.now.columns }
     requires low { IsBeside (length place.now.columns) low.now }
     requires high { IsBeside (length place.now.columns) high.now }
@@ -114,27 +98,21 @@ fn note_between(
     ensures { OnOk result (Notes (Between low.now high.now) place.now.relation (length place.now.columns) sense.old sense.new) }
 {
     let column = first_difference(low, high);
-    note_above(alloc, place, low, column + 1, sense)?;
-    let prefix = front(alloc, low, column);
+    note_above(place, low, column + 1, sense)?;
+    let prefix = first_cells(low, column);
     note_gap(
         place,
-        &prefix,
+        prefix,
         low.cell(column) + 1,
         high.cell(column),
         sense,
     )?;
-    note_below(alloc, place, high, column + 1, sense)?;
+    note_below(place, high, column + 1, sense)?;
     Ok(())
 }
 
 /// Keeps that no row has the row's key.
-fn note_none(
-    alloc: Global,
-    place: &Place,
-    keys: usize,
-    row: &Row,
-    sense: &mut Sense,
-) -> Result<(), NoMemory>
+fn note_none(place: &Place, keys: usize, row: &Row, sense: &mut Gathering) -> Result<(), NoMemory>
     requires own { AreOwn place.now.columns }
     requires row { IsBeside (length place.now.columns) row.now }
     requires some { 1 ≤ keys }
@@ -142,20 +120,19 @@ fn note_none(
     ensures { OnOk result (Notes (λ other. take keys other ≡ take keys row.now) place.now.relation (length place.now.columns) sense.old sense.new) }
 {
     let last = keys - 1;
-    let prefix = front(alloc, row, last);
+    let prefix = first_cells(row, last);
     let cell = row.cell(last);
-    note_gap(place, &prefix, cell, cell + 1, sense)?;
+    note_gap(place, prefix, cell, cell + 1, sense)?;
     Ok(())
 }
 
 /// Keeps that no row with the row's key lies before the first of these, between two of them, or behind the last.
 fn note_around(
-    alloc: Global,
     place: &Place,
     keys: usize,
     _row: &Row,
     alike: &[Row],
-    sense: &mut Sense,
+    sense: &mut Gathering,
 ) -> Result<(), NoMemory>
     requires own { AreOwn place.now.columns }
     requires some { 0 < length alike.now }
@@ -165,22 +142,21 @@ fn note_around(
     requires key { AllByRecursion (λ other. take keys other ≡ take keys _row.now) alike.now }
     ensures { OnOk result (Notes (Lacking keys _row.now alike.now) place.now.relation (length place.now.columns) sense.old sense.new) }
 {
-    note_below(alloc, place, &alike[0], keys, sense)?;
+    note_below(place, &alike[0], keys, sense)?;
     for i in 1..alike.len() {
-        note_between(alloc, place, &alike[i - 1], &alike[i], sense)?;
+        note_between(place, &alike[i - 1], &alike[i], sense)?;
     }
-    note_above(alloc, place, &alike[alike.len() - 1], keys, sense)?;
+    note_above(place, &alike[alike.len() - 1], keys, sense)?;
     Ok(())
 }
 
 /// Keeps that no row but these has the row's key.
 pub(crate) fn note_others(
-    alloc: Global,
     place: &Place,
     keys: usize,
     row: &Row,
     alike: &RowList,
-    sense: &mut Sense,
+    sense: &mut Gathering,
 ) -> Result<(), NoMemory>
     requires own { AreOwn place.now.columns }
     requires row { IsBeside (length place.now.columns) row.now }
@@ -193,9 +169,9 @@ pub(crate) fn note_others(
 {
     let alike = alike.as_slice();
     if alike.len() == 0 {
-        note_none(alloc, place, keys, row, sense)?;
+        note_none(place, keys, row, sense)?;
         return Ok(());
     }
-    note_around(alloc, place, keys, row, alike, sense)?;
+    note_around(place, keys, row, alike, sense)?;
     Ok(())
 }

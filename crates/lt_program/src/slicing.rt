@@ -10,7 +10,6 @@ ghost use Rattle.lt_query.specs.Lists.{IsRising};
 ghost use Rattle.lt_query.specs.Needs.{body_of as body_in};
 ghost use Rattle.lt_query.specs.Runnable.{HasWidths, AreWide};
 ghost use Rattle.lt_query.specs.Stated.{stated_plan};
-ghost use Rattle.lt_join.specs.Cost.{bound};
 ghost use Rattle.lt_join.specs.Mended.{AreSlicesOn, HaveTouched};
 ghost use Rattle.lt_join.specs.MendedPlan.{mending_cost};
 ghost use Rattle.lt_program.specs.Asked.{CanEvaluate};
@@ -18,16 +17,16 @@ ghost use Rattle.lt_program.specs.Planned.{IsPlanned};
 ghost use Rattle.lt_program.specs.Tally.{IsPartOn, IsMendedPart, has_level as has_level_in, is_sliced as is_sliced_in, slice_terms as slice_terms_of, outcome_on};
 
 use crate::heads::{have_room, split_answers, terms_of_both};
-use crate::part::{Found, Part};
+use crate::joining::Joiner;
+use crate::part::{Certificate, Found, Part};
 use lt_base::Database;
 use lt_face::items::{Items, RowList};
 use lt_face::key::Key;
 use lt_face::memory::NoMemory;
 use lt_face::moves::Moves;
-use lt_join::{SharedSlices, mend, rows_of_slices, slices_unsealed};
+use lt_join::{Slices, mend, rows_of_slices};
 use lt_model::normal::{Atom, Body, Stmt, TermList};
 use lt_query::{Plan, body_of};
-use lt_sense::Sense;
 use std::alloc::Global;
 
 /// Whether the plan of the body has a level.
@@ -143,49 +142,38 @@ fn outcome_by(alloc: Global, stmt: &Stmt, rows: RowList) -> Result<Found, NoMemo
 }
 
 /// The part of a statement kept by slices, of its root gaps and its slices.
-fn part_by(alloc: Global, stmt: &Stmt, root: Sense, slices: SharedSlices) -> Result<Part, NoMemory>
+fn part_by(alloc: Global, stmt: &Stmt, found: Slices) -> Result<Part, NoMemory>
     requires fits { (state : State) × AreWide state × FitsStatement state stmt.now }
     requires sliced { is_sliced_in stmt.now ≡ true }
-    ensures part { IfOk result (λ part. (state : State) → AreSlicesOn (slice_terms_of stmt.now) (body_in stmt.now) (stated_plan (body_in stmt.now)) state root slices → IsPartOn stmt.now state part) }
-    ensures root { IfOk result (λ part. part.sense ≡ root) }
-    ensures slices { IfOk result (λ part. part.slices ≡ slices) }
+    ensures part { IfOk result (λ part. (state : State) → AreSlicesOn (slice_terms_of stmt.now) (body_in stmt.now) (stated_plan (body_in stmt.now)) state found.root found.slices → IsPartOn stmt.now state part) }
+    ensures root { IfOk result (λ part. part.sense ≡ found.root) }
+    ensures slices { IfOk result (λ part. part.slices ≡ found.slices) }
 {
-    let rows = rows_of_slices(alloc, slices.as_slice())?;
+    let rows = rows_of_slices(alloc, &found)?;
     let outcome = outcome_by(alloc, stmt, rows)?;
-    Ok(Part {
-        outcome,
-        sense: root,
-        slices,
-    })
-}
-
-/// The root gaps; where they stand in order, rows are searched for among them.
-fn note_order(mut root: Sense) -> Sense
-    ensures { result ≡ root }
-{
-    root.note_order();
-    root
+    Ok(Part::new(outcome, Certificate::ByKey(found)))
 }
 
 /// The part of a statement kept by slices, by a join of its body.
-pub(crate) fn join_slices<L>(
+pub(crate) fn join_slices<J: Joiner<L>, L>(
+    by: &J,
     alloc: Global,
     tables: &Database,
     stmt: &Stmt,
     plan: &Plan,
     moves: &mut Moves<L>,
 ) -> Result<Part, NoMemory>
+    requires ready { J.is_ready by.now }
     requires plan { IsPlanned (body_in stmt.now) plan.now }
     requires can_evaluate { CanEvaluate tables.now stmt.now }
     requires sliced { is_sliced_in stmt.now ≡ true }
     ensures part { IfOk result (IsPartOn stmt.now (state_of tables.now)) }
-    ensures cost { moves.new ≤ moves.old + bound (body_in stmt.now) (stated_plan (body_in stmt.now)) (state_of tables.now) }
+    ensures cost { moves.new ≤ moves.old + J.most by.now (body_in stmt.now) (state_of tables.now) }
     ensures moves { moves.old ≤ moves.new }
 {
     let terms = slice_terms(alloc, stmt)?;
-    let found = slices_unsealed(alloc, body_of(stmt), plan, &terms, tables, moves)?;
-    let (root, slices) = found;
-    let part = part_by(alloc, stmt, note_order(root), slices)?;
+    let found = by.slices(alloc, tables, body_of(stmt), plan, &terms, moves)?;
+    let part = part_by(alloc, stmt, found)?;
     Ok(part)
 }
 
@@ -211,18 +199,17 @@ pub(crate) fn mend_slices<L>(
     ensures moves { moves.old ≤ moves.new }
 {
     let terms = slice_terms(alloc, stmt)?;
-    let mended = mend(
+    let kept = old.slices().unwrap();
+    let found = mend(
         alloc,
         body_of(stmt),
         plan,
         &terms,
         tables,
-        &old.sense,
-        old.slices.as_slice(),
+        kept,
         keys.as_slice(),
         moves,
     )?;
-    let (root, slices) = mended;
-    let part = part_by(alloc, stmt, root, slices)?;
+    let part = part_by(alloc, stmt, found)?;
     Ok(part)
 }

@@ -9,11 +9,13 @@ ghost use Rattle.lt_base.specs.Tables.{state_of};
 ghost use Rattle.lt_query.specs.Lists.{IsRising};
 ghost use Rattle.lt_sense.specs.Sense.{AgreeWhereCovered};
 ghost use Rattle.lt_join.specs.Mended.{HaveTouched};
-ghost use Rattle.lt_program.specs.declared.part.Part.{Part as PartType};
+ghost use Rattle.lt_program.specs.Part.{Part as PartType};
 ghost use Rattle.lt_program.specs.Run.{AreReplied};
+ghost use Rattle.lt_program.specs.Split.{IsNoLess, cost_of_first_by, cost_on_by};
 ghost use Rattle.lt_program.specs.Tally.{HasIndexes, IsRun, IsOneMore, IsMendedPart, has_ended, is_refused, is_next_sliced as is_sliced_next, cost_of_first, cost_on, mending_on, ends_at, run_of_first, sense_of, state_before};
 
 use crate::course::Course;
+use crate::joining::{Joiner, Whole};
 use crate::kept::marks_past;
 use crate::part::SharedPart;
 use crate::slicing::is_sliced;
@@ -103,11 +105,25 @@ impl Tally {
         ensures rises { moves.old ≤ moves.new }
         ensures err { OnErr result (self.new ≡ self.old) }
     {
+        self.evaluate_by(&Whole, moves)?;
+        Ok(())
+    }
+
+    /// As `evaluate`, with its joins done in this way.
+    fn evaluate_by<J: Joiner<L>, L>(&mut self, by: &J, moves: &mut Moves<L>) -> Result<(), NoMemory>
+        requires ready { J.is_ready by.now }
+        requires least { IsNoLess (J.most by.now) }
+        requires going { has_ended self.old ≡ false }
+        ensures one { OnOk result (IsOneMore self.old self.new) }
+        ensures moves { moves.new ≤ moves.old + cost_on_by (J.most by.now) (slice_get self.old.program (length self.old.parts)) (state_before (length self.old.parts) self.old.program (state_of self.old.base)) }
+        ensures rises { moves.old ≤ moves.new }
+        ensures err { OnErr result (self.new ≡ self.old) }
+    {
         let number = self.course.parts.len();
         let stmt: &Stmt = &self.prog.statements()[number];
         let plan: &Plan = &self.prog.plans()[number];
         self.course
-            .evaluate(&self.base, number as u32 + 1, stmt, plan, moves)?;
+            .evaluate(by, &self.base, number as u32 + 1, stmt, plan, moves)?;
         Ok(())
     }
 
@@ -196,7 +212,7 @@ impl Tally {
     {
         let stmt: &Stmt = &self.prog.statements()[place];
         let part = &self.course.parts.as_slice()[place];
-        let marks = marks_past(self.prog.allocator(), stmt, &part.part().outcome, before)?;
+        let marks = marks_past(self.prog.allocator(), stmt, part.part().outcome(), before)?;
         Ok(marks)
     }
 
@@ -274,6 +290,36 @@ impl Tally {
     }
 }
 
+/// As `run`, with its joins done in this way.
+pub(crate) fn run_kept_by<J: Joiner<L>, L>(
+    by: &J,
+    prog: &Arc<Planned>,
+    base: &Database,
+    moves: &mut Moves<L>,
+) -> Result<Tally, NoMemory>
+    requires ready { J.is_ready by.now }
+    requires least { IsNoLess (J.most by.now) }
+    requires fits { Fits (state_of base.now) (arc_value prog.now) }
+    requires indexes { HasIndexes base.now (arc_value prog.now) }
+    ensures program { IfOk result (λ t. t.program ≡ arc_value prog.now) }
+    ensures base { IfOk result (λ t. t.base ≡ base.now) }
+    ensures ended { IfOk result (λ t. has_ended t ≡ true) }
+    ensures parts { IfOk result (λ t. IsRun t) }
+    ensures reply { IfOk result (λ t. t.reply ≡ (run_of (arc_value prog.now) (state_of base.now)).0) }
+    ensures marks { IfOk result (λ t. t.marks ≡ (run_of (arc_value prog.now) (state_of base.now)).1) }
+    ensures fits { IfOk result (λ t. FitMarks (state_of base.now) t.marks) }
+    ensures printed { IfOk result (λ t. AreReplied t.reply) }
+    ensures evaluated { IfOk result (λ t. length t.parts ≡ ends_at (arc_value prog.now) (state_of base.now)) }
+    ensures moves { moves.new ≤ moves.old + cost_of_first_by (J.most by.now) (ends_at (arc_value prog.now) (state_of base.now)) (arc_value prog.now) (state_of base.now) }
+    ensures rises { moves.old ≤ moves.new }
+{
+    let mut tally = Tally::begin(prog, base)?;
+    'statements: while !tally.ended() {
+        tally.evaluate_by(by, moves)?;
+    }
+    Ok(tally)
+}
+
 /// The whole run of a program that fits the database, which has the indexes that the program needs. `moves` rises by at most
 /// what the joins of the statements up to the program's end may take, also where memory is refused, and never falls.
 pub fn run<L>(prog: &Arc<Planned>, base: &Database, moves: &mut Moves<L>) -> Result<Tally, NoMemory>
@@ -291,9 +337,6 @@ pub fn run<L>(prog: &Arc<Planned>, base: &Database, moves: &mut Moves<L>) -> Res
     ensures moves { moves.new ≤ moves.old + cost_of_first (ends_at (arc_value prog.now) (state_of base.now)) (arc_value prog.now) (state_of base.now) }
     ensures rises { moves.old ≤ moves.new }
 {
-    let mut tally = Tally::begin(prog, base)?;
-    'statements: while !tally.ended() {
-        tally.evaluate(moves)?;
-    }
+    let tally = run_kept_by(&Whole, prog, base, moves)?;
     Ok(tally)
 }

@@ -1,4 +1,5 @@
-//! Whether a join is worth parts. No clause speaks of it.
+//! Whether a join is worth parts, and how much a run keeps. No clause speaks of it.
+use crate::tally::Tally;
 use lt_base::Database;
 use lt_face::row_set::RowReads;
 use lt_model::normal::{Atom, Body, Stmt, Term, Test};
@@ -101,4 +102,13 @@ pub fn has_long_join(prog: &Planned, base: &Database) -> bool {
         }
     }
     false
+}
+
+/// How much the certificates of the run keep.
+pub fn weight_of(run: &Tally) -> usize {
+    let mut size: usize = 0;
+    for shared in run.parts() {
+        size = size.saturating_add(shared.part().certificate().weight());
+    }
+    size
 }

@@ -1,6 +1,5 @@
-use Rattle.std.proofs.Common.{◌∙◌, length, sym}
+use Rattle.std.proofs.Common.{◌∙◌, length, refl, sym}
 use Rattle.lt_base.specs.Tables.{state_of}
-use Rattle.lt_program.specs.Tally.{sense_of}
 use Rattle.lt_program.proofs.Parts.{one_width, looked_certified, looked_cost}
 use Rattle.lt_program.proofs.evaluation.keyed.Goals as goal
 
@@ -9,7 +8,7 @@ clash-requires-clause-wide g c = one_width (length c.args.head.now.terms) c.args
 
 pub returns-clause-keys : goal.returns-clause-keys
 returns-clause-keys g c =
-    looked_certified c.args.head.now c.args.keys c.args.come (state_of c.args.tables.now) c.displaced_by_all.new.sense (sense_of c.part_whole-2.result) c.part_whole-2.ensures.sense
+    looked_certified c.args.head.now c.args.keys c.args.come (state_of c.args.tables.now) c.displaced_by_all.new.sense c.displaced_by_all.new.sense refl
     c.requires.keyed (sym c.clash.ensures ∙ c.if-clash.false) c.in_ok-displaced.ensures.certified
 
 pub returns-clause-cost : goal.returns-clause-cost

@@ -1,28 +1,13 @@
-use Rattle.std.proofs.Common.{◌+◌, ◌≤◌, length, sym, ap, ◌∙◌, subst, arith}
+use Rattle.std.proofs.Common.{◌+◌, ◌≤◌, subst}
 use Rattle.std.specs.Arc.{arc_value}
 use Rattle.lt_base.specs.Tables.{state_of}
-use Rattle.lt_program.specs.Tally.{cost_of_first}
-use Rattle.lt_program.proofs.TallyCosts.{cost_begun, cost_more, ends_here, one_longer}
+use Rattle.lt_program.specs.Tally.{ends_at}
+use Rattle.lt_program.proofs.SplitCosts.{costs_whole, whole_least}
 use Rattle.lt_program.proofs.tally.run.Goals as goal
 
-pub statements-preserved : goal.statements-preserved
-statements-preserved g c = record {
-  program = c.in_ok-evaluate.ensures.one.program ∙ c.statements.invariant.program;
-  base = c.in_ok-evaluate.ensures.one.base ∙ c.statements.invariant.base;
-  moves = cost_more c.args.moves.now c.statements.moves c.evaluate.new.moves (length c.statements.tally.parts) (length c.evaluate.new.self.parts) (arc_value c.args.prog.now) c.statements.tally.program (state_of c.args.base.now) (state_of c.statements.tally.base)
-      c.statements.invariant.program (ap state_of c.statements.invariant.base) c.statements.invariant.moves c.evaluate.ensures.moves (one_longer c.statements.tally c.evaluate.new.self c.in_ok-evaluate.ensures.one);
-  rises = omega (arith, c.statements.invariant.rises, c.evaluate.ensures.rises);
-}
-
-pub returns-clause-evaluated : goal.returns-clause-evaluated
-returns-clause-evaluated g c =
-    ends_here c.statements.tally c.statements-test.ensures.run (sym c.statements-test.ensures.value) (arc_value c.args.prog.now) c.args.base.now c.statements.invariant.program c.statements.invariant.base
+pub run_kept_by-requires-clause-least : goal.run_kept_by-requires-clause-least
+run_kept_by-requires-clause-least g c = whole_least
 
 pub returns-clause-moves : goal.returns-clause-moves
 returns-clause-moves g c =
-    subst (λ n. c.statements.moves ≤ c.args.moves.now + cost_of_first n (arc_value c.args.prog.now) (state_of c.args.base.now))
-    (ends_here c.statements.tally c.statements-test.ensures.run (sym c.statements-test.ensures.value) (arc_value c.args.prog.now) c.args.base.now c.statements.invariant.program c.statements.invariant.base) c.statements.invariant.moves
-
-pub returns-in_err-evaluate-clause-moves : goal.returns-in_err-evaluate-clause-moves
-returns-in_err-evaluate-clause-moves g c =
-    cost_begun c.statements.tally c.args.moves.now c.statements.moves c.evaluate.new.moves (arc_value c.args.prog.now) c.args.base.now c.statements-test.ensures.run (sym c.statements-test.ensures.value) c.statements.invariant.program c.statements.invariant.base c.statements.invariant.moves c.evaluate.ensures.moves
+    subst (λ n. c.run_kept_by.new.moves ≤ c.args.moves.now + n) (costs_whole (ends_at (arc_value c.args.prog.now) (state_of c.args.base.now)) (arc_value c.args.prog.now) (state_of c.args.base.now)) c.run_kept_by.ensures.moves

@@ -19,4 +19,4 @@ pub returns-clause-ok : goal.returns-clause-ok
 returns-clause-ok g c = grows_taken c.args.number c.args.stmt.now (state_of c.args.base.now) c.args.self.now c.take_laid.new.self c.take_step.new.self None c.in_ok-tables.ensures.rest c.in_ok-take_step.ensures.ok
 
 pub returns-clause-cost : goal.returns-clause-cost
-returns-clause-cost g c = cost_on c.args.base.now c.args.self.now.marks c.in_ok-tables.tables c.in_ok-tables.ensures.laid c.args.stmt.now c.args.moves.now c.evaluated.new.moves c.evaluated.ensures.cost
+returns-clause-cost g c = cost_on c.args.base.now c.args.self.now.marks c.in_ok-tables.tables c.in_ok-tables.ensures.laid (g.J.Joiner.most c.args.by.now) c.args.stmt.now c.args.moves.now c.evaluated.new.moves c.evaluated.ensures.cost

@@ -1,6 +1,6 @@
 use Rattle.std.proofs.Common.{[], ◌∷◌, ◌++◌, Some, None, refl, ap, ◌∙◌}
 use Rattle.lt_base.specs.Tables.{state_of}
-use Rattle.lt_program.specs.declared.part.Part.{Part}
+use Rattle.lt_program.specs.Part.{Part}
 use Rattle.lt_program.specs.Effect.{view}
 use Rattle.lt_program.proofs.CourseSteps.{grows_on, grows_taken}
 use Rattle.lt_program.proofs.LaterMarks.{laid_begun}

@@ -1,8 +1,0 @@
-use Rattle.lt_program.proofs.KeptSlices.{joins_by, picked_answerable}
-use Rattle.lt_program.proofs.heads.found.Goals as goal
-
-pub answers_unsealed-requires-clause-can_join : goal.answers_unsealed-requires-clause-can_join
-answers_unsealed-requires-clause-can_join g c = joins_by c.args.tables.now c.args.body.now c.args.plan.now c.requires.can_follow
-
-pub answers_unsealed-requires-clause-answerable : goal.answers_unsealed-requires-clause-answerable
-answers_unsealed-requires-clause-answerable g c = picked_answerable c.args.body.now c.args.terms.now c.requires.terms
