@@ -11,7 +11,7 @@ use Rattle.lt_join.proofs.Repair.{list_any_of, list_any_from}
 use Rattle.lt_model.specs.declared.normal.Stmt.{Stmt}
 use Rattle.lt_sense.specs.Kept.{Sense}
 use Rattle.lt_sense.specs.Sense.{covers}
-use Rattle.lt_program.specs.declared.part.Part.{Part}
+use Rattle.lt_program.specs.Part.{Part}
 use Rattle.lt_program.specs.Tally.{TallyView, IsRun, IsOneMore, ends_at, has_ended, cost_on, mending_on, state_before, sense_of, is_sliced_at}
 use Rattle.lt_program.proofs.TallyCosts.{one_longer, goes_on_to}
 use Rattle.lt_restate.specs.declared.touch.Touch.{Touch}

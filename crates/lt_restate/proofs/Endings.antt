@@ -12,7 +12,7 @@ use Rattle.lt_program.proofs.TallyCosts.{ends_here}
 use Rattle.lt_restate.specs.declared.touch.Touch.{Touch}
 use Rattle.lt_restate.proofs.Costing.{has_touch}
 use Rattle.lt_model.specs.declared.normal.Stmt.{Stmt}
-use Rattle.lt_program.specs.declared.part.Part.{Part}
+use Rattle.lt_program.specs.Part.{Part}
 use Rattle.lt_program.specs.Tally.{TallyView, IsRun, has_ended, is_refused, run_of_first}
 use Rattle.lt_program.proofs.Recalls.{refusal_recalled}
 use Rattle.lt_restate.specs.Touches.{AreTouches, IsRestatement}

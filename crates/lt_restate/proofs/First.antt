@@ -1,5 +1,5 @@
 -- The first of changed rows, and what it touches.
-use Rattle.std.proofs.Common.{◌≡◌, ℕ, zero, suc, ◌+◌, ◌<◌, ◌≤◌, Bool, true, false, List, [], ◌∷◌, length, take, get_or, Some, refl, sym, ap, ◌∙◌, inl, inr, subst, arith}
+use Rattle.std.proofs.Common.{◌≡◌, ℕ, zero, suc, ◌+◌, ◌<◌, ◌≤◌, true, false, List, [], ◌∷◌, length, take, get_or, Some, refl, sym, ap, ◌∙◌, inl, inr, subst, arith}
 use mathlib.Core.Bool.{true≢false}
 use Rattle.std.specs.Prelude.{slice_get, ◌⊎◌}
 use Rattle.std.specs.Ordering.{is_lt}
@@ -11,17 +11,19 @@ use Rattle.lt_face.specs.State.{Row, State}
 use Rattle.lt_face.proofs.Membership.{IsIn-append_cases}
 use Rattle.lt_model.specs.declared.mark.Mark.{Mark}
 use Rattle.lt_model.specs.Marks.{mark_cmp}
+use Rattle.lt_query.proofs.Elements.{All_at}
 use Rattle.lt_delta.proofs.MarkOrder.{mark_total, mark_turned}
 use Rattle.lt_base.specs.Changed.{differ_on}
 use Rattle.lt_base.proofs.Apart.{differ, alike}
 use Rattle.lt_sense.proofs.Lies.{take_next}
 use Rattle.lt_sense.specs.Sense.{covers, AgreeWhereCovered}
-use Rattle.lt_sense.specs.Spots.{IsSpotOf}
-use Rattle.lt_sense.specs.declared.spot.Spot.{Spot}
-use Rattle.lt_program.specs.declared.part.Part.{Part}
+use Rattle.lt_program.specs.Part.{Part}
 use Rattle.lt_program.specs.Tally.{sense_of}
+use Rattle.lt_restate.specs.declared.touch.Spot.{Spot}
 use Rattle.lt_restate.specs.declared.touch.Touch.{Touch}
+use Rattle.lt_restate.specs.Bases.{IsRowOf, AreRowsOf}
 use Rattle.lt_restate.specs.Covered.{AreCoveredChanges, IsFirstAt}
+use Rattle.lt_restate.specs.Spots.{IsSpotOf}
 use Rattle.lt_restate.specs.Touches.{change_cmp, IsTouchOn}
 use Rattle.lt_restate.proofs.Covering.{all_taken}
 
@@ -149,16 +151,16 @@ module _ (part : Part) (changes : List Change) where
     there : IsIn f changes
     there = in_list changes place f (got changes place f lt f_is)
 
-    -- a spot was found, since it is covered
-    pub has_spot : (b : Bool) → b ≡ covers (sense_of part) f.0 f.1 → b ≡ false → (s t : State) → AreCoveredChanges (sense_of part) s t changes → AgreeWhereCovered (sense_of part) s t
-    has_spot b e off s t are = absurd (true≢false (sym (are.each f there).covered ∙ sym e ∙ off))
+    pub first_row : (base : State) → AreRowsOf base changes → IsRowOf base f.0 f.1
+    first_row base rows = All_at (λ (z : Change). IsRowOf base z.0 z.1) f changes rows there
 
-    pub first_touches : (j : ℕ) (spot : Spot) (row : Row) → row ≡ f.1 → IsSpotOf (sense_of part) f.0 f.1 spot → (touch : Touch) → touch ≡ record { statement = j + 1; relation = f.0; row = row; spot = spot } → (s t : State) → AreCoveredChanges (sense_of part) s t changes → IsTouchOn j part s t touch
-    first_touches j spot row row_is by_spot touch made s t are = subst (IsTouchOn j part s t) (sym (made ∙ ap (λ (r : Row). let u : Touch = record { statement = j + 1; relation = f.0; row = r; spot = spot } in u) row_is)) (record {
+    pub first_touches : (j : ℕ) (spot : Spot) (row : Row) → row ≡ f.1 → (touch : Touch) → touch ≡ record { statement = j + 1; relation = f.0; row = row; spot = spot } → (s t : State) → (covers (sense_of part) f.0 f.1 ≡ true → IsSpotOf (sense_of part) s f.0 f.1 spot)
+        → AreCoveredChanges (sense_of part) s t changes → IsTouchOn j part s t touch
+    first_touches j spot row row_is touch made s t by_spot are = subst (IsTouchOn j part s t) (sym (made ∙ ap (λ (r : Row). let u : Touch = record { statement = j + 1; relation = f.0; row = r; spot = spot } in u) row_is)) (record {
       numbered = refl;
       changed = λ agree. differ s t f.0 f.1 (are.each f there).differs agree;
       covered = (are.each f there).covered;
-      by_spot = by_spot;
+      by_spot = by_spot (are.each f there).covered;
       first = λ relation row covered less. elim (cases_Bool (differ_on s t relation row)) [
         | inl e ↦ absurd (true≢false (sym (ap is_lt less) ∙ subst (λ (z : Change). is_lt (change_cmp (relation, row) z) ≡ false) (sym same) (at.least (relation, row) (are.all (relation, row) (record { covered = covered; differs = e })))))
         | inr e ↦ alike s t relation row e

@@ -1,8 +1,8 @@
 pub mod Named
+pub mod Asking
 pub mod Covering
-pub mod Stands
+pub mod Spotted
 pub mod First
-pub mod Between
 pub mod Going
 pub mod Rising
 pub mod ChangeLists

@@ -14,10 +14,10 @@ use Rattle.lt_query.specs.Needs.{body_of}
 use Rattle.lt_query.specs.Stated.{stated_plan}
 use Rattle.lt_join.specs.MendedPlan.{mending_cost}
 use Rattle.lt_sense.specs.declared.covering.KeptGap.{KeptGap}
-use Rattle.lt_join.specs.declared.slicing.Slice.{Slice}
+use Rattle.lt_join.specs.Slices.{Slice}
 use Rattle.lt_sense.specs.Cut.{cut}
 use Rattle.lt_program.specs.declared.part.Found.TheVariants.{Rows}
-use Rattle.lt_program.specs.declared.part.Part.{Part}
+use Rattle.lt_program.specs.Part.{Part}
 use Rattle.lt_program.specs.Tally.{is_sliced, outcome_on, sense_of, cost_on, mending_on}
 use Rattle.lt_restate.specs.Changes.{is_disturbed, touched_on}
 use Rattle.lt_restate.specs.Touches.{cost_after}
@@ -53,6 +53,7 @@ part = record {
   outcome = Rows (pair 1 2 ∷ pair 3 4 ∷ []);
   sense = record { gaps = gap [] 0 1 ∷ gap [] 2 3 ∷ gap [] 4 9 ∷ []; hits = [] };
   slices = slice 1 2 ∷ slice 3 4 ∷ [];
+  by_key = true;
 }
 
 -- x comes first, then y, along e itself

@@ -14,14 +14,14 @@ use Rattle.lt_sense.specs.declared.covering.KeptGap.{KeptGap}
 use Rattle.lt_sense.specs.declared.covering.Hit.{Hit}
 use Rattle.lt_sense.specs.Kept.{Sense}
 use Rattle.lt_sense.specs.Sense.{covers, gap_covers, hit_covers}
-use Rattle.lt_join.specs.declared.slicing.Slice.{Slice}
+use Rattle.lt_join.specs.Slices.{Slice}
 use Rattle.lt_join.specs.Mended.{LiesAt, Touches, HaveTouched}
 use Rattle.lt_join.specs.MendedKeys.{AreTouched}
 use Rattle.lt_join.specs.Sliced.{slice_keys, united}
 use Rattle.lt_join.specs.Walked.{Grows}
 use Rattle.lt_join.proofs.Repair.{list_any_of}
 use Rattle.lt_join.proofs.Steps.{covers_grows}
-use Rattle.lt_program.specs.declared.part.Part.{Part}
+use Rattle.lt_program.specs.Part.{Part}
 use Rattle.lt_program.specs.Tally.{sense_of}
 use Rattle.lt_restate.specs.Covered.{AreCoveredChanges}
 use Rattle.lt_restate.specs.Changes.{changes_between, cells_in, slices_with, keys_at, touched_on}

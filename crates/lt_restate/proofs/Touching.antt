@@ -11,7 +11,7 @@ use Rattle.lt_face.proofs.RowLemmas.{each_weaker}
 use Rattle.lt_sense.specs.Sense.{AgreeWhereCovered}
 use Rattle.lt_base.specs.Tables.{Table, state_of}
 use Rattle.lt_model.specs.declared.normal.Stmt.{Stmt}
-use Rattle.lt_program.specs.declared.part.Part.{Part}
+use Rattle.lt_program.specs.Part.{Part}
 use Rattle.lt_program.specs.Tally.{TallyView, IsOneMore, IsMendedPart, state_before, sense_of, is_sliced_at}
 use Rattle.lt_program.proofs.TallyCosts.{one_longer}
 use Rattle.lt_restate.specs.declared.touch.Touch.{Touch}

@@ -8,16 +8,16 @@ use Rattle.lt_face.specs.Lists.{IsIn}
 use Rattle.lt_face.specs.Rows.{row_cmp, by_order}
 use Rattle.lt_face.specs.State.{Row, State, AgreeOn}
 use Rattle.lt_sense.specs.Sense.{covers, AgreeWhereCovered}
-use Rattle.lt_sense.specs.Spots.{IsSpotOf}
 use Rattle.lt_base.specs.Tables.{Table, state_of}
 use Rattle.lt_model.specs.declared.normal.Stmt.{Stmt}
 use Rattle.lt_model.specs.Fits.{FitMarks}
 use Rattle.lt_model.specs.Run.{run as run_of}
 use Rattle.lt_program.specs.Run.{AreReplied}
-use Rattle.lt_program.specs.declared.part.Part.{Part}
+use Rattle.lt_program.specs.Part.{Part}
 use Rattle.lt_program.specs.Tally.{TallyView, IsRun, ends_at, has_ended, cost_on, state_before, sense_of, is_sliced_at, mending_on, IsMendedPart}
 use Rattle.lt_restate.specs.declared.touch.Touch.{Touch}
 use Rattle.lt_restate.specs.Changes.{is_disturbed, touched_on}
+use Rattle.lt_restate.specs.Spots.{IsSpotOf}
 
 -- by relation, then by row
 abbrev pub change_cmp : ℕ × Row → ℕ × Row → Ordering
@@ -29,7 +29,7 @@ pub record IsTouchOn (j : ℕ) (part : Part) (s t : State) (touch : Touch) : Typ
   pub numbered : touch.statement ≡ j + 1
   pub changed : AgreeOn s t touch.relation touch.row → ⊥
   pub covered : covers (sense_of part) touch.relation touch.row ≡ true
-  pub by_spot : IsSpotOf (sense_of part) touch.relation touch.row touch.spot
+  pub by_spot : IsSpotOf (sense_of part) s touch.relation touch.row touch.spot
   pub first : (relation : ℕ) (row : Row) → covers (sense_of part) relation row ≡ true → change_cmp (relation, row) (touch.relation, touch.row) ≡ Less → AgreeOn s t relation row
 
 -- the state before a statement in a tally

@@ -11,6 +11,7 @@ use Rattle.lt_base.specs.Tables.{state_of}
 use Rattle.lt_base.specs.Changed.{differ_on}
 use Rattle.lt_program.specs.Tally.{TallyView, IsRun, run_of_first}
 use Rattle.lt_restate.specs.declared.walk.Walk.{Walk}
+use Rattle.lt_restate.specs.Bases.{AreAlike}
 use Rattle.lt_restate.specs.Touches.{AreTouches}
 
 -- a mark on the row, to name it
@@ -33,5 +34,6 @@ pub record IsUnderWay (old new : TallyView) (old_on new_on : Marks) (walk : Walk
   pub few : length old.program ≤ most_statements
   pub past : length new.parts < length old.parts → walk.past ≡ (run_of_first (length new.parts) old.program (state_of old.base)).1
   pub past_fits : FitMarks (state_of old.base) walk.past
+  pub alike : AreAlike (state_of old.base) (state_of new.base)
   pub bases : (relation : ℕ) (row : Row) → differ_on (state_of old.base) (state_of new.base) relation row ≡ true → (is_named old_on relation row ≡ true) ⊎ (is_named new_on relation row ≡ true)
   pub touches : AreTouches old new walk.touches

@@ -6,8 +6,9 @@ ghost use Rattle.lt_face.specs.State.{Row as RowView, AgreeOn};
 ghost use Rattle.lt_model.specs.Fits.{Fits};
 ghost use Rattle.lt_base.specs.Tables.{state_of};
 ghost use Rattle.lt_sense.specs.Sense.{AgreeWhereCovered};
-ghost use Rattle.lt_program.specs.declared.part.Part.{Part as PartType};
+ghost use Rattle.lt_program.specs.Part.{Part as PartType};
 ghost use Rattle.lt_program.specs.Tally.{HasIndexes, IsOneMore, ends_at, has_ended, sense_of, is_next_sliced};
+ghost use Rattle.lt_restate.specs.Bases.{AreRowsOf, widths};
 ghost use Rattle.lt_restate.specs.Covered.{AreCoveredChanges};
 ghost use Rattle.lt_restate.specs.Touches.{IsTouchOn, IsRestatement, before, cost_again, cost_at};
 ghost use Rattle.lt_restate.specs.Walked.{IsUnderWay, is_named};
@@ -36,12 +37,15 @@ fn begun(
     requires few { length _old.now.program ≤ most_statements }
     requires program { _new.now.program ≡ _old.now.program }
     requires none { _new.now.parts ≡ [] }
+    requires relations { widths (state_of _new.now.base) ≡ widths (state_of _old.now.base) }
     requires bases { (relation : ℕ) (row : RowView) → (AgreeOn (state_of _old.now.base) (state_of _new.now.base) relation row) ⊎ ((is_named _old_on.now relation row ≡ true) ⊎ (is_named _new_on.now relation row ≡ true)) }
     ensures under_way { IfOk result (IsUnderWay _old.now _new.now _old_on.now _new_on.now) }
     ensures none { IfOk result (λ walk. walk.touches ≡ []) }
 {
     let _old_parts = _old.parts();
     let _new_parts = _new.parts();
+    _old.base().look_over();
+    _new.base().look_over();
     Ok(Walk {
         past: Marks::empty(alloc)?,
         touches: Items::new(alloc),
@@ -119,6 +123,7 @@ fn mend_next<L>(
     requires part { slice_get old.now.parts (length new.old.parts) ≡ Some part.now }
     requires touch { IsTouchOn (length new.old.parts) part.now (before (length new.old.parts) old.now) (before (length new.old.parts) new.old) touch }
     requires changes { AreCoveredChanges (sense_of part.now) (before (length new.old.parts) old.now) (before (length new.old.parts) new.old) changes.now }
+    requires rows { AreRowsOf (state_of old.now.base) changes.now }
     requires sliced { is_next_sliced new.old ≡ true }
     ensures under_way { OnOk result (IsUnderWay old.now new.new _old_on.now _new_on.now walk.new) }
     ensures one { OnOk result (IsOneMore new.old new.new) }
@@ -128,7 +133,7 @@ fn mend_next<L>(
 {
     let place = new.evaluated();
     let past = old.marks_after(place, &walk.past)?;
-    let keys = keys_touched(part.part(), changes)?;
+    let keys = keys_touched(old.program().allocator(), part.part(), changes)?;
     new.mend(old, &keys, moves)?;
     walk.touches.push(touch)?;
     walk.past = past;
@@ -152,6 +157,7 @@ fn evaluate_again<L>(
     requires part { slice_get old.now.parts (length new.old.parts) ≡ Some part.now }
     requires touch { IsTouchOn (length new.old.parts) part.now (before (length new.old.parts) old.now) (before (length new.old.parts) new.old) touch }
     requires changes { AreCoveredChanges (sense_of part.now) (before (length new.old.parts) old.now) (before (length new.old.parts) new.old) changes.now }
+    requires rows { AreRowsOf (state_of old.now.base) changes.now }
     ensures under_way { OnOk result (IsUnderWay old.now new.new old_on.now new_on.now walk.new) }
     ensures one { OnOk result (IsOneMore new.old new.new) }
     ensures touches { OnOk result (walk.new.touches ≡ walk.old.touches ++ touch ∷ []) }
@@ -178,7 +184,8 @@ fn next_changes(
 ) -> Result<Changes, NoMemory>
     requires under_way { IsUnderWay old.now new.now old_on.now new_on.now walk.now }
     requires part { slice_get old.now.parts (length new.now.parts) ≡ Some part.now }
-    ensures { IfOk result (AreCoveredChanges (sense_of part.now) (before (length new.now.parts) old.now) (before (length new.now.parts) new.now)) }
+    ensures changes { IfOk result (AreCoveredChanges (sense_of part.now) (before (length new.now.parts) old.now) (before (length new.now.parts) new.now)) }
+    ensures rows { IfOk result (AreRowsOf (state_of old.now.base)) }
 {
     let changes = covered_changes(old, &walk.past, new, old_on, new_on, part.part())?;
     Ok(changes)
@@ -209,7 +216,7 @@ fn step<L>(
     }
     let part = &old.parts()[place];
     let changes = next_changes(old, new, old_on, new_on, walk, part)?;
-    match touch_of(place, part.part(), &changes) {
+    match touch_of(old, &walk.past, place, part.part(), &changes) {
         None => {
             keep_next(old, new, old_on, new_on, walk)?;
             Ok(())
@@ -221,9 +228,9 @@ fn step<L>(
     }
 }
 
-/// The run of the old tally's program on another state, which has the indexes that the program needs. Each row on which the old
-/// tally's base and that state don't agree has a mark, of whatever sign, in one of two lists: where both are one snapshot with
-/// marks laid on it, those marks. A statement that the old tally evaluated is evaluated again only where a row that its old sense
+/// The run of the old tally's program on another state of the same relations, which has the indexes that the program needs. Each
+/// row on which the old tally's base and that state don't agree has a mark, of whatever sign, in one of two lists: where both are
+/// one snapshot with marks laid on it, those marks. A statement that the old tally evaluated is evaluated again only where a row that its old sense
 /// covers changed, as its touch tells: of one that is kept by slices the slices of the touched keys are joined again, and any
 /// other is evaluated as a whole. One that the old tally didn't reach is evaluated for the first time; the others keep their
 /// parts. `moves` rises by at most what these joins may take, also where memory is refused, and never falls.
@@ -237,6 +244,7 @@ pub fn restate_marks<L>(
     requires ended { has_ended old.now ≡ true }
     requires fits { Fits (state_of next.now) old.now.program }
     requires indexes { HasIndexes next.now old.now.program }
+    requires relations { widths (state_of next.now) ≡ widths (state_of old.now.base) }
     requires marked { (relation : ℕ) (row : RowView) → (AgreeOn (state_of old.now.base) (state_of next.now) relation row) ⊎ ((is_named old_on.now relation row ≡ true) ⊎ (is_named new_on.now relation row ≡ true)) }
     ensures restated { IfOk result (λ out. IsRestatement old.now next.now out.0 out.1) }
     ensures still { IfOk result (λ out. out.1 ≡ [] → moves.new ≤ moves.old) }
@@ -263,6 +271,7 @@ pub fn restate<L>(
     requires ended { has_ended old.now ≡ true }
     requires fits { Fits (state_of next.now) old.now.program }
     requires indexes { HasIndexes next.now old.now.program }
+    requires relations { widths (state_of next.now) ≡ widths (state_of old.now.base) }
     requires named { (relation : ℕ) (row : RowView) → (AgreeOn (state_of old.now.base) (state_of next.now) relation row) ⊎ IsIn (relation, row) named.now }
     ensures restated { IfOk result (λ out. IsRestatement old.now next.now out.0 out.1) }
     ensures still { IfOk result (λ out. out.1 ≡ [] → moves.new ≤ moves.old) }

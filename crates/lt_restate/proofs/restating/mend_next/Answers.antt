@@ -1,15 +1,25 @@
 use Rattle.std.proofs.Common.{◌+◌, ◌∙◌, ℕ, ◌∷◌, ◌++◌, [], length, refl, sym, ap, subst}
 use Rattle.lt_base.specs.Tables.{state_of}
-use Rattle.lt_program.specs.declared.part.Part.{Part}
+use Rattle.lt_sense.specs.Done.{AreAskable}
+use Rattle.lt_program.specs.Part.{Part}
 use Rattle.lt_program.specs.Tally.{run_of_first, sense_of}
 use Rattle.lt_restate.specs.Changes.{touched_on}
 use Rattle.lt_restate.specs.Covered.{AreCoveredChanges}
 use Rattle.lt_restate.specs.Touches.{before}
 use Rattle.lt_restate.proofs.Touching.{mended_here}
 use Rattle.lt_restate.proofs.Ways.{way_again}
-use Rattle.lt_restate.proofs.Steps.{walk_is, mend_touched}
+use Rattle.lt_restate.proofs.Steps.{walk_is, mend_touched, part_askable, part_by_key}
 use Rattle.lt_restate.proofs.Costing.{cost_mended}
 use Rattle.lt_restate.proofs.restating.mend_next.Goals as goal
+
+pub keys_touched-requires-clause-by_key : goal.keys_touched-requires-clause-by_key
+keys_touched-requires-clause-by_key g c =
+    ap (λ (p : Part). p.by_key) c.part.ensures ∙ part_by_key c.args.old.now c.args.new.now c.args._old_on.now c.args._new_on.now c.args.walk.now c.requires.under_way c.args.part.now c.requires.part c.requires.sliced
+
+pub keys_touched-requires-clause-askable : goal.keys_touched-requires-clause-askable
+keys_touched-requires-clause-askable g c =
+    subst (λ (p : Part). AreAskable (sense_of p) c.args.changes.now) (sym c.part.ensures)
+    (part_askable c.args.old.now c.args.new.now c.args._old_on.now c.args._new_on.now c.args.walk.now c.requires.under_way c.args.part.now c.requires.part c.args.changes.now c.requires.rows)
 
 pub mend-requires-clause-touched : goal.mend-requires-clause-touched
 mend-requires-clause-touched g c =

@@ -1,9 +1,10 @@
 use Rattle.std.proofs.Common.{◌≡◌, ◌⊎◌, ◌+◌, ◌≤◌, ◌∙◌, ℕ, List, length, true, refl, sym, ap, subst, arith}
 use Rattle.lt_face.specs.State.{Row, AgreeOn}
 use Rattle.lt_base.specs.Tables.{Table, state_of}
-use Rattle.lt_program.specs.declared.part.Part.{Part}
+use Rattle.lt_program.specs.Part.{Part}
 use Rattle.lt_program.proofs.TallyCosts.{ends_here}
 use Rattle.lt_restate.specs.Touches.{AreTouches, cost_again}
+use Rattle.lt_restate.specs.Bases.{widths}
 use Rattle.lt_restate.specs.Walked.{is_named}
 use Rattle.lt_restate.proofs.Costing.{cost_step, cost_refused, still_step}
 use Rattle.lt_restate.proofs.Endings.{ends_alike, restated}
@@ -44,3 +45,6 @@ returns-in_err-step-clause-moves g c =
 
 pub returns-in_err-step-clause-rises : goal.returns-in_err-step-clause-rises
 returns-in_err-step-clause-rises g c = omega (arith, c.statements.invariant.rises, c.step.ensures.rises)
+
+pub begun-requires-clause-relations : goal.begun-requires-clause-relations
+begun-requires-clause-relations g c = ap (λ (b : List Table). widths (state_of b)) c.in_ok-new.ensures.base ∙ c.requires.relations
