@@ -6,11 +6,12 @@ use Rattle.lt_net.specs.Line.{line_net}
 use Rattle.lt_net.specs.Net.{Claim, Net, State, abandoned, claimed, finished}
 use Rattle.lt_circuit.specs.Line.{LineView, line_state}
 use Rattle.lt_circuit.specs.LineClaiming.{IsLineClaimed}
-use Rattle.lt_circuit.specs.LineJob.{LineJobView, claim_of_line_job}
+use Rattle.lt_circuit.specs.Job.{JobView}
+use Rattle.lt_circuit.specs.LineJob.{claim_of_line_job}
 use Rattle.lt_circuit.specs.Row.{sizes}
 use Rattle.lt_circuit.proofs.OneJob.{drop_free, run_free, run_is}
 
-module _ {W T : Type 0} (does_of : W → ℕ → List Mark → List Mark) (old mid : LineView W T) (job : LineJobView W T) (code : ℕ) (claim : IsLineClaimed (does_of old.work) old mid 0 job)
+module _ {W T : Type 0} (does_of : W → ℕ → List Mark → List Mark) (old mid : LineView W T) (job : JobView W T) (code : ℕ) (claim : IsLineClaimed (does_of old.work) old mid 0 job)
     (is : (claim_of_line_job job).job ≡ code) where
   abbrev net : Net
   net = line_net (does_of old.work) (sizes old.row)

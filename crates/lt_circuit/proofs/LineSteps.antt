@@ -7,7 +7,7 @@ use Rattle.lt_net.specs.declared.job.JobName.{JobName}
 use Rattle.lt_net.specs.declared.job.JobName.TheVariants.{Leaf}
 use Rattle.lt_net.specs.Kept.{IsKept}
 use Rattle.lt_net.specs.Net.{Net, State, Claim, abandoned, claim_of, claimed, finished, is_held, opening, read, replay, step}
-use Rattle.lt_net.specs.Line.{AreSizes, LineJob, Own, Pass, line_inputs, line_job, line_leaf, line_net, size_in}
+use Rattle.lt_net.specs.Line.{AreSizes, line_inputs, line_job, line_leaf, line_net, size_in}
 use Rattle.lt_net.specs.Row.{lifted, HasNoOther}
 use Rattle.lt_net.specs.Tree.{leaves_in, tree_of}
 use Rattle.lt_net.proofs.Inside.{leaves_are, replay_end, replay_more}
@@ -19,29 +19,21 @@ use Rattle.lt_circuit.specs.declared.line.LineEntry.{LineEntry}
 use Rattle.lt_circuit.specs.declared.task.Prior.{Prior}
 use Rattle.lt_circuit.specs.declared.task.Task.{Task}
 use Rattle.lt_circuit.specs.declared.task.Done.{Done}
-use Rattle.lt_circuit.specs.declared.line_job.LineTask.{LineTask}
-use Rattle.lt_circuit.specs.declared.line_job.LineTask.TheVariants.{Tree as TreeTask, Pass as PassTask}
-use Rattle.lt_circuit.specs.declared.line_job.LineDone.{LineDone}
-use Rattle.lt_circuit.specs.declared.line_job.LineDone.TheVariants.{Tree as TreeDone, Pass as PassDone}
 use Rattle.lt_circuit.specs.declared.entry.Event.TheVariants.{Claim as ClaimEvent, Finish as FinishEvent, Abandon as AbandonEvent}
 use Rattle.lt_circuit.specs.Circuit.{AreTallies}
-use Rattle.lt_circuit.specs.Job.{done_name, task_name}
-use Rattle.lt_circuit.specs.Line.{IsLine, IsLineReplay, leaf_place, line_event, number_code, numbered}
-use Rattle.lt_circuit.specs.LineJob.{IsLineOutput, IsLineTask, LineGave, line_back, line_done_claim, line_left_by, line_made, line_task_claim}
+use Rattle.lt_circuit.specs.Job.{IsOutput, IsTask, done_name, tallies_back, tallies_done, tallies_left, task_name}
+use Rattle.lt_circuit.specs.Line.{IsLine, IsLineReplay, leaf_place, line_event, line_name, number_code}
+use Rattle.lt_circuit.specs.LineJob.{line_done_claim, line_task_claim}
 use Rattle.lt_circuit.specs.Row.{HasChangedClaim, parts, row_of, segment_at, sizes, standing_in}
 use Rattle.lt_circuit.specs.Segment.{SegmentView}
 use Rattle.lt_circuit.proofs.Fronts.{held_some, of_segment}
 use Rattle.lt_circuit.proofs.LineClaims.{one_fewer, one_more, placed_more, single_more, stands_below, still_none, stood_before}
 use Rattle.lt_circuit.proofs.LineTables.{kept_line}
-use Rattle.lt_circuit.proofs.Numbers.{code_whole, leaf_below, leaf_whole, number_codes, own_code, own_of}
+use Rattle.lt_circuit.proofs.Numbers.{leaf_below, leaf_whole, name_code, number_codes, own_of}
 use Rattle.lt_circuit.proofs.RowReads.{read_inside}
 use Rattle.lt_circuit.proofs.Standing.{one_stands}
 use Rattle.lt_circuit.proofs.Steps.{back_long, done_long, left_long, task_prior_fits}
-use Rattle.lt_circuit.proofs.Tallies.{abandon_other, abandon_tallies, claim_other, claim_tallies, finish_other, finish_tallies}
-
-pub line_gave : {T : Type 0} (does : ℕ → List Mark → List Mark) (stands_for : T → ℕ → List Mark → Type 0) (fits : List Mark → Type 0) (did : LineDone T) → IsLineOutput does stands_for fits did → LineGave does did
-line_gave does stands_for fits (TreeDone did) ok = ok.gave
-line_gave does stands_for fits (PassDone segment correction effect next) ok = ok
+use Rattle.lt_circuit.proofs.Tallies.{abandon_tallies, claim_tallies, finish_tallies}
 
 module _ {T : Type 0} (does : ℕ → List Mark → List Mark) (stands_for : T → ℕ → List Mark → Type 0) (fits : List Mark → Type 0) (has : ℕ → Type 0)
     (row : List SegmentView) (journal : List LineEntry) (tallies : List (Option (Prior T))) (used capacity : ℕ)
@@ -92,14 +84,11 @@ module _ {T : Type 0} (does : ℕ → List Mark → List Mark) (stands_for : T �
 
     is_leaf : net.is_leaf (number_code name) ≡ true
     is_leaf =
-        ap (λ n. line_leaf (sizes row) (line_job (number_code n))) e ∙ ap (line_leaf (sizes row)) (own_of (Leaf leaf))
+        ap (λ n. line_leaf (sizes row) (line_job (number_code n))) e ∙ ap (line_leaf (sizes row)) (own_of (Leaf leaf) tt)
         ∙ lt_true (leaf % 256) (leaves_in (tree_of (size_in (sizes row) (leaf / 256)))) (let all = leaves_are (size_in (sizes row) (leaf / 256)) in let b = below in omega (arith, all, b))
 
   pub held_busy : (w : ℕ) (c : Claim) → (row_of row).claim w ≡ Some c → (row_of row).status c.job ≢ Clean
   held_busy w c cl e = let a : false ≡ true = sym (ap is_held e) ∙ kept.held w c cl in cc
-
-  pass_no_leaf : (s i : ℕ) → number_code (Leaf i) ≢ 2048 * s + 2047
-  pass_no_leaf s i e = omega (arith, e)
 
   -- ---- a claim
 
@@ -107,33 +96,27 @@ module _ {T : Type 0} (does : ℕ → List Mark → List Mark) (stands_for : T �
     pub line_busy : (row_of row).status code ≢ Clean
     line_busy e = let a : Pending ≡ Clean = sym pending ∙ e in cc
 
-    -- the code of a tree's job is its number's
-    pub own_is : (s : ℕ) (name : JobName) → line_job code ≡ Own s name → number_code (numbered s name) ≡ code
-    own_is s name e = own_code (sizes row) h.small.few code (is_some code line_busy) s name e
+    -- the job by its number
+    abbrev job_name : JobName
+    job_name = line_name (line_job code)
 
-    pub own_busy : (s : ℕ) (name : JobName) → line_job code ≡ Own s name → (row_of row).status (number_code (numbered s name)) ≢ Clean
-    own_busy s name e clean = line_busy (ap (row_of row).status (sym (own_is s name e)) ∙ clean)
+    pub named : number_code job_name ≡ code
+    named = name_code (sizes row) h.small.few code (is_some code line_busy)
 
-    tallies_after : (a : LineJob) → line_job code ≡ a → AreTallies leaf_place stands_for fits (claimed net (row_of row) w code) (line_left_by a tallies)
-    tallies_after (Own s name) e =
-        subst (λ k. AreTallies leaf_place stands_for fits (claimed net (row_of row) w k) (line_left_by (Own s name) tallies)) (own_is s name e)
-        (claim_tallies number_code number_codes stands_for fits (row_of row) tallies h.are_tallies w net (numbered s name) (λ leaf f. line_leaf_there (numbered s name) (own_busy s name e) leaf f))
-    tallies_after (Pass s) e =
-        claim_other number_code number_codes stands_for fits (row_of row) tallies h.are_tallies w net code (λ i f. pass_no_leaf s i (f ∙ sym (pass_code s e)))
-      where
-        pass_code : (s : ℕ) → line_job code ≡ Pass s → 2048 * s + 2047 ≡ code
-        pass_code s e = code_whole (sizes row) h.small.few code (is_some code line_busy) (Pass s) e
+    pub name_busy : (row_of row).status (number_code job_name) ≢ Clean
+    name_busy clean = line_busy (ap (row_of row).status (sym named) ∙ clean)
 
-    left_by_long : (a : LineJob) → length (line_left_by a tallies) ≡ length tallies
-    left_by_long (Own s name) = left_long tallies (numbered s name)
-    left_by_long (Pass s) = refl
+    tallies_after : AreTallies leaf_place stands_for fits (claimed net (row_of row) w code) (tallies_left job_name tallies)
+    tallies_after =
+        subst (λ k. AreTallies leaf_place stands_for fits (claimed net (row_of row) w k) (tallies_left job_name tallies)) named
+        (claim_tallies number_code number_codes stands_for fits (row_of row) tallies h.are_tallies w net job_name (line_leaf_there job_name name_busy))
 
     free_in : (r : ℕ) → r < length row → (parts row r).claim w ≡ None
     free_in = row_claim_free (parts row) w (length row) free
 
     pub claim_line : (row' : List SegmentView) (held : Held) (more : ℕ) → sizes row' ≡ sizes row → row_of row' ≡ claimed (line_net does (sizes row)) (row_of row) w code
         → HasChangedClaim (code / 2048) w (Some held) row row' → used + standing_in row + 2 ≤ more
-        → IsLine does stands_for fits has row' (journal ++ record { worker = w; job = code; event = ClaimEvent } ∷ []) (line_left_by (line_job code) tallies) (used + 1) more
+        → IsLine does stands_for fits has row' (journal ++ record { worker = w; job = code; event = ClaimEvent } ∷ []) (tallies_left job_name tallies) (used + 1) more
     claim_line row' held more same st changed le =
         let stepped : step net (row_of row) (line_event (record { worker = w; job = code; event = ClaimEvent })) ≡ Some (row_of row') = rw (free, pending) (ap Some (sym st)) in
         let job : Claim = record { job = code; inputs = read (row_of row).value (net.inputs code); prior = (row_of row).done code } in
@@ -143,8 +126,8 @@ module _ {T : Type 0} (does : ℕ → List Mark → List Mark) (stands_for : T �
           replayed = one_event row' (record { worker = w; job = code; event = ClaimEvent }) same stepped;
           small = subst AreSizes (sym same) h.small;
           leaves_there = λ s i lt. h.leaves_there s i (subst (λ ns. i < size_in ns s) same lt);
-          tallies_long = λ s i lt. let long = left_by_long (line_job code) in let before = h.tallies_long s i (subst (λ ns. i < size_in ns s) same lt) in omega (arith, long, before);
-          are_tallies = subst (λ t. AreTallies leaf_place stands_for fits t (line_left_by (line_job code) tallies)) (sym st) (tallies_after (line_job code) refl);
+          tallies_long = λ s i lt. let long = left_long tallies job_name in let before = h.tallies_long s i (subst (λ ns. i < size_in ns s) same lt) in omega (arith, long, before);
+          are_tallies = subst (λ t. AreTallies leaf_place stands_for fits t (tallies_left job_name tallies)) (sym st) tallies_after;
           single = single_more row row' (code / 2048) w held changed (is_in_row code line_busy) free_in h.single;
           placed = placed_more row row' (code / 2048) w held changed (is_in_row code line_busy) free_in h.single h.placed code job refl refl claim;
           room = omega (arith, more_stand, le);
@@ -193,51 +176,33 @@ module _ {T : Type 0} (does : ℕ → List Mark → List Mark) (stands_for : T �
           room = omega (arith, fewer, h.room);
         }
 
-  line_back_long : (task : LineTask T) → length (line_back task tallies) ≡ length tallies
-  line_back_long (TreeTask task) = back_long tallies task
-  line_back_long (PassTask segment correction effect) = refl
+  pub task_leaf_there : (w : ℕ) (task : Task T) → (row_of row).claim w ≡ Some (line_task_claim task) → (leaf : ℕ) → task_name task ≡ Leaf leaf → leaf < length tallies
+  task_leaf_there w task cl leaf e = line_leaf_there (task_name task) (held_busy w (line_task_claim task) cl) leaf e
 
-  pub task_leaf_there : (w : ℕ) (task : Task T) → (row_of row).claim w ≡ Some (line_task_claim (TreeTask task)) → (leaf : ℕ) → task_name task ≡ Leaf leaf → leaf < length tallies
-  task_leaf_there w task cl leaf e = line_leaf_there (task_name task) (held_busy w (line_task_claim (TreeTask task)) cl) leaf e
+  pub done_leaf_there : (w : ℕ) (did : Done T) → (row_of row).claim w ≡ Some (line_done_claim did) → (leaf : ℕ) → done_name did ≡ Leaf leaf → leaf < length tallies
+  done_leaf_there w did cl leaf e = line_leaf_there (done_name did) (held_busy w (line_done_claim did) cl) leaf e
 
-  pub done_leaf_there : (w : ℕ) (did : Done T) → (row_of row).claim w ≡ Some (line_done_claim (TreeDone did)) → (leaf : ℕ) → done_name did ≡ Leaf leaf → leaf < length tallies
-  done_leaf_there w did cl leaf e = line_leaf_there (done_name did) (held_busy w (line_done_claim (TreeDone did)) cl) leaf e
-
-  pub abandon_line : (w : ℕ) (task : LineTask T) (row' : List SegmentView) → (row_of row).claim w ≡ Some (line_task_claim task) → sizes row' ≡ sizes row
-      → row_of row' ≡ abandoned (row_of row) w (line_task_claim task) → HasChangedClaim ((line_task_claim task).job / 2048) w None row row' → IsLineTask stands_for fits has task
-      → IsLine does stands_for fits has row' (journal ++ record { worker = w; job = (line_task_claim task).job; event = AbandonEvent } ∷ []) (line_back task tallies) (used + 1) capacity
+  pub abandon_line : (w : ℕ) (task : Task T) (row' : List SegmentView) → (row_of row).claim w ≡ Some (line_task_claim task) → sizes row' ≡ sizes row
+      → row_of row' ≡ abandoned (row_of row) w (line_task_claim task) → HasChangedClaim ((line_task_claim task).job / 2048) w None row row' → IsTask stands_for fits has task
+      → IsLine does stands_for fits has row' (journal ++ record { worker = w; job = (line_task_claim task).job; event = AbandonEvent } ∷ []) (tallies_back task tallies) (used + 1) capacity
   abandon_line w task row' cl same st changed ok =
-      let e : LineEntry = record { worker = w; job = (line_task_claim task).job; event = AbandonEvent } in
+      let claim = line_task_claim task in
+      let e : LineEntry = record { worker = w; job = claim.job; event = AbandonEvent } in
       let stepped : step net (row_of row) (line_event e) ≡ Some (row_of row') = rw (own_claim w (line_task_claim task) cl) (ap Some (sym st)) in
-      ended_line w (line_task_claim task) cl row' e (line_back task tallies) same changed stepped (line_back_long task)
-      (subst (λ t. AreTallies leaf_place stands_for fits t (line_back task tallies)) (sym st) (back task cl ok))
-    where
-      back : (task : LineTask T) → (row_of row).claim w ≡ Some (line_task_claim task) → IsLineTask stands_for fits has task
-          → AreTallies leaf_place stands_for fits (abandoned (row_of row) w (line_task_claim task)) (line_back task tallies)
-      back (TreeTask task) cl ok =
-          abandon_tallies number_code number_codes stands_for fits (row_of row) tallies h.are_tallies w task (line_task_claim (TreeTask task)) refl (kept.captured w (line_task_claim (TreeTask task)) cl)
-          (λ l f. (task_leaf_there w task cl l f, task_prior_fits stands_for fits has task ok l f))
-      back (PassTask segment correction effect) cl ok =
-          abandon_other number_code number_codes stands_for fits (row_of row) tallies h.are_tallies w (line_task_claim {T = T} (PassTask segment correction effect)) (λ i f. pass_no_leaf segment i f)
+      ended_line w claim cl row' e (tallies_back task tallies) same changed stepped (back_long tallies task)
+      (subst (λ t. AreTallies leaf_place stands_for fits t (tallies_back task tallies)) (sym st)
+      (abandon_tallies number_code number_codes stands_for fits (row_of row) tallies h.are_tallies w task claim refl (kept.captured w claim cl)
+      (λ l f. (task_leaf_there w task cl l f, task_prior_fits stands_for fits has task ok l f))))
 
-  made_long : (did : LineDone T) → length (line_made did tallies) ≡ length tallies
-  made_long (TreeDone did) = done_long tallies did
-  made_long (PassDone segment correction effect next) = refl
-
-  pub finish_line : (w : ℕ) (did : LineDone T) (row' : List SegmentView) → (row_of row).claim w ≡ Some (line_done_claim did) → sizes row' ≡ sizes row
-      → row_of row' ≡ finished (line_net does (sizes row)) (row_of row) w (line_done_claim did) → HasChangedClaim ((line_done_claim did).job / 2048) w None row row' → IsLineOutput does stands_for fits did
-      → IsLine does stands_for fits has row' (journal ++ record { worker = w; job = (line_done_claim did).job; event = FinishEvent } ∷ []) (line_made did tallies) (used + 1) capacity
+  pub finish_line : (w : ℕ) (did : Done T) (row' : List SegmentView) → (row_of row).claim w ≡ Some (line_done_claim did) → sizes row' ≡ sizes row
+      → row_of row' ≡ finished (line_net does (sizes row)) (row_of row) w (line_done_claim did) → HasChangedClaim ((line_done_claim did).job / 2048) w None row row' → IsOutput does stands_for fits did
+      → IsLine does stands_for fits has row' (journal ++ record { worker = w; job = (line_done_claim did).job; event = FinishEvent } ∷ []) (tallies_done did tallies) (used + 1) capacity
   finish_line w did row' cl same st changed ok =
-      let e : LineEntry = record { worker = w; job = (line_done_claim did).job; event = FinishEvent } in
+      let claim = line_done_claim did in
+      let e : LineEntry = record { worker = w; job = claim.job; event = FinishEvent } in
       let stepped : step net (row_of row) (line_event e) ≡ Some (row_of row') = rw (own_claim w (line_done_claim did) cl) (ap Some (sym st)) in
-      ended_line w (line_done_claim did) cl row' e (line_made did tallies) same changed stepped (made_long did)
-      (subst (λ t. AreTallies leaf_place stands_for fits t (line_made did tallies)) (sym st) (made did cl ok))
-    where
-      made : (did : LineDone T) → (row_of row).claim w ≡ Some (line_done_claim did) → IsLineOutput does stands_for fits did
-          → AreTallies leaf_place stands_for fits (finished net (row_of row) w (line_done_claim did)) (line_made did tallies)
-      made (TreeDone did) cl ok =
-          let busy = held_busy w (line_done_claim (TreeDone did)) cl in
-          finish_tallies number_code number_codes stands_for fits (row_of row) tallies h.are_tallies w net (line_done_claim (TreeDone did)) did refl refl ok.has_tally
-          (λ l f. (line_leaf_there (done_name did) busy l f, is_leaf (done_name did) busy l f))
-      made (PassDone segment correction effect next) cl ok =
-          finish_other number_code number_codes stands_for fits (row_of row) tallies h.are_tallies w net (line_done_claim {T = T} (PassDone segment correction effect next)) (λ i f. pass_no_leaf segment i f)
+      let busy = held_busy w claim cl in
+      ended_line w claim cl row' e (tallies_done did tallies) same changed stepped (done_long tallies did)
+      (subst (λ t. AreTallies leaf_place stands_for fits t (tallies_done did tallies)) (sym st)
+      (finish_tallies number_code number_codes stands_for fits (row_of row) tallies h.are_tallies w net claim did refl refl ok.has_tally
+      (λ l f. (line_leaf_there (done_name did) busy l f, is_leaf (done_name did) busy l f))))

@@ -1,4 +1,4 @@
--- A finish of a tree's job by its number, in its segment.
+-- A finish of a job by its number, in its segment.
 use Rattle.std.proofs.Common.{◌≡◌, ◌≢◌, ℕ, ◌+◌, ◌*◌, ◌/◌, ◌%◌, ◌<◌, Bool, true, false, List, [], ◌∷◌, map, length, refl, ap, ◌∙◌, arith}
 use Rattle.std.specs.Prelude.{if◌then◌else◌}
 use Rattle.std.proofs.lemmas.List.{length-map}
@@ -7,6 +7,7 @@ use Rattle.lt_net.specs.declared.job.JobName.TheVariants.{Correct}
 use Rattle.lt_net.specs.Line.{hands_on, line_inputs, line_job, placed}
 use Rattle.lt_net.specs.Net.{Cell, Correction, Effect, first_of, read}
 use Rattle.lt_net.specs.Tree.{inputs_of, tree_of}
+use Rattle.lt_net.specs.Codes.{IsOfTree}
 use Rattle.lt_net.proofs.Inside.{correct_inner, correct_reads}
 use Rattle.lt_net.proofs.Placed.{pass_at}
 use Rattle.lt_circuit.specs.Board.{state_of}
@@ -21,9 +22,9 @@ module _ (row : List SegmentView) (name : JobName) (some : line_inputs (sizes ro
   pub within_row : number_segment name < length row
   within_row = let inside = read_inside row (number_code name) some in let e = segment_is name in omega (arith, inside, e)
 
-  pub within_some : inputs_of (tree_of (segment_at row (number_segment name)).board.leaves) (number_within name) ≢ []
-  within_some none =
-      some (ap (line_inputs (sizes row)) (own_of name)
+  pub within_some : IsOfTree name → inputs_of (tree_of (segment_at row (number_segment name)).board.leaves) (number_within name) ≢ []
+  within_some own none =
+      some (ap (line_inputs (sizes row)) (own_of name own)
       ∙ ap (λ n. map (placed (number_segment name)) (inputs_of (tree_of n) (number_within name))) (size_at row (number_segment name)) ∙ ap (map (placed (number_segment name))) none)
 
 correction_at : (row : List SegmentView) (s v : ℕ) → v < 512 → (row_of row).value (placed s (Correction v)) ≡ (state_of (segment_at row s).board).value (Correction v)
@@ -39,8 +40,8 @@ first_input row node some =
     let s = node / 512 in
     let v = node % 512 in
     let n = (segment_at row s).board.leaves in
-    let there = within_some row (Correct node) some in
-    ap (λ a. first_of (read (row_of row).value (line_inputs (sizes row) a))) (own_of (Correct node))
+    let there = within_some row (Correct node) some tt in
+    ap (λ a. first_of (read (row_of row).value (line_inputs (sizes row) a))) (own_of (Correct node) tt)
     ∙ ap (λ k. first_of (read (row_of row).value (map (placed s) (inputs_of (tree_of k) (Correct v))))) (size_at row s)
     ∙ ap (λ (cs : List Cell). first_of (read (row_of row).value (map (placed s) cs))) (correct_reads n v (correct_inner n v there))
     ∙ correction_at row s v (omega arith)

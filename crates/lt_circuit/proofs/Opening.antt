@@ -14,7 +14,7 @@ use Rattle.lt_net.proofs.Codes.{code_of-job}
 use Rattle.lt_net.specs.Tree.{tree_of, is_leaf_job, circuit_net}
 use Rattle.lt_net.specs.Codes.{code_of, job_of, codes_over}
 use Rattle.lt_net.specs.declared.job.JobName.{JobName}
-use Rattle.lt_net.specs.declared.job.JobName.TheVariants.{Leaf, Merge, Correct}
+use Rattle.lt_net.specs.declared.job.JobName.TheVariants.{Leaf, Merge, Correct, Pass}
 use Rattle.lt_circuit.specs.Board.{bare_node, value_in, done_in, done_of, claim_from, board_state, table, first_state, first_state_of}
 use Rattle.lt_net.proofs.Shape.{lt_tells, lt_false}
 use Rattle.lt_net.proofs.Inside.{leaves_are}
@@ -48,6 +48,7 @@ leaf_starts n j = by_name (job_of j)
     by_name (Leaf i) = rw (leaves_are n)
     by_name (Merge v) = refl
     by_name (Correct v) = refl
+    by_name (Pass s) = refl
 
 -- past the table no job is a leaf's
 late_state : (n j : ℕ) → codes_over n ≤ j → first_state n j ≡ Clean
@@ -57,6 +58,7 @@ late_state n j h = by_name (job_of j) (code_of-job j)
     by_name (Leaf i) e = let past : nat_lt i n ≡ false = lt_false i n (omega (arith, e, h)) in rw past
     by_name (Merge v) e = refl
     by_name (Correct v) e = refl
+    by_name (Pass s) e = refl
 
 state_at : (n j : ℕ) → get_or (table (first_state n) (codes_over n)) j Clean ≡ first_state n j
 state_at n j = elim (lt_tells j (codes_over n)) [
@@ -75,6 +77,7 @@ done_at n j = by_name (job_of j)
     by_name (Leaf i) = get_same None n i
     by_name (Merge v) = refl
     by_name (Correct v) = refl
+    by_name (Pass s) = refl
 
 pub opening_is : (effect : ℕ → List Mark → List Mark) (n m : ℕ) (claims : List (Option Held)) → claims ≡ table (λ k. None) 16
     → board_state (table (λ k. bare_node) m) (table (first_state n) (codes_over n)) (table (λ k. None) n) claims ≡ opening (circuit_net effect (tree_of n))

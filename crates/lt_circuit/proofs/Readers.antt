@@ -4,13 +4,13 @@ use Rattle.std.specs.Prelude.{if◌then◌else◌, ◌==◌, nat_lt}
 use Rattle.std.specs.Option.{option_map}
 use Rattle.std.proofs.lemmas.Bool.Decides.{eqb_tells}
 use Rattle.lt_net.specs.declared.job.JobName.{JobName}
-use Rattle.lt_net.specs.declared.job.JobName.TheVariants.{Leaf, Merge, Correct}
+use Rattle.lt_net.specs.declared.job.JobName.TheVariants.{Leaf, Merge, Correct, Pass}
 use Rattle.lt_net.specs.Net.{Cell, Correction, Effect, has_cell}
 use Rattle.lt_net.specs.Tree.{Tree, Tip, Fork, leaves, right_of, node_of, parent_of, leaf_at, if_inner, inputs_of}
-use Rattle.lt_net.specs.Codes.{code_of, job_of}
+use Rattle.lt_net.specs.Codes.{code_of, job_of, IsOfTree}
 use Rattle.lt_circuit.specs.Store.{readers_of, has_code}
 use Rattle.lt_net.proofs.Shape.{lt_tells, lt_true, eq_true, eq_false, place, right_is, leaf_is, right_left, right_right, node_left, node_right, parent_left, parent_right, leaf_left, leaf_right}
-use Rattle.lt_net.proofs.Codes.{code_of-job, same_job}
+use Rattle.lt_net.proofs.Codes.{code_of-job, is_of_tree, same_job}
 
 -- a node but the root is a child of its parent
 pub record IsChild (t : Tree) (u : ℕ) : Type 0 where
@@ -140,20 +140,20 @@ module _ (t : Tree) (u : ℕ) (inside : u + 1 < 2 * leaves t) where
       ]
 
   -- the other way: a reader has the cell
-  effect_back : (name : JobName) → has_code (code_of name) (readers_of t (Effect u)) ≡ true → has_cell (Effect u) (inputs_of (Some t) name) ≡ true
-  effect_back name h = elim (eqb_tells u 0) [
+  effect_back : (name : JobName) → IsOfTree name → has_code (code_of name) (readers_of t (Effect u)) ≡ true → has_cell (Effect u) (inputs_of (Some t) name) ≡ true
+  effect_back name own h = elim (eqb_tells u 0) [
     | inl z ↦ absurd (let f : has_code (code_of name) [] ≡ true = rw z.0 at h in cc)
     | inr z ↦
         let c = child_is t u (omega (arith, z.1)) inside in
         let g : ((code_of name == code_of (Merge (parent_of t u))) || has_code (code_of name) (if u == parent_of t u + 1 then code_of (Correct (parent_of t u)) ∷ [] else [])) ≡ true = rw z.0 at h in
         elim (either_true (code_of name == code_of (Merge (parent_of t u))) (has_code (code_of name) (if u == parent_of t u + 1 then code_of (Correct (parent_of t u)) ∷ [] else [])) g) [
           | inl k ↦
-              let n : Merge (parent_of t u) ≡ name = same_job (Merge (parent_of t u)) name (sym (no_code (code_of name) (code_of (Merge (parent_of t u))) k)) in
+              let n : Merge (parent_of t u) ≡ name = same_job (Merge (parent_of t u)) name tt own (sym (no_code (code_of name) (code_of (Merge (parent_of t u))) k)) in
               subst (λ m. has_cell (Effect u) (inputs_of (Some t) m) ≡ true) n (rw c.inner (merge_has c))
           | inr k ↦ elim (eqb_tells u (parent_of t u + 1)) [
             | inl e ↦
                 let k' : ((code_of name == code_of (Correct (parent_of t u))) || false) ≡ true = rw e.0 at k in
-                let n : Correct (parent_of t u) ≡ name = same_job (Correct (parent_of t u)) name (sym (no_code (code_of name) (code_of (Correct (parent_of t u))) (only k'))) in
+                let n : Correct (parent_of t u) ≡ name = same_job (Correct (parent_of t u)) name tt own (sym (no_code (code_of name) (code_of (Correct (parent_of t u))) (only k'))) in
                 subst (λ m. has_cell (Effect u) (inputs_of (Some t) m) ≡ true) n (rw (c.inner, e.0))
             | inr e ↦ absurd (let f : has_code (code_of name) [] ≡ true = rw e.0 at k in cc)
           ]
@@ -178,6 +178,7 @@ module _ (t : Tree) (u : ℕ) (inside : u + 1 < 2 * leaves t) where
       leaf_case false e = cc
   effect_reads (Merge v) h = merge_reads v (right_of t v) refl h
   effect_reads (Correct v) h = correct_reads v (right_of t v) refl h
+  effect_reads (Pass s) h = cc
 
   -- ---- a node's correction
 
@@ -212,9 +213,10 @@ module _ (t : Tree) (u : ℕ) (inside : u + 1 < 2 * leaves t) where
             rw (q, p, eq_true (code_of (Correct v)))
         | inr k ↦ absurd (let f : false ≡ true = k in cc)
       ]
+  correction_reads (Pass s) h = cc
 
-  correction_back : (name : JobName) → has_code (code_of name) (readers_of t (Correction u)) ≡ true → has_cell (Correction u) (inputs_of (Some t) name) ≡ true
-  correction_back name h = by_case (right_of t u) refl
+  correction_back : (name : JobName) → IsOfTree name → has_code (code_of name) (readers_of t (Correction u)) ≡ true → has_cell (Correction u) (inputs_of (Some t) name) ≡ true
+  correction_back name own h = by_case (right_of t u) refl
     where
       one_code : (k : ℕ) → has_code (code_of name) (k ∷ []) ≡ true → code_of name ≡ k
       one_code k e = elim (either_true (code_of name == k) false e) [ inl f ↦ no_code (code_of name) k f | inr f ↦ absurd (let g : false ≡ true = f in cc) ]
@@ -222,13 +224,13 @@ module _ (t : Tree) (u : ℕ) (inside : u + 1 < 2 * leaves t) where
       by_case : (o : Option ℕ) → right_of t u ≡ o → has_cell (Correction u) (inputs_of (Some t) name) ≡ true
       by_case None e =
           let g : has_code (code_of name) (code_of (Leaf (leaf_at t u)) ∷ []) ≡ true = rw e at h in
-          let n : Leaf (leaf_at t u) ≡ name = same_job (Leaf (leaf_at t u)) name (sym (one_code (code_of (Leaf (leaf_at t u))) g)) in
+          let n : Leaf (leaf_at t u) ≡ name = same_job (Leaf (leaf_at t u)) name tt own (sym (one_code (code_of (Leaf (leaf_at t u))) g)) in
           let b = leaf_back t u inside e in
           let same : (u == u) ≡ true = eq_true u in
           subst (λ m. has_cell (Correction u) (inputs_of (Some t) m) ≡ true) n (rw (lt_true (leaf_at t u) (leaves t) b.0, b.1, same))
       by_case (Some y) e =
           let g : has_code (code_of name) (code_of (Correct u) ∷ []) ≡ true = rw e at h in
-          let n : Correct u ≡ name = same_job (Correct u) name (sym (one_code (code_of (Correct u)) g)) in
+          let n : Correct u ≡ name = same_job (Correct u) name tt own (sym (one_code (code_of (Correct u)) g)) in
           subst (λ m. has_cell (Correction u) (inputs_of (Some t) m) ≡ true) n (rw (e, eq_true u))
 
 same_truth : (a b : Bool) → (a ≡ true → b ≡ true) → (b ≡ true → a ≡ true) → a ≡ b
@@ -244,8 +246,8 @@ node_at (Effect u) = u
 -- the jobs that have the cell as an input are its readers
 pub readers : (t : Tree) (x : Cell) → node_at x + 1 < 2 * leaves t → (j : ℕ) → has_cell x (inputs_of (Some t) (job_of j)) ≡ has_code j (readers_of t x)
 readers t (Effect u) inside j =
-    same_truth (has_cell (Effect u) (inputs_of (Some t) (job_of j))) (has_code (code_of (job_of j)) (readers_of t (Effect u))) (effect_reads t u inside (job_of j)) (effect_back t u inside (job_of j))
+    same_truth (has_cell (Effect u) (inputs_of (Some t) (job_of j))) (has_code (code_of (job_of j)) (readers_of t (Effect u))) (effect_reads t u inside (job_of j)) (effect_back t u inside (job_of j) (is_of_tree j))
     ∙ ap (λ k. has_code k (readers_of t (Effect u))) (code_of-job j)
 readers t (Correction u) inside j =
-    same_truth (has_cell (Correction u) (inputs_of (Some t) (job_of j))) (has_code (code_of (job_of j)) (readers_of t (Correction u))) (correction_reads t u inside (job_of j)) (correction_back t u inside (job_of j))
+    same_truth (has_cell (Correction u) (inputs_of (Some t) (job_of j))) (has_code (code_of (job_of j)) (readers_of t (Correction u))) (correction_reads t u inside (job_of j)) (correction_back t u inside (job_of j) (is_of_tree j))
     ∙ ap (λ k. has_code k (readers_of t (Correction u))) (code_of-job j)

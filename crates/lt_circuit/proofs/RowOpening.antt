@@ -6,7 +6,7 @@ use Rattle.std.proofs.Math.Seq.{get_or-append_seam}
 use Rattle.std.proofs.lemmas.List.{length-append}
 use Rattle.lt_model.specs.declared.mark.Mark.{Mark}
 use Rattle.lt_net.specs.declared.job.JobName.{JobName}
-use Rattle.lt_net.specs.declared.job.JobName.TheVariants.{Leaf, Merge, Correct}
+use Rattle.lt_net.specs.declared.job.JobName.TheVariants.{Leaf, Merge, Correct, Pass}
 use Rattle.lt_net.specs.declared.job.JobState.TheVariants.{Clean, Pending}
 use Rattle.lt_net.specs.Codes.{job_of}
 use Rattle.lt_net.specs.Net.{Cell, Correction, Effect, opening}
@@ -74,11 +74,13 @@ bare does = ap (λ s. passing s Clean) board ∙ passing_opening does 0 false
     status (Leaf i) = ap (λ b. if b then Pending else Clean) (sym (lt_false i 0 (omega arith)))
     status (Merge v) = refl
     status (Correct v) = refl
+    status (Pass s) = refl
 
     last : (name : JobName) → done_of [] name ≡ None
     last (Leaf i) = refl
     last (Merge v) = refl
     last (Correct v) = refl
+    last (Pass s) = refl
 
     board : board_state [] [] [] [] ≡ opening (circuit_net does (tree_of 0))
     board = λ i. record { value = λ x. value x i; status = λ j. status (job_of j) i; done = λ j. last (job_of j) i; claim = λ w. None }

@@ -6,16 +6,16 @@ use Rattle.lt_model.specs.declared.mark.Mark.{Mark}
 use Rattle.lt_model.specs.Marks.{and_then}
 use Rattle.lt_net.specs.declared.job.JobState.TheVariants.{Clean, Pending}
 use Rattle.lt_net.specs.declared.job.JobName.{JobName}
-use Rattle.lt_net.specs.declared.job.JobName.TheVariants.{Leaf, Merge, Correct}
+use Rattle.lt_net.specs.declared.job.JobName.TheVariants.{Leaf, Merge, Correct, Pass}
 use Rattle.lt_circuit.specs.declared.cells.Held.{Held}
 use Rattle.lt_net.specs.Kept.{IsKept}
 use Rattle.lt_net.specs.Net.{Net, State, Claim, is_held, update, claim_of, claimed, finished, abandoned, step, replay, opening}
 use Rattle.lt_net.specs.Tree.{tree_of, leaves_in, inputs_of, circuit_net}
-use Rattle.lt_net.specs.Codes.{code_of, codes_over}
+use Rattle.lt_net.specs.Codes.{code_of, codes_over, job_of, IsOfTree}
 use Rattle.lt_circuit.specs.Board.{BoardView, state_of, claim_from, standing, table}
 use Rattle.lt_net.proofs.Fitting.{AllFit, reached_fit}
 use Rattle.lt_net.proofs.Inside.{replay_more, replay_end, job_inside, leaf_inside, leaves_are}
-use Rattle.lt_net.proofs.Codes.{job_of-code}
+use Rattle.lt_net.proofs.Codes.{code_of-job, job_of-code}
 use Rattle.lt_net.proofs.Kept.{at_update}
 use Rattle.lt_circuit.proofs.Opening.{get_same, length-table}
 use Rattle.lt_net.proofs.Serial.{reached_kept}
@@ -24,9 +24,9 @@ use Rattle.lt_circuit.proofs.Standing.{one_less, at_most_one_more}
 use Rattle.lt_circuit.specs.declared.entry.Entry.{Entry}
 use Rattle.lt_circuit.specs.declared.task.Prior.{Prior}
 use Rattle.lt_circuit.specs.declared.task.Task.{Task}
-use Rattle.lt_circuit.specs.declared.task.Task.TheVariants.{Leaf as LeafTask, Merge as MergeTask, Correct as CorrectTask}
+use Rattle.lt_circuit.specs.declared.task.Task.TheVariants.{Leaf as LeafTask, Merge as MergeTask, Correct as CorrectTask, Pass as PassTask}
 use Rattle.lt_circuit.specs.declared.task.Done.{Done}
-use Rattle.lt_circuit.specs.declared.task.Done.TheVariants.{Leaf as LeafDone, Merge as MergeDone, Correct as CorrectDone}
+use Rattle.lt_circuit.specs.declared.task.Done.TheVariants.{Leaf as LeafDone, Merge as MergeDone, Correct as CorrectDone, Pass as PassDone}
 use Rattle.lt_circuit.specs.declared.entry.Event.TheVariants.{Claim as ClaimEvent, Finish as FinishEvent, Abandon as AbandonEvent}
 use Rattle.lt_circuit.specs.Entry.{event_of}
 use Rattle.lt_circuit.specs.Circuit.{IsReplay, IsCircuit, AreTallies, leaf_code}
@@ -54,21 +54,25 @@ pub task_prior_fits : {T : Type 0} (stands_for : T → ℕ → List Mark → Typ
 task_prior_fits stands_for fits has (LeafTask leaf correction prior) ok l e = let f : leaf ≡ l = cc in subst (λ n. IsPrior stands_for fits n prior) f ok.2
 task_prior_fits stands_for fits has (MergeTask node left right) ok l e = cc
 task_prior_fits stands_for fits has (CorrectTask node correction left) ok l e = cc
+task_prior_fits stands_for fits has (PassTask segment correction effect) ok l e = cc
 
 pub left_long : {T : Type 0} (tallies : List (Option (Prior T))) (name : JobName) → length (tallies_left name tallies) ≡ length tallies
 left_long tallies (Leaf l) = length-set tallies l None
 left_long tallies (Merge v) = refl
 left_long tallies (Correct v) = refl
+left_long tallies (Pass s) = refl
 
 pub back_long : {T : Type 0} (tallies : List (Option (Prior T))) (task : Task T) → length (tallies_back task tallies) ≡ length tallies
 back_long tallies (LeafTask leaf correction prior) = length-set tallies leaf prior
 back_long tallies (MergeTask node left right) = refl
 back_long tallies (CorrectTask node correction left) = refl
+back_long tallies (PassTask segment correction effect) = refl
 
 pub done_long : {T : Type 0} (tallies : List (Option (Prior T))) (did : Done T) → length (tallies_done did tallies) ≡ length tallies
 done_long tallies (LeafDone leaf tally again prior effect) = length-set tallies leaf (Some tally)
 done_long tallies (MergeDone node left right effect) = refl
 done_long tallies (CorrectDone node correction left to_right) = refl
+done_long tallies (PassDone segment correction effect next) = refl
 
 module _ {T : Type 0} (does : ℕ → List Mark → List Mark) (stands_for : T → ℕ → List Mark → Type 0) (fits : List Mark → Type 0) (has : ℕ → Type 0)
     (board : BoardView) (journal : List Entry) (tallies : List (Option (Prior T))) (used capacity : ℕ)
@@ -102,8 +106,24 @@ module _ {T : Type 0} (does : ℕ → List Mark → List Mark) (stands_for : T �
   -- ---- jobs that aren't Clean are jobs of the tree
 
   module _ (name : JobName) (busy : (state_of board).status (code_of name) ≢ Clean) where
+    -- the code has inputs, so it is that of a job of the tree, and no Pass's
+    code_inside : code_of name < codes_over board.leaves
+    code_inside =
+        let e = code_of-job (code_of name) in
+        let inside = job_inside board.leaves (job_of (code_of name)) (λ none. busy (kept.idle (code_of name) none)) in
+        omega (arith, e, inside)
+
+    pub is_own : IsOfTree name
+    is_own = by_name name (omega (arith, code_inside, h.few))
+      where
+        by_name : (name : JobName) → code_of name < codes_over 256 → IsOfTree name
+        by_name (Leaf i) low = tt
+        by_name (Merge v) low = tt
+        by_name (Correct v) low = tt
+        by_name (Pass s) low = absurd (omega (arith, low))
+
     pub is_there : inputs_of (tree_of board.leaves) name ≢ []
-    is_there e = busy (kept.idle (code_of name) (ap (inputs_of (tree_of board.leaves)) (job_of-code name) ∙ e))
+    is_there e = busy (kept.idle (code_of name) (ap (inputs_of (tree_of board.leaves)) (job_of-code name is_own) ∙ e))
 
     pub is_inside : code_of name < codes_over board.leaves
     is_inside = job_inside board.leaves name is_there
@@ -180,7 +200,7 @@ module _ {T : Type 0} (does : ℕ → List Mark → List Mark) (stands_for : T �
   leaf_is_leaf : (name : JobName) (l : ℕ) → (state_of board).status (code_of name) ≢ Clean → name ≡ Leaf l → net.is_leaf (code_of name) ≡ true
   leaf_is_leaf name l busy e =
       let inside : l < leaves_in (tree_of board.leaves) = omega (arith, leaf_there name busy l e, h.tallies_long, leaves_are board.leaves) in
-      ap (λ n. net.is_leaf (code_of n)) e ∙ (rw (job_of-code (Leaf l)) (lt_true l (leaves_in (tree_of board.leaves)) inside))
+      ap (λ n. net.is_leaf (code_of n)) e ∙ (rw (job_of-code (Leaf l) tt) (lt_true l (leaves_in (tree_of board.leaves)) inside))
 
   pub finish_circuit : (w : ℕ) (did : Done T) (board' : BoardView) → (state_of board).claim w ≡ Some (claim_of_done did) → board'.leaves ≡ board.leaves
       → state_of board' ≡ finished (circuit_net does (tree_of board.leaves)) (state_of board) w (claim_of_done did) → board'.claims ≡ set board.claims w None → IsOutput does stands_for fits did

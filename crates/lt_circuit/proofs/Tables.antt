@@ -3,9 +3,9 @@ use Rattle.std.proofs.Common.{◌≡◌, ℕ, ◌<◌, ◌≢◌, inl, inr, fals
 use Rattle.std.specs.Option.{option_map}
 use Rattle.lt_model.specs.declared.mark.Mark.{Mark}
 use Rattle.lt_net.specs.declared.job.JobName.{JobName}
-use Rattle.lt_net.specs.declared.job.JobName.TheVariants.{Leaf, Merge, Correct}
+use Rattle.lt_net.specs.declared.job.JobName.TheVariants.{Leaf, Merge, Correct, Pass}
 use Rattle.lt_net.specs.Codes.{code_of, job_of}
-use Rattle.lt_net.proofs.Codes.{code_of-job, same_leaf, merge_no_leaf, correct_no_leaf}
+use Rattle.lt_net.proofs.Codes.{code_of-job, same_leaf, merge_no_leaf, correct_no_leaf, pass_no_leaf}
 use Rattle.lt_net.proofs.Shape.{eq_false}
 use Rattle.lt_net.specs.declared.job.JobState.{JobState}
 use Rattle.lt_net.specs.declared.job.JobState.TheVariants.{Clean, Pending, Running}
@@ -69,6 +69,7 @@ keep_is nodes states done claims leaf m a =
     ]
     by_name (Merge v) = let no : (code_of (Merge v) == code_of (Leaf leaf)) ≡ false = eq_false (code_of (Merge v)) (code_of (Leaf leaf)) (merge_no_leaf v leaf) in rw no
     by_name (Correct v) = let no : (code_of (Correct v) == code_of (Leaf leaf)) ≡ false = eq_false (code_of (Correct v)) (code_of (Leaf leaf)) (correct_no_leaf v leaf) in rw no
+    by_name (Pass s) = let no : (code_of (Pass s) == code_of (Leaf leaf)) ≡ false = eq_false (code_of (Pass s)) (code_of (Leaf leaf)) (pass_no_leaf s leaf) in rw no
 
     at_job : (j : ℕ) → done_in (set done leaf (Some m)) j ≡ update (done_in done) (code_of (Leaf leaf)) (Some m) j
     at_job j = by_name (job_of j) ∙ ap (λ k. if k == code_of (Leaf leaf) then Some m else done_in done j) (code_of-job j)

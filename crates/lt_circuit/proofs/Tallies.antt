@@ -5,16 +5,16 @@ use Rattle.std.proofs.lemmas.Bool.Decides.{eqb_tells}
 use Rattle.lt_model.specs.declared.mark.Mark.{Mark}
 use Rattle.lt_net.specs.declared.job.JobState.TheVariants.{Pending, Running}
 use Rattle.lt_net.specs.declared.job.JobName.{JobName}
-use Rattle.lt_net.specs.declared.job.JobName.TheVariants.{Leaf, Merge, Correct}
+use Rattle.lt_net.specs.declared.job.JobName.TheVariants.{Leaf, Merge, Correct, Pass}
 use Rattle.lt_net.specs.Net.{Net, State, Claim, first_of, is_held, ended, same_at, update, value_after, status_ended, claimed, finished, abandoned}
 use Rattle.lt_net.specs.Codes.{code_of}
-use Rattle.lt_net.proofs.Codes.{same_leaf, merge_no_leaf, correct_no_leaf}
+use Rattle.lt_net.proofs.Codes.{same_leaf, merge_no_leaf, correct_no_leaf, pass_no_leaf}
 use Rattle.lt_net.proofs.Kept.{at_update, still_held, update_same}
 use Rattle.lt_circuit.specs.declared.task.Prior.{Prior}
 use Rattle.lt_circuit.specs.declared.task.Task.{Task}
-use Rattle.lt_circuit.specs.declared.task.Task.TheVariants.{Leaf as LeafTask, Merge as MergeTask, Correct as CorrectTask}
+use Rattle.lt_circuit.specs.declared.task.Task.TheVariants.{Leaf as LeafTask, Merge as MergeTask, Correct as CorrectTask, Pass as PassTask}
 use Rattle.lt_circuit.specs.declared.task.Done.{Done}
-use Rattle.lt_circuit.specs.declared.task.Done.TheVariants.{Leaf as LeafDone, Merge as MergeDone, Correct as CorrectDone}
+use Rattle.lt_circuit.specs.declared.task.Done.TheVariants.{Leaf as LeafDone, Merge as MergeDone, Correct as CorrectDone, Pass as PassDone}
 use Rattle.lt_circuit.specs.Circuit.{IsTally, AreTallies}
 use Rattle.lt_circuit.specs.Job.{tallies_left, tallies_back, tallies_done, task_name, task_prior, prior_correction, done_name, IsPrior, HasTally, done_inputs}
 
@@ -27,9 +27,10 @@ pub record AreCodes (codes : JobName → ℕ) : Type 0 where
   pub leaf : (i l : ℕ) → codes (Leaf i) ≡ codes (Leaf l) → i ≡ l
   pub merge : (v i : ℕ) → codes (Merge v) ≢ codes (Leaf i)
   pub correct : (v i : ℕ) → codes (Correct v) ≢ codes (Leaf i)
+  pub pass : (s i : ℕ) → codes (Pass s) ≢ codes (Leaf i)
 
 pub tree_codes : AreCodes code_of
-tree_codes = record { leaf = same_leaf; merge = merge_no_leaf; correct = correct_no_leaf }
+tree_codes = record { leaf = same_leaf; merge = merge_no_leaf; correct = correct_no_leaf; pass = pass_no_leaf }
 
 module _ {T : Type 0} (codes : JobName → ℕ) (laws : AreCodes codes) (stands_for : T → ℕ → List Mark → Type 0) (fits : List Mark → Type 0) where
   abbrev of_leaf : ℕ → ℕ
@@ -78,6 +79,7 @@ module _ {T : Type 0} (codes : JobName → ℕ) (laws : AreCodes codes) (stands_
         others (Leaf l) i ne = set_other tallies l i None ne
         others (Merge v) i ne = refl
         others (Correct v) i ne = refl
+        others (Pass r) i ne = refl
 
         own : (name : JobName) → ((l : ℕ) → name ≡ Leaf l → l < length tallies) → (i : ℕ) → codes (Leaf i) ≡ codes name → IsOwn (claimed net s w (codes name)) (tallies_left name tallies) i
         own (Leaf l) inside i e =
@@ -89,19 +91,9 @@ module _ {T : Type 0} (codes : JobName → ℕ) (laws : AreCodes codes) (stands_
             }
         own (Merge v) inside i e = absurd (laws.merge v i (sym e))
         own (Correct v) inside i e = absurd (laws.correct v i (sym e))
-
-    -- of a job that is no leaf's
-    pub claim_other : (net : Net) (j : ℕ) → ((i : ℕ) → codes (Leaf i) ≢ j) → AreTallies of_leaf stands_for fits (claimed net s w j) tallies
-    claim_other net j other =
-        tallies_step s (claimed net s w j) tallies tallies j a
-        (λ k ne. refl) (λ k ne. ap is_held (update_other s.status j Running k ne)) (λ i ne. refl) (λ i e. absurd (other i e))
+        own (Pass r) inside i e = absurd (laws.pass r i (sym e))
 
     -- ---- an abandoned claim
-    pub abandon_other : (c : Claim) → ((i : ℕ) → codes (Leaf i) ≢ c.job) → AreTallies of_leaf stands_for fits (abandoned s w c) tallies
-    abandon_other c other =
-        tallies_step s (abandoned s w c) tallies tallies c.job a
-        (λ k ne. refl) (λ k ne. ap is_held (update_other s.status c.job Pending k ne)) (λ i ne. refl) (λ i e. absurd (other i e))
-
     pub abandon_tallies : (task : Task T) (c : Claim) → c.job ≡ codes (task_name task) → prior_correction (task_prior task) ≡ s.done (codes (task_name task))
         → ((l : ℕ) → task_name task ≡ Leaf l → l < length tallies × IsPrior stands_for fits l (task_prior task))
         → AreTallies of_leaf stands_for fits (abandoned s w c) (tallies_back task tallies)
@@ -113,6 +105,7 @@ module _ {T : Type 0} (codes : JobName → ℕ) (laws : AreCodes codes) (stands_
         others (LeafTask l correction prior) job i ne = set_other tallies l i prior (λ e. ne (e ∙ sym job))
         others (MergeTask v left right) job i ne = refl
         others (CorrectTask v correction left) job i ne = refl
+        others (PassTask r correction effect) job i ne = refl
 
         own : (task : Task T) → c.job ≡ codes (task_name task) → prior_correction (task_prior task) ≡ s.done (codes (task_name task))
             → ((l : ℕ) → task_name task ≡ Leaf l → l < length tallies × IsPrior stands_for fits l (task_prior task))
@@ -136,6 +129,7 @@ module _ {T : Type 0} (codes : JobName → ℕ) (laws : AreCodes codes) (stands_
             }
         own (MergeTask v left right) job captured inside i e = absurd (laws.merge v i (sym (e ∙ job)))
         own (CorrectTask v correction left) job captured inside i e = absurd (laws.correct v i (sym (e ∙ job)))
+        own (PassTask r correction effect) job captured inside i e = absurd (laws.pass r i (sym (e ∙ job)))
 
     -- ---- a finished claim
     module _ (net : Net) (c : Claim) where
@@ -148,11 +142,6 @@ module _ {T : Type 0} (codes : JobName → ℕ) (laws : AreCodes codes) (stands_
           still_held (same_at s.value (value_after net s c) (net.inputs k)) (status_ended s c k)
           ∙ ap is_held (update_other s.status c.job (ended (s.status c.job)) k ne)
 
-      pub finish_other : ((i : ℕ) → codes (Leaf i) ≢ c.job) → AreTallies of_leaf stands_for fits (finished net s w c) tallies
-      finish_other other =
-          tallies_step s (finished net s w c) tallies tallies c.job a
-          (done_other (net.is_leaf c.job)) held_other (λ i ne. refl) (λ i e. absurd (other i e))
-
       pub finish_tallies : (did : Done T) → c.job ≡ codes (done_name did) → c.inputs ≡ done_inputs did → HasTally stands_for fits did
           → ((l : ℕ) → done_name did ≡ Leaf l → l < length tallies × (net.is_leaf c.job ≡ true))
           → AreTallies of_leaf stands_for fits (finished net s w c) (tallies_done did tallies)
@@ -164,6 +153,7 @@ module _ {T : Type 0} (codes : JobName → ℕ) (laws : AreCodes codes) (stands_
           others (LeafDone l tally kept prior effect) job i ne = set_other tallies l i (Some tally) (λ e. ne (e ∙ sym job))
           others (MergeDone v left right effect) job i ne = refl
           others (CorrectDone v correction left to_right) job i ne = refl
+          others (PassDone r correction effect next) job i ne = refl
 
           own : (did : Done T) → c.job ≡ codes (done_name did) → c.inputs ≡ done_inputs did → HasTally stands_for fits did
               → ((l : ℕ) → done_name did ≡ Leaf l → l < length tallies × (net.is_leaf c.job ≡ true))
@@ -186,3 +176,4 @@ module _ {T : Type 0} (codes : JobName → ℕ) (laws : AreCodes codes) (stands_
               }
           own (MergeDone v left right effect) job ins ok inside i e = absurd (laws.merge v i (sym (e ∙ job)))
           own (CorrectDone v correction left to_right) job ins ok inside i e = absurd (laws.correct v i (sym (e ∙ job)))
+          own (PassDone r correction effect next) job ins ok inside i e = absurd (laws.pass r i (sym (e ∙ job)))

@@ -12,7 +12,7 @@ use Rattle.lt_circuit.specs.declared.cells.Held.{Held}
 use Rattle.lt_net.specs.Net.{Cell, Correction, Effect, Claim, State, woken}
 use Rattle.lt_net.specs.Codes.{code_of, job_of, nodes_over, codes_over}
 use Rattle.lt_net.specs.declared.job.JobName.{JobName}
-use Rattle.lt_net.specs.declared.job.JobName.TheVariants.{Leaf, Merge, Correct}
+use Rattle.lt_net.specs.declared.job.JobName.TheVariants.{Leaf, Merge, Correct, Pass}
 
 abbrev pub inputs_list : Inputs → List (List Mark)
 inputs_list (One a) = a ∷ []
@@ -33,6 +33,7 @@ abbrev pub done_of : List (Option (List Mark)) → JobName → Option (List Mark
 done_of done (Leaf i) = slice_index_or done i None
 done_of done (Merge v) = None
 done_of done (Correct v) = None
+done_of done (Pass s) = None
 
 abbrev pub done_in : List (Option (List Mark)) → ℕ → Option (List Mark)
 done_in done j = done_of done (job_of j)
@@ -92,6 +93,7 @@ abbrev pub first_state_of : ℕ → JobName → JobState
 first_state_of leaves (Leaf i) = if nat_lt i leaves then Pending else Clean
 first_state_of leaves (Merge v) = Clean
 first_state_of leaves (Correct v) = Clean
+first_state_of leaves (Pass s) = Clean
 
 abbrev pub first_state : (leaves job : ℕ) → JobState
 first_state leaves job = first_state_of leaves (job_of job)

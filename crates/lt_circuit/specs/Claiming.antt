@@ -4,6 +4,7 @@ use Rattle.lt_model.specs.declared.mark.Mark.{Mark}
 use Rattle.lt_net.specs.declared.job.JobState.TheVariants.{Pending}
 use Rattle.lt_circuit.specs.Board.{standing}
 use Rattle.lt_net.specs.Net.{IsSettled, claimed}
+use Rattle.lt_net.specs.Codes.{IsOfTree}
 use Rattle.lt_net.specs.Tree.{circuit_net, tree_of}
 use Rattle.lt_circuit.specs.declared.claim.Claim.{Claim}
 use Rattle.lt_circuit.specs.declared.claim.Claim.TheVariants.{Job, Busy, Settled, NoMemory}
@@ -16,6 +17,7 @@ use Rattle.lt_circuit.specs.Job.{JobView, claim_of_job, name_of_job, prior_of, t
 -- a Pending job, which the worker now holds on the inputs that stand
 pub record IsClaimed {W T : Type 0} (does : ℕ → List Mark → List Mark) (old new : CircuitView W T) (worker : ℕ) (job : JobView W T) : Type 0 where
   pub of_work : job.work ≡ old.work
+  pub of_tree : IsOfTree (name_of_job job)
   pub work : new.work ≡ old.work
   pub leaves : new.board.leaves ≡ old.board.leaves
   pub pending : (state old).status (claim_of_job job).job ≡ Pending

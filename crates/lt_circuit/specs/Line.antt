@@ -2,9 +2,9 @@
 use Rattle.std.specs.Prelude.{◌≡◌, ℕ, ◌+◌, ◌*◌, ◌/◌, ◌%◌, ◌≤◌, ◌<◌, List, map, Option, Some, length}
 use Rattle.lt_model.specs.declared.mark.Mark.{Mark}
 use Rattle.lt_net.specs.declared.job.JobName.{JobName}
-use Rattle.lt_net.specs.declared.job.JobName.TheVariants.{Leaf, Merge, Correct}
+use Rattle.lt_net.specs.declared.job.JobName.TheVariants.{Leaf, Merge, Correct, Pass}
 use Rattle.lt_net.specs.Net.{Claim, Event, State, replay, opening}
-use Rattle.lt_net.specs.Line.{AreSizes, line_net, size_in}
+use Rattle.lt_net.specs.Line.{AreSizes, LineJob, Own, Pass as PassOf, line_net, size_in}
 use Rattle.lt_net.specs.Row.{HasNoOther}
 use Rattle.lt_circuit.specs.declared.line.LineEntry.{LineEntry}
 use Rattle.lt_circuit.specs.declared.task.Prior.{Prior}
@@ -14,12 +14,13 @@ use Rattle.lt_circuit.specs.Circuit.{AreTallies}
 use Rattle.lt_circuit.specs.Segment.{SegmentView}
 use Rattle.lt_circuit.specs.Row.{parts, row_of, sizes, standing_in}
 
--- The code of a tree's job by its number over all segments: leaf i of segment s is leaf 256 * s + i of the work, node v of its tree
--- is node 512 * s + v.
+-- The code of a job by its number over all segments: leaf i of segment s is leaf 256 * s + i of the work, node v of its tree is node
+-- 512 * s + v, and its Pass is that of segment s.
 abbrev pub number_code : JobName → ℕ
 number_code (Leaf i) = 2048 * (i / 256) + 3 * (i % 256)
 number_code (Merge v) = 2048 * (v / 512) + (3 * (v % 512) + 1)
 number_code (Correct v) = 2048 * (v / 512) + (3 * (v % 512) + 2)
+number_code (Pass s) = 2048 * s + 2047
 
 -- the code of a leaf's job in a line
 abbrev pub leaf_place : ℕ → ℕ
@@ -62,20 +63,27 @@ pub record IsLine {T : Type 0} (does : ℕ → List Mark → List Mark) (stands_
   -- the journal has room for the end of each claim
   pub room : used + standing_in row ≤ capacity
 
--- ---- a tree's job by its number: the segment that it is of, and the job in that segment's tree
+-- ---- a job by its number: the segment that it is of, and the job in that segment
 
 abbrev pub number_segment : JobName → ℕ
 number_segment (Leaf i) = i / 256
 number_segment (Merge v) = v / 512
 number_segment (Correct v) = v / 512
+number_segment (Pass s) = s
 
 abbrev pub number_within : JobName → JobName
 number_within (Leaf i) = Leaf (i % 256)
 number_within (Merge v) = Merge (v % 512)
 number_within (Correct v) = Correct (v % 512)
+number_within (Pass s) = Pass 0
 
--- the number of a job of segment s's tree
+-- the number of a job of segment s
 abbrev pub numbered : (s : ℕ) → JobName → JobName
 numbered s (Leaf i) = Leaf (256 * s + i)
 numbered s (Merge v) = Merge (512 * s + v)
 numbered s (Correct v) = Correct (512 * s + v)
+numbered s (Pass r) = Pass s
+
+abbrev pub line_name : LineJob → JobName
+line_name (Own s name) = numbered s name
+line_name (PassOf s) = Pass s

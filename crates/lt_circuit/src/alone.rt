@@ -40,7 +40,7 @@ impl<W: LeafWork> Circuit<W> {
             This::NoMemory => Err(NoMemory),
             This::Job(job) => {
                 let mut moves: Moves<()> = Moves::new();
-                match job.work(true, &mut moves) {
+                match job.work(&mut moves) {
                     Ok(output) => {
                         drop(self.finish(0, output));
                         Ok(())

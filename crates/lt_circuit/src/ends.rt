@@ -93,6 +93,7 @@ fn store<T: Drop>(
             };
             (stood, used)
         }
+        Done::Pass { .. } => unreachable!(),
     }
 }
 

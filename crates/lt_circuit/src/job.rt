@@ -1,8 +1,10 @@
 //! A job that a worker holds.
-ghost use Rattle.std.specs.Prelude.{◌≡◌};
+ghost use Rattle.std.specs.Prelude.{◌≡◌, ◌<◌, ◌^◌};
 ghost use Rattle.std.specs.Arc.{arc_value};
 ghost use Rattle.lt_circuit.specs.Job.{JobView, IsTask, name_of_job};
+ghost use Rattle.lt_circuit.specs.LineJob.{claim_of_line_job};
 
+use crate::number::number_code;
 use crate::task::Task;
 use crate::work::LeafWork;
 use lt_net::JobName;
@@ -10,7 +12,7 @@ use std::alloc::Global;
 use std::marker::Model;
 use std::sync::Arc;
 
-/// A job, claimed from a circuit of this work.
+/// A job, claimed from a circuit or a line of this work.
 #[derive(Drop)]
 pub struct Job<W: LeafWork> {
     pub(crate) work: Arc<W, Global>,
@@ -31,6 +33,14 @@ impl<W: LeafWork> Job<W> {
         ensures { result ≡ name_of_job self.now }
     {
         self.task.name()
+    }
+
+    /// The job's code in a line: 2048 * s plus its code in the tree of segment s, or plus 2047 for the Pass behind that.
+    pub fn line_code(&self) -> u32
+        requires { (claim_of_line_job self.now).job < 2 ^ 32 }
+        ensures { result ≡ (claim_of_line_job self.now).job }
+    {
+        number_code(self.task.name())
     }
 
     /// Whether it is a leaf's.

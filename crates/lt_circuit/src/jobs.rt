@@ -47,6 +47,7 @@ fn first_state(leaves: u32, job: u32) -> JobState
         }
         JobName::Merge(_node) => JobState::Clean,
         JobName::Correct(_node) => JobState::Clean,
+        JobName::Pass(_segment) => JobState::Clean,
     }
 }
 

@@ -6,9 +6,9 @@
 //! laws of its code in `proofs/Entries`).
 //!
 //! A line is a row of segments, each a board with the state of its Pass, and over it what a circuit has over its board: the work, the
-//! tallies and the journal, with calls of the same names (`line/claims`, `ends`, `alone`). Its jobs (`line_job`) are those of the trees,
-//! by numbers over all segments (leaf 256 * s + i, node 512 * s + v), and the Passes. `claim` gives a job of the first segment that has
-//! one.
+//! tallies and the journal, with calls of the same names (`line/claims`, `ends`, `alone`). Its jobs are those of the trees, by
+//! numbers over all segments (`number`: leaf 256 * s + i, node 512 * s + v), and the Passes. `claim` gives a job of the first segment
+//! that has one.
 //!
 //! ```text
 //! Line: work, tallies, journal
@@ -36,8 +36,8 @@ mod holders;
 mod job;
 mod jobs;
 mod line;
-mod line_job;
 mod nodes;
+mod number;
 mod order;
 mod output;
 pub mod row;
@@ -53,7 +53,6 @@ pub use ends::Spent;
 pub use entry::{Entry, Event};
 pub use job::Job;
 pub use line::{Line, LineEntry};
-pub use line_job::{LineJob, LineOutput};
 pub use lt_net::{JobName, every_event_keeps, settled_is_serial};
 pub use output::Output;
 pub use work::LeafWork;

@@ -8,7 +8,7 @@ use std::alloc::Global;
 use std::marker::Model;
 use std::sync::Arc;
 
-/// The output of a job of a circuit of this work.
+/// The output of a job of a circuit or a line of this work.
 #[derive(Drop)]
 pub struct Output<W: LeafWork> {
     pub(crate) work: Arc<W, Global>,
@@ -24,12 +24,12 @@ impl<W: LeafWork> Model for Output<W> {
 }
 
 impl<W: LeafWork> Output<W> {
-    /// How dear a leaf's run was, or None of an inner job.
+    /// How dear a leaf's run was, or None of another job.
     pub fn weight(&self) -> Option<usize> {
         weight_of(&*self.work, &self.did)
     }
 
-    /// Whether most of what the leaf did hangs on its correction, or None of a free leaf and of an inner job.
+    /// Whether most of what the leaf did hangs on its correction, or None of a free leaf and of another job.
     pub fn is_tied(&self) -> Option<bool> {
         tie_of(&*self.work, &self.did)
     }

@@ -5,8 +5,9 @@ ghost use Rattle.lt_model.specs.Marks.{and_then};
 ghost use Rattle.lt_model.specs.declared.mark.Mark.{Mark};
 ghost use Rattle.lt_net.specs.declared.job.JobName.TheVariants.{Leaf};
 ghost use Rattle.lt_circuit.specs.Job.{IsOutput, IsPrior, claim_of_job, claim_of_output, done_inputs, done_name, done_prior, name_of_job, name_of_output, prior_correction, task_bound};
-ghost use Rattle.lt_circuit.specs.declared.task.Done.TheVariants.{Merge as MergeDone, Correct as CorrectDone};
-ghost use Rattle.lt_circuit.specs.declared.task.Task.TheVariants.{Leaf as LeafTask, Merge as MergeTask, Correct as CorrectTask};
+ghost use Rattle.lt_circuit.specs.LineJob.{claim_of_line_job, claim_of_line_output};
+ghost use Rattle.lt_circuit.specs.declared.task.Done.TheVariants.{Merge as MergeDone, Correct as CorrectDone, Pass as PassDone};
+ghost use Rattle.lt_circuit.specs.declared.task.Task.TheVariants.{Leaf as LeafTask, Merge as MergeTask, Correct as CorrectTask, Pass as PassTask};
 
 use crate::job::Job;
 use crate::output::Output;
@@ -23,39 +24,12 @@ struct Ran<T> {
     effect: Marks,
 }
 
-/// The tally of a leaf on the correction. Where it has no prior and this is thought to be its last run, the tally need not help
-/// a later one.
-fn tally_of<W: LeafWork, L>(
-    work: &W,
-    leaf: u32,
-    prior: Option<&W::Tally>,
-    correction: &Marks,
-    is_last: bool,
-    moves: &mut Moves<L>,
-) -> Result<W::Tally, NoMemory>
-    requires leaf { W.has work.now leaf }
-    requires correction { W.fits work.now correction.now }
-    requires prior { IfSome prior (λ old. (c : List Mark) × W.fits work.now c × W.stands_for work.now old.now leaf c) }
-    ensures stands { IfOk result (λ tally. W.stands_for work.now tally leaf correction.now) }
-    ensures moves { IfSome (W.bound work.now (option_map (λ old. old.now) prior.entry) leaf correction.now) (λ most. moves.new ≤ moves.old + most) }
-    ensures rises { moves.old ≤ moves.new }
-{
-    if !is_last {
-        return work.work(leaf, prior, correction, moves);
-    }
-    match prior {
-        Some(_) => work.work(leaf, prior, correction, moves),
-        None => work.work_last(leaf, correction, moves),
-    }
-}
-
 /// The tally of a leaf on the correction, with what its output has beside it.
 fn run_on<W: LeafWork, L>(
     work: &W,
     leaf: u32,
     prior: Option<&W::Tally>,
     correction: &Marks,
-    is_last: bool,
     moves: &mut Moves<L>,
 ) -> Result<Ran<W::Tally>, NoMemory>
     requires leaf { W.has work.now leaf }
@@ -67,7 +41,7 @@ fn run_on<W: LeafWork, L>(
     ensures moves { IfSome (W.bound work.now (option_map (λ old. old.now) prior.entry) leaf correction.now) (λ most. moves.new ≤ moves.old + most) }
     ensures rises { moves.old ≤ moves.new }
 {
-    let tally = tally_of(work, leaf, prior, correction, is_last, moves)?;
+    let tally = work.work(leaf, prior, correction, moves)?;
     let kept = correction.share()?;
     let effect = work.effect(&tally).share()?;
     Ok(Ran {
@@ -83,7 +57,6 @@ fn run_leaf<W: LeafWork, L>(
     leaf: u32,
     correction: Marks,
     prior: Option<Prior<W::Tally>>,
-    is_last: bool,
     moves: &mut Moves<L>,
 ) -> Result<Done<W::Tally>, Task<W::Tally>>
     requires leaf { W.has work.now leaf }
@@ -101,7 +74,7 @@ fn run_leaf<W: LeafWork, L>(
         Some(prior) => Some(&prior.tally),
         None => None,
     };
-    let made = run_on(work, leaf, old, &correction, is_last, moves);
+    let made = run_on(work, leaf, old, &correction, moves);
     match made {
         Ok(ran) => {
             let Ran {
@@ -162,14 +135,34 @@ fn correct<T>(node: u32, correction: Marks, left: Marks) -> Result<Done<T>, Task
     }
 }
 
+/// What the next segment's root is given. Where memory is refused the task is given back.
+fn pass_on<T>(segment: u32, correction: Marks, effect: Marks) -> Result<Done<T>, Task<T>>
+    ensures ok { IfOk result (λ did. did ≡ PassDone segment correction effect (and_then correction effect)) }
+    ensures err { IfErr result (λ task. task ≡ PassTask segment correction effect) }
+{
+    match Marks::and_then(&correction, &effect) {
+        Ok(next) => Ok(Done::Pass {
+            segment,
+            correction,
+            effect,
+            next,
+        }),
+        Err(_refused) => Err(Task::Pass {
+            segment,
+            correction,
+            effect,
+        }),
+    }
+}
+
 impl<W: LeafWork> Job<W> {
     /// Does the job. Where memory is refused the job is given back. A leaf's job keeps the bound of its work on moves, with
-    /// the tally that was captured as prior; the others make none. Where a leaf's first run is thought to be its last, its tally
-    /// need not help a later one.
-    pub fn work<L>(self, is_last: bool, moves: &mut Moves<L>) -> Result<Output<W>, Job<W>>
+    /// the tally that was captured as prior; the others make none.
+    pub fn work<L>(self, moves: &mut Moves<L>) -> Result<Output<W>, Job<W>>
         ensures work { IfOk result (λ output. output.work ≡ self.work) }
         ensures claim { IfOk result (λ output. claim_of_output output ≡ claim_of_job self) }
         ensures name { IfOk result (λ output. name_of_output output ≡ name_of_job self) }
+        ensures line_claim { IfOk result (λ output. claim_of_line_output output ≡ claim_of_line_job self) }
         ensures err { IfErr result (λ job. job ≡ self) }
         ensures moves { IfSome (task_bound (W.bound self.work) self.task) (λ most. moves.new ≤ moves.old + most) }
         ensures rises { moves.old ≤ moves.new }
@@ -180,13 +173,18 @@ impl<W: LeafWork> Job<W> {
                 leaf,
                 correction,
                 prior,
-            } => run_leaf(&*work, leaf, correction, prior, is_last, moves),
+            } => run_leaf(&*work, leaf, correction, prior, moves),
             Task::Merge { node, left, right } => merge(node, left, right),
             Task::Correct {
                 node,
                 correction,
                 left,
             } => correct(node, correction, left),
+            Task::Pass {
+                segment,
+                correction,
+                effect,
+            } => pass_on(segment, correction, effect),
         };
         match did {
             Ok(did) => Ok(Output { work, did }),

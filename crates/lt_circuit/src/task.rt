@@ -45,6 +45,12 @@ pub enum Task<T> {
         correction: Marks,
         left: Marks,
     },
+    /// The correction of the segment's root, then its effect: the correction of the next segment's root.
+    Pass {
+        segment: u32,
+        correction: Marks,
+        effect: Marks,
+    },
 }
 
 /// What was done.
@@ -72,6 +78,13 @@ pub enum Done<T> {
         left: Marks,
         to_right: Marks,
     },
+    /// What the next segment's root is given.
+    Pass {
+        segment: u32,
+        correction: Marks,
+        effect: Marks,
+        next: Marks,
+    },
 }
 
 impl<T> Task<T> {
@@ -83,6 +96,7 @@ impl<T> Task<T> {
             Task::Leaf { leaf, .. } => JobName::Leaf(*leaf),
             Task::Merge { node, .. } => JobName::Merge(*node),
             Task::Correct { node, .. } => JobName::Correct(*node),
+            Task::Pass { segment, .. } => JobName::Pass(*segment),
         }
     }
 
@@ -90,8 +104,7 @@ impl<T> Task<T> {
     pub(crate) fn is_leaf(&self) -> bool {
         match self {
             Task::Leaf { .. } => true,
-            Task::Merge { .. } => false,
-            Task::Correct { .. } => false,
+            _inner => false,
         }
     }
 
@@ -99,8 +112,7 @@ impl<T> Task<T> {
     pub(crate) fn is_free<W: LeafWork>(&self, work: &W) -> bool {
         match self {
             Task::Leaf { leaf, prior, .. } => prior.is_none() && work.is_free(*leaf),
-            Task::Merge { .. } => false,
-            Task::Correct { .. } => false,
+            _inner => false,
         }
     }
 }
@@ -114,6 +126,7 @@ impl<T> Done<T> {
             Done::Leaf { leaf, .. } => JobName::Leaf(*leaf),
             Done::Merge { node, .. } => JobName::Merge(*node),
             Done::Correct { node, .. } => JobName::Correct(*node),
+            Done::Pass { segment, .. } => JobName::Pass(*segment),
         }
     }
 
@@ -121,22 +134,20 @@ impl<T> Done<T> {
     pub(crate) fn is_again(&self) -> bool {
         match self {
             Done::Leaf { prior, .. } => prior.is_some(),
-            Done::Merge { .. } => false,
-            Done::Correct { .. } => false,
+            _inner => false,
         }
     }
 }
 
-/// How dear a leaf's run was, or None of an inner job.
+/// How dear a leaf's run was, or None of another job.
 pub(crate) fn weight_of<W: LeafWork>(work: &W, did: &Done<W::Tally>) -> Option<usize> {
     match did {
         Done::Leaf { tally, .. } => Some(work.weight(&tally.tally)),
-        Done::Merge { .. } => None,
-        Done::Correct { .. } => None,
+        _inner => None,
     }
 }
 
-/// Whether most of what the leaf did hangs on its correction, or None of a free leaf and of an inner job.
+/// Whether most of what the leaf did hangs on its correction, or None of a free leaf and of another job.
 pub(crate) fn tie_of<W: LeafWork>(work: &W, did: &Done<W::Tally>) -> Option<bool> {
     match did {
         Done::Leaf { leaf, tally, .. } => {
@@ -145,8 +156,7 @@ pub(crate) fn tie_of<W: LeafWork>(work: &W, did: &Done<W::Tally>) -> Option<bool
             }
             Some(work.is_tied(*leaf, &tally.tally))
         }
-        Done::Merge { .. } => None,
-        Done::Correct { .. } => None,
+        _inner => None,
     }
 }
 
@@ -182,6 +192,14 @@ pub fn take_task<T: Drop>(
                 node,
                 correction,
                 left,
+            },
+            Inputs::One(_first) => unreachable!(),
+        },
+        JobName::Pass(segment) => match inputs {
+            Inputs::Two(correction, effect) => Task::Pass {
+                segment,
+                correction,
+                effect,
             },
             Inputs::One(_first) => unreachable!(),
         },
@@ -223,6 +241,15 @@ pub(crate) fn give_back<T: Drop>(tallies: &mut Vec<Option<Prior<T>>>, task: Task
             prior: None,
             first: Some(correction),
             second: Some(left),
+        },
+        Task::Pass {
+            segment: _segment,
+            correction,
+            effect,
+        } => Used {
+            prior: None,
+            first: Some(correction),
+            second: Some(effect),
         },
     }
 }

@@ -1,5 +1,5 @@
 //! What a circuit runs at its leaves.
-ghost use Rattle.std.specs.Prelude.{◌≡◌, ◌≤◌, ◌+◌, ℕ, List, [], Option, None, IfOk, IfSome};
+ghost use Rattle.std.specs.Prelude.{◌≡◌, ◌≤◌, ◌+◌, ℕ, List, [], Option, IfOk, IfSome};
 ghost use Rattle.std.specs.Option.{option_map};
 ghost use Rattle.lt_model.specs.declared.mark.Mark.{Mark};
 ghost use Rattle.lt_model.specs.Marks.{AreMarks, and_then};
@@ -39,19 +39,6 @@ pub trait LeafWork: Drop {
         requires prior { IfSome prior (λ old. (c : List Mark) × fits self.now c × stands_for self.now old.now leaf c) }
         ensures stands { IfOk result (λ tally. stands_for self.now tally leaf correction.now) }
         ensures moves { IfSome (bound self.now (option_map (λ old. old.now) prior.entry) leaf correction.now) (λ most. moves.new ≤ moves.old + most) }
-        ensures rises { moves.old ≤ moves.new };
-
-    /// Runs the leaf on a correction that is thought to be the last, so that its tally need not help a later run.
-    fn work_last<L>(
-        &self,
-        leaf: u32,
-        correction: &Marks,
-        moves: &mut Moves<L>,
-    ) -> Result<Self::Tally, NoMemory>
-        requires leaf { has self.now leaf }
-        requires correction { fits self.now correction.now }
-        ensures stands { IfOk result (λ tally. stands_for self.now tally leaf correction.now) }
-        ensures moves { IfSome (bound self.now None leaf correction.now) (λ most. moves.new ≤ moves.old + most) }
         ensures rises { moves.old ≤ moves.new };
 
     /// The marks of a tally.

@@ -9,7 +9,7 @@ use Rattle.lt_model.proofs.Composition.{AreMarks-and_then}
 use Rattle.lt_net.specs.declared.job.JobState.{JobState}
 use Rattle.lt_net.specs.declared.job.JobState.TheVariants.{Clean, Pending, Running, Dirty}
 use Rattle.lt_net.specs.declared.job.JobName.{JobName}
-use Rattle.lt_net.specs.declared.job.JobName.TheVariants.{Leaf, Merge, Correct}
+use Rattle.lt_net.specs.declared.job.JobName.TheVariants.{Leaf, Merge, Correct, Pass}
 use Rattle.lt_net.specs.Net.{Cell, Correction, Net, State, Claim, Event, Claims, Finishes, Abandons, same_cell, has_cell, update, read, first_of, second_of, is_pending, claimed, finished, abandoned, claim_of, claim_step, finish_step, abandon_step, step, replay, opening}
 use Rattle.lt_net.specs.Tree.{leaves_in, outputs_of, gives_of, circuit_net, tree_of, GiveMarks}
 use Rattle.lt_net.specs.Codes.{job_of}
@@ -131,6 +131,7 @@ module _ (P : List Mark → Type 0) where
         part : (b : Bool) → P (if b then first_of ins else and_then (first_of ins) (second_of ins))
         part true = first_fits none ins h
         part false = both (first_of ins) (second_of ins) (first_fits none ins h) (second_fits none ins h)
+    name_gives (Pass s) ins x e h = cc
 
     pub reached_fit : (events : List Event) (s : State) → replay (circuit_net effect (tree_of n)) (Some (opening (circuit_net effect (tree_of n)))) events ≡ Some s → AllFit s
     reached_fit events s h =

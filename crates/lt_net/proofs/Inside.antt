@@ -1,11 +1,11 @@
 -- Replays with one more event, and jobs that have inputs as jobs of the tree.
 use Rattle.std.proofs.Common.{◌≡◌, ℕ, zero, suc, ◌+◌, ◌*◌, ◌<◌, inl, inr, List, [], ◌∷◌, ◌++◌, Option, Some, None, refl, ap, arith, ◌∙◌, ◌≢◌, true}
 use Rattle.lt_net.specs.declared.job.JobName.{JobName}
-use Rattle.lt_net.specs.declared.job.JobName.TheVariants.{Leaf, Merge, Correct}
+use Rattle.lt_net.specs.declared.job.JobName.TheVariants.{Leaf, Merge, Correct, Pass}
 use Rattle.lt_net.specs.Net.{Cell, Correction, Effect, Net, State, Event, step, replay}
 use Rattle.std.specs.Prelude.{nat_lt}
-use Rattle.lt_net.specs.Tree.{leaves_in, tree_of, halved_tree, leaves, right_in, right_of, node_in, node_of, inputs_of, if_inner}
-use Rattle.lt_net.specs.Codes.{code_of, codes_over}
+use Rattle.lt_net.specs.Tree.{Tree, leaves_in, tree_of, halved_tree, leaves, right_in, right_of, node_in, node_of, inputs_of, if_inner}
+use Rattle.lt_net.specs.Codes.{code_of, codes_over, IsOfTree}
 use Rattle.lt_net.proofs.Codes.{code_within}
 use Rattle.lt_net.proofs.Shape.{lt_tells, lt_true, lt_false, right_is, tree_leaves}
 
@@ -29,6 +29,7 @@ pub none_reads : (name : JobName) → inputs_of None name ≡ []
 none_reads (Leaf i) = rw (lt_false i 0 (omega arith))
 none_reads (Merge v) = refl
 none_reads (Correct v) = refl
+none_reads (Pass s) = refl
 
 pub inner_inside : (n v : ℕ) (o : Option ℕ) (cells : ℕ → List Cell) → right_in (tree_of n) v ≡ o → (if_inner o cells ≡ [] → ⊥) → v + 2 < 2 * n
 inner_inside n v None cells e some = absurd (some refl)
@@ -49,6 +50,14 @@ pub job_inside : (n : ℕ) (name : JobName) → (inputs_of (tree_of n) name ≡ 
 job_inside n (Leaf i) some = code_within n (Leaf i) (omega (arith, leaf_inside n i some))
 job_inside n (Merge v) some = code_within n (Merge v) (omega (arith, inner_inside n v (right_in (tree_of n) v) (λ r. Effect (v + 1) ∷ Effect r ∷ []) refl some))
 job_inside n (Correct v) some = code_within n (Correct v) (omega (arith, inner_inside n v (right_in (tree_of n) v) (λ r. Correction v ∷ Effect (v + 1) ∷ []) refl some))
+job_inside n (Pass s) some = absurd (some refl)
+
+-- what has inputs in a tree is a job of it
+pub tree_job : (t : Option Tree) (name : JobName) → inputs_of t name ≢ [] → IsOfTree name
+tree_job t (Leaf i) some = tt
+tree_job t (Merge v) some = tt
+tree_job t (Correct v) some = tt
+tree_job t (Pass s) some = absurd (some refl)
 
 -- ---- the tree over some leaves
 

@@ -5,7 +5,7 @@ use Rattle.std.proofs.lemmas.Bool.Decides.{eqb_tells}
 use Rattle.lt_model.specs.declared.mark.Mark.{Mark}
 use Rattle.lt_model.specs.Marks.{and_then}
 use Rattle.lt_net.specs.declared.job.JobName.{JobName}
-use Rattle.lt_net.specs.declared.job.JobName.TheVariants.{Leaf, Merge, Correct}
+use Rattle.lt_net.specs.declared.job.JobName.TheVariants.{Leaf, Merge, Correct, Pass}
 use Rattle.lt_net.specs.Net.{Cell, Correction, Effect, same_cell, has_cell, read, first_of, second_of}
 use Rattle.lt_net.specs.Tree.{Tree, leaves, right_of, node_of, parent_of, leaf_at, right_in, node_in, leaves_in, if_inner, inputs_of, outputs_of, gives_of, is_leaf_job, circuit_net}
 use Rattle.lt_net.specs.Codes.{job_of}
@@ -67,11 +67,13 @@ writes t (Leaf i) x e = elim (lt_tells i (leaves t)) [
 ]
 writes t (Merge v) x e = merge_writes t v (right_of t v) x refl e
 writes t (Correct v) x e = correct_writes t v (right_of t v) x refl e
+writes t (Pass s) x e = cc
 
 pub writes_none : (name : JobName) (x : Cell) → has_cell x (outputs_of None name) ≡ true → ⊥
 writes_none (Leaf i) x e = let f : has_cell x [] ≡ true = rw (lt_false i 0 (omega arith)) at e in cc
 writes_none (Merge v) x e = cc
 writes_none (Correct v) x e = cc
+writes_none (Pass s) x e = cc
 
 pub same_writer : (t : Option Tree) (x : Cell) (a b : JobName) → has_cell x (outputs_of t a) ≡ true → has_cell x (outputs_of t b) ≡ true → a ≡ b
 same_writer None x a b p q = absurd (writes_none a x p)
@@ -98,6 +100,7 @@ module _ (effect : ℕ → List Mark → List Mark) where
       empties true (Some y) = refl
       empties false None = refl
       empties false (Some y) = refl
+  quiet t (Pass s) x p e = cc
 
   pub unread : (t : Option Tree) (name : JobName) → inputs_of t name ≡ [] → is_leaf_job t name ≡ false
   unread t (Leaf i) e = leaf_case (nat_lt i (leaves_in t)) e
@@ -107,6 +110,7 @@ module _ (effect : ℕ → List Mark → List Mark) where
       leaf_case false e = refl
   unread t (Merge v) e = refl
   unread t (Correct v) e = refl
+  unread t (Pass s) e = refl
 
   pub circuit_is_net : (t : Option Tree) → IsNet (circuit_net effect t)
   circuit_is_net t = record {

@@ -25,6 +25,8 @@ pub mod RowClaims
 pub mod Rows
 pub mod Example
 pub mod AloneExample
+pub mod Alike
+pub mod OneSegment
 pub mod LineExample
 pub mod LineRuns
 pub mod LineSettles

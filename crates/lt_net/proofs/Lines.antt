@@ -21,7 +21,7 @@ use Rattle.lt_net.proofs.Jobs.{has_one, has_two, same_writer, quiet, unread}
 use Rattle.lt_net.proofs.Past.{AreApart, IsUntouched, replay_untouched}
 use Rattle.lt_net.proofs.Serial.{root_free, serial_from}
 use Rattle.lt_net.proofs.Solve.{then_from}
-use Rattle.lt_net.proofs.Placed.{own_at, pass_at, own_back, code_back, same_line_job, segment_of, segment_at, node_at, unplaced_placed, placed_same, placed_in, has_placed, read_placed, written, leaf_within, read_within}
+use Rattle.lt_net.proofs.Placed.{own_at, pass_at, own_back, own_written, code_back, same_line_job, segment_of, segment_at, node_at, unplaced_placed, placed_same, placed_in, has_placed, read_placed, written, leaf_within, read_within}
 
 -- ---- the jobs of a row
 
@@ -297,7 +297,7 @@ module _ (effect : ℕ → List Mark → List Mark) (sizes : List ℕ) (small : 
       let w = written (size_in sizes k) name y e in
       let below : code_of name < 2047 = omega (arith, w.code, small.few k) in
       let here : has_cell (placed k y) (line_outputs sizes (line_job (line_code (Own k name)))) ≡ true =
-      ap (λ a. has_cell (placed k y) (line_outputs sizes a)) (own_back k name below) ∙ has_placed k y (outputs_of (tree_of (size_in sizes k)) name) e in
+      ap (λ a. has_cell (placed k y) (line_outputs sizes a)) (own_back k name (own_written (tree_of (size_in sizes k)) name y e) below) ∙ has_placed k y (outputs_of (tree_of (size_in sizes k)) name) e in
       same.values (line_code (Own k name)) (placed k y) (omega (arith, below, lt)) here
 
   root_stays : (k n : ℕ) → size_in sizes k ≡ n → k < f → t.value (placed k (Effect 0)) ≡ s.value (placed k (Effect 0))

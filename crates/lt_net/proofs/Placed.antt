@@ -4,10 +4,10 @@ use Rattle.std.specs.Prelude.{if◌then◌else◌, ◌==◌}
 use Rattle.std.proofs.lemmas.Bool.Decides.{eqb_tells}
 use Rattle.lt_model.specs.declared.mark.Mark.{Mark}
 use Rattle.lt_net.specs.declared.job.JobName.{JobName}
-use Rattle.lt_net.specs.declared.job.JobName.TheVariants.{Leaf, Merge, Correct}
+use Rattle.lt_net.specs.declared.job.JobName.TheVariants.{Leaf, Merge, Correct, Pass as PassName}
 use Rattle.lt_net.specs.Net.{Cell, Correction, Effect, same_cell, has_cell, read}
-use Rattle.lt_net.specs.Tree.{leaves, right_of, node_of, leaves_in, if_inner, inputs_of, outputs_of, is_leaf_job, tree_of, halved_tree}
-use Rattle.lt_net.specs.Codes.{code_of, job_of, codes_over}
+use Rattle.lt_net.specs.Tree.{Tree, leaves, right_of, node_of, leaves_in, if_inner, inputs_of, outputs_of, is_leaf_job, tree_of, halved_tree}
+use Rattle.lt_net.specs.Codes.{code_of, job_of, codes_over, IsOfTree}
 use Rattle.lt_net.specs.Line.{LineJob, Own, Pass, job_at, line_code, line_job, placed, unplaced}
 use Rattle.lt_net.proofs.Shape.{lt_tells, lt_false, eq_false, right_is, leaf_is, tree_leaves}
 use Rattle.lt_net.proofs.Codes.{job_of-code, code_of-job, code_within}
@@ -30,8 +30,8 @@ own_at s c h =
 pub pass_at : (s : ℕ) → line_job (2048 * s + 2047) ≡ Pass s
 pass_at s = at_code s 2047 (omega arith)
 
-pub own_back : (s : ℕ) (name : JobName) → code_of name < 2047 → line_job (line_code (Own s name)) ≡ Own s name
-own_back s name h = own_at s (code_of name) h ∙ ap (Own s) (job_of-code name)
+pub own_back : (s : ℕ) (name : JobName) → IsOfTree name → code_of name < 2047 → line_job (line_code (Own s name)) ≡ Own s name
+own_back s name own h = own_at s (code_of name) h ∙ ap (Own s) (job_of-code name own)
 
 code_at : (s c : ℕ) → line_code (job_at s c) ≡ 2048 * s + c
 code_at s c = elim (eqb_tells c 2047) [
@@ -139,6 +139,14 @@ written (suc n) (Leaf i) y e = elim (lt_tells i (leaves (halved_tree (suc n)))) 
 ]
 written (suc n) (Merge v) y e = merge_within n v (right_of (halved_tree (suc n)) v) y refl e
 written (suc n) (Correct v) y e = correct_within n v (right_of (halved_tree (suc n)) v) y refl e
+written (suc n) (PassName s) y e = cc
+
+-- what writes a cell in a tree is a job of it
+pub own_written : (t : Option Tree) (name : JobName) (y : Cell) → has_cell y (outputs_of t name) ≡ true → IsOfTree name
+own_written t (Leaf i) y e = tt
+own_written t (Merge v) y e = tt
+own_written t (Correct v) y e = tt
+own_written t (PassName s) y e = cc
 
 pub leaf_within : (n : ℕ) (name : JobName) → is_leaf_job (tree_of n) name ≡ true → code_of name < codes_over n
 leaf_within n (Leaf i) e = elim (lt_tells i (leaves_in (tree_of n))) [
@@ -151,6 +159,7 @@ leaf_within n (Leaf i) e = elim (lt_tells i (leaves_in (tree_of n))) [
     inside (suc m) k = omega (arith, k, tree_leaves (suc m))
 leaf_within n (Merge v) e = cc
 leaf_within n (Correct v) e = cc
+leaf_within n (PassName s) e = cc
 
 merge_reads : (n v : ℕ) (o : Option ℕ) (y : Cell) → right_of (halved_tree (suc n)) v ≡ o → has_cell y (if_inner o (λ right. Effect (v + 1) ∷ Effect right ∷ [])) ≡ true → node_at y + 1 < 2 * suc n
 merge_reads n v None y p e = cc
@@ -176,6 +185,7 @@ none_reads : (name : JobName) (y : Cell) → has_cell y (inputs_of None name) �
 none_reads (Leaf i) y e = let f : has_cell y [] ≡ true = rw (lt_false i 0 (omega arith)) at e in cc
 none_reads (Merge v) y e = cc
 none_reads (Correct v) y e = cc
+none_reads (PassName s) y e = cc
 
 pub read_within : (n : ℕ) (name : JobName) (y : Cell) → has_cell y (inputs_of (tree_of n) name) ≡ true → node_at y + 1 < 2 * n
 read_within zero name y e = absurd (none_reads name y e)
@@ -189,3 +199,4 @@ read_within (suc n) (Leaf i) y e = elim (lt_tells i (leaves (halved_tree (suc n)
 ]
 read_within (suc n) (Merge v) y e = merge_reads n v (right_of (halved_tree (suc n)) v) y refl e
 read_within (suc n) (Correct v) y e = correct_reads n v (right_of (halved_tree (suc n)) v) y refl e
+read_within (suc n) (PassName s) y e = cc

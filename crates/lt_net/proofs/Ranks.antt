@@ -4,7 +4,7 @@ use Rattle.std.specs.Prelude.{nat_lt}
 use Rattle.lt_model.specs.declared.mark.Mark.{Mark}
 use Rattle.lt_model.specs.Marks.{and_then}
 use Rattle.lt_net.specs.declared.job.JobName.{JobName}
-use Rattle.lt_net.specs.declared.job.JobName.TheVariants.{Leaf, Merge, Correct}
+use Rattle.lt_net.specs.declared.job.JobName.TheVariants.{Leaf, Merge, Correct, Pass}
 use Rattle.lt_net.specs.declared.job.JobState.TheVariants.{Clean, Pending}
 use Rattle.lt_net.specs.Net.{Cell, Correction, Effect, Net, State, same_cell, has_cell, read}
 use Rattle.lt_net.specs.Tree.{Tree, leaves, right_of, node_of, leaf_at, node_in, leaves_in, if_inner, inputs_of, outputs_of, gives_of, circuit_net}
@@ -129,6 +129,7 @@ module _ (effect : ℕ → List Mark → List Mark) (t : Tree) (f g : Cell → L
   name_depends (Leaf i) x e below = leaf_depends i x e below
   name_depends (Merge v) x e below = merge_depends v (right_of t v) x refl e below
   name_depends (Correct v) x e below = correct_depends v (right_of t v) x refl e below
+  name_depends (Pass s) x e below = cc
 
 -- without a tree no job writes or reads anything
 none_depends : (effect : ℕ → List Mark → List Mark) (f g : Cell → List Mark) (name : JobName) (x : Cell)
@@ -136,6 +137,7 @@ none_depends : (effect : ℕ → List Mark → List Mark) (f g : Cell → List M
 none_depends effect f g (Leaf i) x = let b : nat_lt i 0 ≡ false = lt_false i 0 (omega arith) in rw b
 none_depends effect f g (Merge v) x = refl
 none_depends effect f g (Correct v) x = refl
+none_depends effect f g (Pass s) x = refl
 
 pub reads_own : (t : Option Tree) (i : ℕ) (x : Cell) → has_cell x (inputs_of t (Leaf i)) ≡ true → (i < leaves_in t) × (x ≡ Correction (node_in t i))
 reads_own t i x e = elim (lt_tells i (leaves_in t)) [
@@ -154,9 +156,9 @@ leaf_rank (Some t) i x e =
 pub circuit_is_ranked : (effect : ℕ → List Mark → List Mark) (t : Option Tree) → IsRanked (circuit_net effect t) (rank_in t)
 circuit_is_ranked effect None = record {
   depends = λ f g k same j x e below. none_depends effect f g (job_of j) x;
-  leaf_reads = λ i x e. leaf_rank None i x (subst (λ n. has_cell x (inputs_of None n) ≡ true) (job_of-code (Leaf i)) e);
+  leaf_reads = λ i x e. leaf_rank None i x (subst (λ n. has_cell x (inputs_of None n) ≡ true) (job_of-code (Leaf i) tt) e);
 }
 circuit_is_ranked effect (Some t) = record {
   depends = λ f g k same j x e below. name_depends effect t f g k same (job_of j) x e below;
-  leaf_reads = λ i x e. leaf_rank (Some t) i x (subst (λ n. has_cell x (inputs_of (Some t) n) ≡ true) (job_of-code (Leaf i)) e);
+  leaf_reads = λ i x e. leaf_rank (Some t) i x (subst (λ n. has_cell x (inputs_of (Some t) n) ≡ true) (job_of-code (Leaf i) tt) e);
 }

@@ -6,13 +6,13 @@ use Rattle.lt_model.specs.declared.mark.Mark.{Mark}
 use Rattle.lt_net.specs.declared.job.JobState.{JobState}
 use Rattle.lt_net.specs.declared.job.JobState.TheVariants.{Clean, Pending, Running, Dirty}
 use Rattle.lt_net.specs.declared.job.JobName.{JobName}
-use Rattle.lt_net.specs.declared.job.JobName.TheVariants.{Leaf, Merge, Correct}
+use Rattle.lt_net.specs.declared.job.JobName.TheVariants.{Leaf, Merge, Correct, Pass}
 use Rattle.lt_net.specs.Net.{Cell, Correction, Effect, State, has_cell, is_pending, IsSettled}
 use Rattle.lt_net.specs.Tree.{Tree, leaves, node_of, leaves_in, node_in, inputs_of, outputs_of, tree_of}
-use Rattle.lt_net.specs.Codes.{code_of, job_of}
+use Rattle.lt_net.specs.Codes.{code_of, job_of, IsOfTree}
 use Rattle.lt_net.specs.Alone.{IsAlone, IsSwept, net_over, run_if_pending, run_all, sweep, lowest_pending, leaf_jobs, chosen, round, rounds, settled_alone}
 use Rattle.lt_net.proofs.Shape.{lt_tells, lt_false, tree_leaves}
-use Rattle.lt_net.proofs.Codes.{job_of-code, code_of-job}
+use Rattle.lt_net.proofs.Codes.{job_of-code, code_of-job, is_of_tree}
 use Rattle.lt_net.proofs.Jobs.{has_one}
 use Rattle.lt_net.proofs.Spans.{leaf_end, rank, rank_in}
 use Rattle.lt_net.proofs.Runs.{clean_else, run_clean, all_alone}
@@ -81,7 +81,7 @@ module _ (effect : ℕ → List Mark → List Mark) (n : ℕ) (s : State) (a : I
   pub leaf_idle : (i : ℕ) → n ≤ i → s.status (code_of (Leaf i)) ≡ Clean
   leaf_idle i le =
       let none : inputs_of (tree_of n) (Leaf i) ≡ [] = rw (lt_false i (leaves_in (tree_of n)) (omega (arith, leaves_are n))) in
-      a.kept.idle (code_of (Leaf i)) (ap (inputs_of (tree_of n)) (job_of-code (Leaf i)) ∙ none)
+      a.kept.idle (code_of (Leaf i)) (ap (inputs_of (tree_of n)) (job_of-code (Leaf i) tt) ∙ none)
 
   module _ (w : IsSwept s) where
     writer_clean : (k : ℕ) → ((i : ℕ) → i < k → s.status (code_of (Leaf i)) ≡ Clean) → (name : JobName) (x : Cell) → has_cell x (outputs_of (tree_of n) name) ≡ true
@@ -89,6 +89,7 @@ module _ (effect : ℕ → List Mark → List Mark) (n : ℕ) (s : State) (a : I
     writer_clean k h (Leaf i) x e below = h i (omega (arith, below, leaf_rank_written (tree_of n) i x e))
     writer_clean k h (Merge v) x e below = w.merges v
     writer_clean k h (Correct v) x e below = w.corrects v
+    writer_clean k h (Pass s) x e below = cc
 
     -- all that depends on Clean leaves alone, and the correction of the next one
     pub swept_final : (k : ℕ) → ((i : ℕ) → i < k → s.status (code_of (Leaf i)) ≡ Clean) → IsFinal (net_over effect n) (rank_in (tree_of n)) (suc k) s
@@ -100,12 +101,13 @@ module _ (effect : ℕ → List Mark → List Mark) (n : ℕ) (s : State) (a : I
 
     -- after a sweep a circuit whose leaves are Clean is settled
     pub swept_settled : ((i : ℕ) → i < n → s.status (code_of (Leaf i)) ≡ Clean) → IsSettled s
-    swept_settled h j = ap s.status (sym (code_of-job j)) ∙ by_name (job_of j)
+    swept_settled h j = ap s.status (sym (code_of-job j)) ∙ by_name (job_of j) (is_of_tree j)
       where
-        by_name : (name : JobName) → s.status (code_of name) ≡ Clean
-        by_name (Leaf i) = elim (lt_tells i n) [ inl l ↦ h i l.1 | inr l ↦ leaf_idle i l.1 ]
-        by_name (Merge v) = w.merges v
-        by_name (Correct v) = w.corrects v
+        by_name : (name : JobName) → IsOfTree name → s.status (code_of name) ≡ Clean
+        by_name (Leaf i) own = elim (lt_tells i n) [ inl l ↦ h i l.1 | inr l ↦ leaf_idle i l.1 ]
+        by_name (Merge v) own = w.merges v
+        by_name (Correct v) own = w.corrects v
+        by_name (Pass s) own = absurd own
 
     -- and so is one without a Pending leaf
     pub none_settled : lowest_pending s 0 n ≡ None → IsSettled s
@@ -147,7 +149,7 @@ module _ (effect : ℕ → List Mark → List Mark) (n : ℕ) (s : State) (a : I
           clean = λ i lt. elim (eqb_tells i m) [
             | inl e ↦
                 subst (λ u. (run_if_pending (net_over effect n) s (code_of (Leaf m))).status (code_of (Leaf u)) ≡ Clean) (sym e.1)
-                (run_clean (net_over effect n) (is_net effect n) s a (code_of (Leaf m)) (unread_from effect (tree_of n) (Leaf m) (Leaf m) (leaf_unread (tree_of n) m)))
+                (run_clean (net_over effect n) (is_net effect n) s a (code_of (Leaf m)) (unread_from effect (tree_of n) (Leaf m) (Leaf m) tt tt (leaf_unread (tree_of n) m)))
             | inr e ↦ kept.clean i (omega (arith, e.1))
           ];
         }

@@ -5,10 +5,10 @@ use Rattle.std.specs.Option.{option_map}
 use Rattle.lt_model.specs.declared.mark.Mark.{Mark}
 use Rattle.lt_model.specs.Marks.{AreMarks, and_then}
 use Rattle.lt_net.specs.declared.job.JobName.{JobName}
-use Rattle.lt_net.specs.declared.job.JobName.TheVariants.{Leaf, Merge, Correct}
+use Rattle.lt_net.specs.declared.job.JobName.TheVariants.{Leaf, Merge, Correct, Pass}
 use Rattle.lt_net.specs.Net.{Cell, Correction, Effect, State, Event, same_cell, has_cell, read, first_of, replay, opening, IsSettled}
 use Rattle.lt_net.specs.Tree.{Tree, Tip, Fork, leaves, right_of, node_of, right_in, node_in, leaves_in, if_inner, inputs_of, outputs_of, gives_of, is_leaf_job, circuit_net, before, then_all, leaf_value, IsSerial, GiveMarks, halved, tree_of}
-use Rattle.lt_net.specs.Codes.{code_of, job_of}
+use Rattle.lt_net.specs.Codes.{code_of, job_of, IsOfTree}
 use Rattle.lt_net.specs.Kept.{IsDone, IsKept, IsBare}
 use Rattle.lt_net.proofs.Kept.{replay_kept, opening_kept, reached_bare}
 use Rattle.lt_net.proofs.Fitting.{marks_of}
@@ -21,20 +21,20 @@ use Rattle.lt_net.proofs.Jobs.{circuit_is_net, same_itself}
 
 module _ (effect : ℕ → List Mark → List Mark) (start : List Mark) (t : Tree) (s : State) (done : (j : ℕ) → IsDone (circuit_net effect (Some t)) s j) where
   -- what a job that is done gave, by the job's name
-  gave : (name : JobName) (x : Cell) → has_cell x (outputs_of (Some t) name) ≡ true
+  gave : (name : JobName) → IsOfTree name → (x : Cell) → has_cell x (outputs_of (Some t) name) ≡ true
       → s.value x ≡ gives_of effect name (read s.value (inputs_of (Some t) name)) x
-  gave name = subst (λ n. (x : Cell) → has_cell x (outputs_of (Some t) n) ≡ true → s.value x ≡ gives_of effect n (read s.value (inputs_of (Some t) n)) x)
-      (job_of-code name) (done (code_of name)).gave
+  gave name own = subst (λ n. (x : Cell) → has_cell x (outputs_of (Some t) n) ≡ true → s.value x ≡ gives_of effect n (read s.value (inputs_of (Some t) n)) x)
+      (job_of-code name own) (done (code_of name)).gave
 
   leaf_gave : (i : ℕ) → i < leaves t → s.value (Effect (node_of t i)) ≡ effect i (s.value (Correction (node_of t i)))
   leaf_gave i h =
       let here : has_cell (Effect (node_of t i)) (outputs_of (Some t) (Leaf i)) ≡ true = rw (lt_true i (leaves t) h, same_itself (Effect (node_of t i))) in
-      rw (lt_true i (leaves t) h) at (gave (Leaf i) (Effect (node_of t i)) here)
+      rw (lt_true i (leaves t) h) at (gave (Leaf i) tt (Effect (node_of t i)) here)
 
   inner_gave : (v y : ℕ) → right_of t v ≡ Some y → IsInnerDone effect start s.value v (v + 1) y
   inner_gave v y e =
-      let merge = rw e at (gave (Merge v)) in
-      let correct = rw e at (gave (Correct v)) in
+      let merge = rw e at (gave (Merge v) tt) in
+      let correct = rw e at (gave (Correct v) tt) in
       let itself : same_cell (Correction (v + 1)) (Correction (v + 1)) ≡ true = same_itself (Correction (v + 1)) in
       let right : same_cell (Correction y) (Correction y) ≡ true = same_itself (Correction y) in
       let other : same_cell (Correction y) (Correction (v + 1)) ≡ false = eq_false y (v + 1) (omega (arith, (right_is t v y e).after)) in
@@ -102,7 +102,7 @@ module _ (effect : ℕ → List Mark → List Mark) (start : List Mark) (t : Tre
   leaf_last : (i : ℕ) → i < leaves t → s.done (code_of (Leaf i)) ≡ Some (s.value (Correction (node_of t i)))
   leaf_last i h =
       let last = subst (λ n. is_leaf_job (Some t) n ≡ true → s.done (code_of (Leaf i)) ≡ Some (first_of (read s.value (inputs_of (Some t) n))))
-      (job_of-code (Leaf i)) (done (code_of (Leaf i))).last in
+      (job_of-code (Leaf i) tt) (done (code_of (Leaf i))).last in
       rw (lt_true i (leaves t) h) at (last (lt_true i (leaves t) h))
 
   module _ (marks : (x : Cell) → AreMarks (s.value x)) (first : s.value (Correction 0) ≡ start) where
@@ -142,6 +142,7 @@ root_free t (Merge v) = merge_case (right_in t v)
     merge_case : (o : Option ℕ) → has_cell (Correction 0) (if_inner o (λ right. Effect v ∷ [])) ≡ false
     merge_case None = refl
     merge_case (Some y) = refl
+root_free t (Pass s) = refl
 root_free None (Correct v) = refl
 root_free (Some t) (Correct v) = correct_case (right_of t v) refl
   where
@@ -154,6 +155,7 @@ pub none_free : (name : JobName) (x : Cell) → has_cell x (outputs_of None name
 none_free (Leaf i) x = rw (lt_false i 0 (omega arith))
 none_free (Merge v) x = refl
 none_free (Correct v) x = refl
+none_free (Pass s) x = refl
 
 -- a state of a tree with each job done
 tree_serial : (effect : ℕ → List Mark → List Mark) (start : List Mark) (n : ℕ) (t : Tree) (s : State) → tree_of n ≡ Some t → leaves t ≡ n

@@ -8,7 +8,7 @@ use Rattle.lt_net.specs.declared.job.JobName.TheVariants.{Merge, Correct}
 use Rattle.lt_net.specs.declared.job.JobState.TheVariants.{Clean}
 use Rattle.lt_net.specs.Net.{Cell, Correction, Effect, Net, State, has_cell}
 use Rattle.lt_net.specs.Tree.{Tree, leaves, right_of, right_in, if_inner, inputs_of, outputs_of, circuit_net, tree_of, halved_tree}
-use Rattle.lt_net.specs.Codes.{code_of, nodes_over}
+use Rattle.lt_net.specs.Codes.{code_of, nodes_over, IsOfTree}
 use Rattle.lt_net.specs.Alone.{IsAlone, IsSwept, net_over, run_if_pending, run_all, merges_down, corrects_up, sweep_jobs, sweep}
 use Rattle.lt_net.proofs.Kept.{IsNet}
 use Rattle.lt_net.proofs.Shape.{lt_tells, eq_false, right_is, tree_leaves}
@@ -80,10 +80,10 @@ correct_apart t v w le x e = by_case (right_in t v) (right_in t w) refl e
     ]
 
 module _ (effect : ℕ → List Mark → List Mark) (t : Option Tree) where
-  pub unread_from : (b a : JobName) → IsApart t b a → IsUnread (circuit_net effect t) (code_of b) (code_of a)
-  unread_from b a h x e =
-      let e' : has_cell x (inputs_of t a) ≡ true = subst (λ n. has_cell x (inputs_of t n) ≡ true) (job_of-code a) e in
-      subst (λ n. has_cell x (outputs_of t n) ≡ false) (sym (job_of-code b)) (h x e')
+  pub unread_from : (b a : JobName) → IsOfTree b → IsOfTree a → IsApart t b a → IsUnread (circuit_net effect t) (code_of b) (code_of a)
+  unread_from b a first second h x e =
+      let e' : has_cell x (inputs_of t a) ≡ true = subst (λ n. has_cell x (inputs_of t n) ≡ true) (job_of-code a second) e in
+      subst (λ n. has_cell x (outputs_of t n) ≡ false) (sym (job_of-code b first)) (h x e')
 
 -- behind the last node there is no inner one
 pub inner_none : (n v : ℕ) → nodes_over n ≤ v → right_in (tree_of n) v ≡ None
@@ -118,12 +118,12 @@ module _ (effect : ℕ → List Mark → List Mark) (n : ℕ) (s : State) (a : I
   pub merge_idle : (v : ℕ) → right_in (tree_of n) v ≡ None → s.status (code_of (Merge v)) ≡ Clean
   merge_idle v e =
       let none : inputs_of (tree_of n) (Merge v) ≡ [] = ap (λ o. if_inner o (λ right. Effect (v + 1) ∷ Effect right ∷ [])) e in
-      a.kept.idle (code_of (Merge v)) (ap (inputs_of (tree_of n)) (job_of-code (Merge v)) ∙ none)
+      a.kept.idle (code_of (Merge v)) (ap (inputs_of (tree_of n)) (job_of-code (Merge v) tt) ∙ none)
 
   pub correct_idle : (v : ℕ) → right_in (tree_of n) v ≡ None → s.status (code_of (Correct v)) ≡ Clean
   correct_idle v e =
       let none : inputs_of (tree_of n) (Correct v) ≡ [] = ap (λ o. if_inner o (λ right. Correction v ∷ Effect (v + 1) ∷ [])) e in
-      a.kept.idle (code_of (Correct v)) (ap (inputs_of (tree_of n)) (job_of-code (Correct v)) ∙ none)
+      a.kept.idle (code_of (Correct v)) (ap (inputs_of (tree_of n)) (job_of-code (Correct v) tt) ∙ none)
 
   pub merges_start : MergesClean s (nodes_over n)
   merges_start w h = merge_idle w (inner_none n w h)
@@ -133,26 +133,26 @@ module _ (effect : ℕ → List Mark → List Mark) (n : ℕ) (s : State) (a : I
     | inl e ↦
         subst (λ u. (run_if_pending (net_over effect n) s (code_of (Merge v))).status (code_of (Merge u)) ≡ Clean) (sym e.1)
         (run_clean (net_over effect n) (is_net effect n) s a (code_of (Merge v))
-        (unread_from effect (tree_of n) (Merge v) (Merge v) (merge_apart (tree_of n) v v (omega arith))))
+        (unread_from effect (tree_of n) (Merge v) (Merge v) tt tt (merge_apart (tree_of n) v v (omega arith))))
     | inr e ↦
         run_keeps (net_over effect n) (is_net effect n) s a (code_of (Merge v)) (code_of (Merge w))
-        (unread_from effect (tree_of n) (Merge v) (Merge w) (merge_apart (tree_of n) w v le)) (h w (omega (arith, e.1)))
+        (unread_from effect (tree_of n) (Merge v) (Merge w) tt tt (merge_apart (tree_of n) w v le)) (h w (omega (arith, e.1)))
   ]
 
   pub correct_keeps : (v : ℕ) → MergesClean s 0 → MergesClean (run_if_pending (net_over effect n) s (code_of (Correct v))) 0
   correct_keeps v h w le =
       run_keeps (net_over effect n) (is_net effect n) s a (code_of (Correct v)) (code_of (Merge w))
-      (unread_from effect (tree_of n) (Correct v) (Merge w) (correct_apart_merge (tree_of n) w v)) (h w le)
+      (unread_from effect (tree_of n) (Correct v) (Merge w) tt tt (correct_apart_merge (tree_of n) w v)) (h w le)
 
   pub correct_step : (v : ℕ) → CorrectsClean s v → CorrectsClean (run_if_pending (net_over effect n) s (code_of (Correct v))) (suc v)
   correct_step v h w lt = elim (eqb_tells w v) [
     | inl e ↦
         subst (λ u. (run_if_pending (net_over effect n) s (code_of (Correct v))).status (code_of (Correct u)) ≡ Clean) (sym e.1)
         (run_clean (net_over effect n) (is_net effect n) s a (code_of (Correct v))
-        (unread_from effect (tree_of n) (Correct v) (Correct v) (correct_apart (tree_of n) v v (omega arith))))
+        (unread_from effect (tree_of n) (Correct v) (Correct v) tt tt (correct_apart (tree_of n) v v (omega arith))))
     | inr e ↦
         run_keeps (net_over effect n) (is_net effect n) s a (code_of (Correct v)) (code_of (Correct w))
-        (unread_from effect (tree_of n) (Correct v) (Correct w) (correct_apart (tree_of n) w v (omega (arith, e.1)))) (h w (omega (arith, e.1)))
+        (unread_from effect (tree_of n) (Correct v) (Correct w) tt tt (correct_apart (tree_of n) w v (omega (arith, e.1)))) (h w (omega (arith, e.1)))
   ]
 
   pub swept_from : MergesClean s 0 → CorrectsClean s (nodes_over n) → IsSwept s

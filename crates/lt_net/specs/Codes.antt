@@ -1,7 +1,7 @@
 -- The codes of jobs.
 use Rattle.std.specs.Prelude.{ℕ, ◌*◌, ◌+◌, ◌-◌, ◌/◌, ◌%◌, ◌==◌, if◌then◌else◌}
 use Rattle.lt_net.specs.declared.job.JobName.{JobName}
-use Rattle.lt_net.specs.declared.job.JobName.TheVariants.{Leaf, Merge, Correct}
+use Rattle.lt_net.specs.declared.job.JobName.TheVariants.{Leaf, Merge, Correct, Pass}
 
 -- a number with one of three kinds, 0, 1 or 2, as one number
 abbrev pub with_kind : (number kind : ℕ) → ℕ
@@ -11,6 +11,14 @@ abbrev pub code_of : JobName → ℕ
 code_of (Leaf i) = 3 * i
 code_of (Merge v) = 3 * v + 1
 code_of (Correct v) = 3 * v + 2
+code_of (Pass s) = 2047
+
+-- the job is one of a tree: its code names it
+abbrev pub IsOfTree : JobName → Type 0
+IsOfTree (Leaf i) = Unit {0}
+IsOfTree (Merge v) = Unit {0}
+IsOfTree (Correct v) = Unit {0}
+IsOfTree (Pass s) = ⊥
 
 abbrev pub job_of : ℕ → JobName
 job_of code = if code % 3 == 0 then Leaf (code / 3) else (if code % 3 == 1 then Merge (code / 3) else Correct (code / 3))

@@ -7,3 +7,4 @@ pub mod Alone
 pub mod Line
 pub mod Row
 pub mod LineAlone
+pub mod Alike

@@ -4,7 +4,7 @@ use Rattle.std.specs.Option.{option_map}
 use Rattle.lt_model.specs.declared.mark.Mark.{Mark}
 use Rattle.lt_model.specs.Marks.{AreMarks, and_then}
 use Rattle.lt_net.specs.declared.job.JobName.{JobName}
-use Rattle.lt_net.specs.declared.job.JobName.TheVariants.{Leaf, Merge, Correct}
+use Rattle.lt_net.specs.declared.job.JobName.TheVariants.{Leaf, Merge, Correct, Pass}
 use Rattle.lt_net.specs.Net.{Cell, Correction, Effect, Net, State, same_cell, first_of, second_of}
 use Rattle.lt_net.specs.Codes.{code_of, job_of}
 
@@ -68,7 +68,7 @@ abbrev pub node_in : Option Tree → ℕ → ℕ
 node_in None i = 0
 node_in (Some t) i = node_of t i
 
--- ---- the jobs
+-- ---- the jobs. A tree has no Pass
 
 -- cells of an inner node, of which there are none without a right child
 abbrev pub if_inner : Option ℕ → (ℕ → List Cell) → List Cell
@@ -79,11 +79,13 @@ abbrev pub inputs_of : Option Tree → JobName → List Cell
 inputs_of t (Leaf i) = if nat_lt i (leaves_in t) then Correction (node_in t i) ∷ [] else []
 inputs_of t (Merge v) = if_inner (right_in t v) (λ right. Effect (v + 1) ∷ Effect right ∷ [])
 inputs_of t (Correct v) = if_inner (right_in t v) (λ right. Correction v ∷ Effect (v + 1) ∷ [])
+inputs_of t (Pass s) = []
 
 abbrev pub outputs_of : Option Tree → JobName → List Cell
 outputs_of t (Leaf i) = if nat_lt i (leaves_in t) then Effect (node_in t i) ∷ [] else []
 outputs_of t (Merge v) = if_inner (right_in t v) (λ right. Effect v ∷ [])
 outputs_of t (Correct v) = if_inner (right_in t v) (λ right. Correction (v + 1) ∷ Correction right ∷ [])
+outputs_of t (Pass s) = []
 
 -- what a job gives an output, of its inputs. `effect` is what each leaf does on a correction
 abbrev pub gives_of : (ℕ → List Mark → List Mark) → JobName → List (List Mark) → Cell → List Mark
@@ -91,11 +93,13 @@ gives_of effect (Leaf i) inputs x = effect i (first_of inputs)
 gives_of effect (Merge v) inputs x = and_then (first_of inputs) (second_of inputs)
 gives_of effect (Correct v) inputs x =
     if same_cell x (Correction (v + 1)) then first_of inputs else and_then (first_of inputs) (second_of inputs)
+gives_of effect (Pass s) inputs x = and_then (first_of inputs) (second_of inputs)
 
 abbrev pub is_leaf_job : Option Tree → JobName → Bool
 is_leaf_job t (Leaf i) = nat_lt i (leaves_in t)
 is_leaf_job t (Merge v) = false
 is_leaf_job t (Correct v) = false
+is_leaf_job t (Pass s) = false
 
 abbrev pub circuit_net : (ℕ → List Mark → List Mark) → Option Tree → Net
 circuit_net effect t = record {

@@ -15,7 +15,13 @@ pub enum JobState {
     Dirty,
 }
 
-/// A job by its leaf or its inner node.
+/// How many codes a segment of a line has. Segment s has those from s times so many.
+pub const CODES: u32 = 2048;
+
+/// The code of a Pass among its segment's. No job of a tree over the most leaves has it.
+pub const PASS: u32 = 2047;
+
+/// A job by its leaf, its inner node or its segment.
 #[derive(Clone, Copy, PartialEq, Eq)]
 pub enum JobName {
     /// Runs the leaf on the correction of its node, and gives the node's effect.
@@ -24,10 +30,12 @@ pub enum JobName {
     Merge(u32),
     /// Gives the children's corrections: the node's for the left one, for the right one with the left one's effect.
     Correct(u32),
+    /// Gives the correction of the next segment's root: that of its own segment's root, and then that root's effect.
+    Pass(u32),
 }
 
 impl JobName {
-    /// The job's code: three times the leaf or the node, plus 1 for a Merge and 2 for a Correct.
+    /// The job's code: three times the leaf or the node, plus 1 for a Merge and 2 for a Correct. A Pass has the last of its segment's.
     pub fn code(self) -> u32
         requires { code_of self < 2 ^ 32 }
         ensures { result ≡ code_of self }
@@ -36,10 +44,11 @@ impl JobName {
             JobName::Leaf(leaf) => 3 * leaf,
             JobName::Merge(node) => 3 * node + 1,
             JobName::Correct(node) => 3 * node + 2,
+            JobName::Pass(_segment) => PASS,
         }
     }
 
-    /// The job that a code names.
+    /// The job of a tree that a code names.
     pub fn of(code: u32) -> JobName
         ensures name { result ≡ job_of code }
         ensures code { code_of result ≡ code }

@@ -1,10 +1,14 @@
 //! What holds of a row of segments that start together, over every list of legal events.
-ghost use Rattle.std.specs.Prelude.{◌≡◌, ℕ, ◌+◌, ◌*◌, ◌<◌, ◌≤◌, true, List, [], Some, None, length};
+ghost use Rattle.std.specs.Prelude.{◌≡◌, ℕ, ◌+◌, ◌*◌, ◌<◌, ◌≤◌, true, List, [], ◌∷◌, Some, None, length};
 ghost use Rattle.lt_model.specs.declared.mark.Mark.{Mark};
+ghost use Rattle.lt_net.specs.declared.job.JobName.{JobName};
+ghost use Rattle.lt_net.specs.Alike.{AreAlike};
+ghost use Rattle.lt_net.specs.Codes.{code_of};
 ghost use Rattle.lt_net.specs.Kept.{IsKept, IsBare};
 ghost use Rattle.lt_net.specs.Net.{Claim, Correction, Event, State, IsReached, IsSettled, abandoned, claimed, finished, opening, replay, update};
 ghost use Rattle.lt_net.specs.Row.{row_claim, row_state, segment_net, with_pass, lifted, HasNoOther};
-ghost use Rattle.lt_net.specs.Line.{hands_on, line_net, placed, AreSizes, GiveMarksIn, IsSerialBelow, IsPast, IsSameBelow};
+ghost use Rattle.lt_net.specs.Tree.{circuit_net, tree_of, IsSerial};
+ghost use Rattle.lt_net.specs.Line.{Own, hands_on, line_code, line_net, placed, AreSizes, GiveMarksIn, IsSerialBelow, IsPast, IsSameBelow};
 
 /// In a settled row each leaf did what it does on the effects of all leaves before it, in all segments.
 pub fn settled_line_is_serial()
@@ -50,4 +54,18 @@ pub fn row_is_line()
     ensures passed { (effect : ℕ → List Mark → List Mark) (sizes : List ℕ) (count : ℕ) (parts : ℕ → State) (s w : ℕ) (c : Claim) → AreSizes sizes → s + 1 < count → hands_on sizes s ≡ true →
         c.job ≡ 2047 → HasNoOther count parts s w →
         row_state count (with_pass effect sizes parts s w c) ≡ finished (line_net effect sizes) (row_state count parts) w (lifted s c) }
+{}
+
+/// A line of one segment is the circuit of that tree, with the same codes and leaves: its jobs are the same, so it opens alike and the
+/// same events are legal and lead to the same states. What is serial of the one is so of the other.
+pub fn line_of_one_is_circuit()
+    ensures jobs { (effect : ℕ → List Mark → List Mark) (n : ℕ) → n ≤ 256 →
+        AreAlike (line_net effect (n ∷ [])) (circuit_net effect (tree_of n)) }
+    ensures codes { (name : JobName) → line_code (Own 0 name) ≡ code_of name }
+    ensures opening { (effect : ℕ → List Mark → List Mark) (n : ℕ) → n ≤ 256 →
+        opening (line_net effect (n ∷ [])) ≡ opening (circuit_net effect (tree_of n)) }
+    ensures replay { (effect : ℕ → List Mark → List Mark) (n : ℕ) (events : List Event) (s : State) → n ≤ 256 →
+        replay (line_net effect (n ∷ [])) (Some s) events ≡ replay (circuit_net effect (tree_of n)) (Some s) events }
+    ensures serial { (effect : ℕ → List Mark → List Mark) (n : ℕ) (s : State) → IsSerialBelow effect (n ∷ []) 1 s → IsSerial effect n s }
+    ensures below { (effect : ℕ → List Mark → List Mark) (n : ℕ) (s : State) → IsSerial effect n s → IsSerialBelow effect (n ∷ []) 1 s }
 {}

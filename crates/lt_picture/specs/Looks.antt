@@ -16,6 +16,7 @@ abbrev pub done_look : (ran : ℕ → Bool) → JobName → Look
 done_look ran (jobs.Leaf program) = run_look (ran program)
 done_look ran (jobs.Merge node) = looks.Merge
 done_look ran (jobs.Correct node) = looks.Correct
+done_look ran (jobs.Pass segment) = looks.Correct
 
 -- a job whose claim ended so
 abbrev pub look_by : (ran : ℕ → Bool) → JobName → Event → Look
@@ -28,3 +29,4 @@ abbrev pub name_by : {Name : Type 0} → List Name → JobName → Option Name
 name_by names (jobs.Leaf program) = slice_get names program
 name_by names (jobs.Merge node) = None
 name_by names (jobs.Correct node) = None
+name_by names (jobs.Pass segment) = None

@@ -36,6 +36,7 @@ fn put_job(text: &mut String, job: JobName, name: Option<&str>) -> Result<(), Al
         JobName::Leaf(leaf) => write!(text, "program {}", u64::from(leaf) + 1)?,
         JobName::Merge(node) => write!(text, "merge at node {node}")?,
         JobName::Correct(node) => write!(text, "correction at node {node}")?,
+        JobName::Pass(segment) => write!(text, "correction behind segment {segment}")?,
     }
     if let Some(name) = name {
         write!(text, " ({name})")?;

@@ -97,6 +97,7 @@ fn look_of(ran: &mut BTreeSet<u32>, job: JobName, event: Event) -> Result<Look, 
             JobName::Leaf(leaf) => run_of(ran, leaf),
             JobName::Merge(_) => Ok(Look::Merge),
             JobName::Correct(_) => Ok(Look::Correct),
+            JobName::Pass(_) => Ok(Look::Correct),
         },
     }
 }

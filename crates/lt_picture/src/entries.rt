@@ -40,6 +40,7 @@ fn has_job(programs: u32, job: JobName) -> bool
         JobName::Leaf(leaf) => leaf < programs,
         JobName::Merge(node) => is_inner(programs, node),
         JobName::Correct(node) => is_inner(programs, node),
+        JobName::Pass(_segment) => false,
     }
 }
 

@@ -7,6 +7,7 @@ use crate::plays::Turns;
 use crate::story::Story;
 use crate::view::View;
 use atomic_table::Table;
+use crossbeam_utils::sync::EventCount;
 use std::alloc::Global;
 
 mod numbers;
@@ -17,6 +18,10 @@ mod waits;
 #[derive(Drop)]
 pub struct Turn<T: Story> {
     table: Table<Option<T>, View<T::Opening>, Origin<T>, Turns<T>, Global>,
+    /// Told each time that the turn is given back.
+    freed: EventCount,
+    /// Told each time that it is given back with entries that the seat didn't give back before.
+    entered: EventCount,
     ghost sized: { (table.shared.table_id.words ≡ 1) × (table.shared.table_id.slots ≡ 1) },
 }
 

@@ -24,7 +24,7 @@ use Rattle.lt_circuit.specs.Claiming.{IsAnswer, IsCoded}
 use Rattle.lt_circuit.specs.Job.{JobView, claim_of_job}
 use Rattle.lt_circuit.specs.Line.{LineView, line_entry_code, line_event, line_state, IsLineReplay}
 use Rattle.lt_circuit.specs.LineClaiming.{IsLineAnswer, IsLineCoded}
-use Rattle.lt_circuit.specs.LineJob.{LineJobView, claim_of_line_job}
+use Rattle.lt_circuit.specs.LineJob.{claim_of_line_job}
 use Rattle.lt_circuit.specs.Row.{sizes}
 use Rattle.lt_circuit.proofs.Entries.{event_told, line_event_told}
 use Rattle.lt_workers.specs.Seen.{event_for, GaveUp, IsMove, IsStanding}
@@ -135,15 +135,15 @@ module _ {W T : Type 0} (does : W → ℕ → List Mark → List Mark) where
     others = λ v other. ap (λ (l : LineView W T). (line_state l).claim v) same;
   }
 
-  pub line_asked : (old new : LineView W T) (worker : ℕ) (answer : Claim (LineJobView W T)) → IsLineReplay (does old.work) old.row old.journal → IsLineReplay (does new.work) new.row new.journal
+  pub line_asked : (old new : LineView W T) (worker : ℕ) (answer : Claim (JobView W T)) → IsLineReplay (does old.work) old.row old.journal → IsLineReplay (does new.work) new.row new.journal
       → IsLineAnswer (does old.work) old new worker answer → IsMove (line_net_of does) worker (line_stand old) (line_stand new)
   line_asked old new worker (Job job) before after is = line_moved old new worker _ _ before after is.work is.leaves is.journal is.others
   line_asked old new worker (Busy n) before after is = line_still old new worker before after is.0
   line_asked old new worker Settled before after is = line_still old new worker before after is.0
   line_asked old new worker NoMemory before after is = line_still old new worker before after is
 
-  pub line_given : (old new : LineView W T) (worker : ℕ) (answer : Claim (LineJobView W T)) → AreSizes (sizes old.row) → IsLineReplay (does old.work) old.row old.journal → (line_state old).claim worker ≡ None
-      → IsLineAnswer (does old.work) old new worker answer → IsLineCoded answer → IsGiven claim_of_line_job (λ b (job : LineJobView W T). job.work ≡ b.work) (line_stand new) worker answer
+  pub line_given : (old new : LineView W T) (worker : ℕ) (answer : Claim (JobView W T)) → AreSizes (sizes old.row) → IsLineReplay (does old.work) old.row old.journal → (line_state old).claim worker ≡ None
+      → IsLineAnswer (does old.work) old new worker answer → IsLineCoded answer → IsGiven claim_of_line_job (λ b (job : JobView W T). job.work ≡ b.work) (line_stand new) worker answer
   line_given old new worker (Job job) small before free is coded = (is.held, is.of_work ∙ sym is.work, coded)
   line_given old new worker (Busy n) small before free is coded = ap (λ (l : LineView W T). (line_state l).claim worker) is.0 ∙ free
   line_given old new worker Settled small before free is coded =

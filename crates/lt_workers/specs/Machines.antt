@@ -11,7 +11,7 @@ use Rattle.lt_circuit.specs.Entry.{entry_code}
 use Rattle.lt_circuit.specs.Circuit.{CircuitView, state}
 use Rattle.lt_circuit.specs.Job.{JobView, OutputView, claim_of_job, claim_of_output, name_of_job, name_of_output, tallies_back, tallies_done}
 use Rattle.lt_circuit.specs.Line.{LineView, line_entry_code, line_state}
-use Rattle.lt_circuit.specs.LineJob.{LineJobView, LineOutputView, claim_of_line_job, claim_of_line_output, line_back, line_made}
+use Rattle.lt_circuit.specs.LineJob.{claim_of_line_job, claim_of_line_output}
 use Rattle.lt_circuit.specs.Row.{sizes}
 use Rattle.lt_workers.specs.declared.basis.Basis.{Basis}
 use Rattle.lt_workers.specs.declared.basis.LineBasis.{LineBasis}
@@ -62,13 +62,13 @@ abbrev pub line_net_of : {W : Type 0} → (W → ℕ → List Mark → List Mark
 line_net_of does b = line_net (does b.work) b.sizes
 
 -- this output was stored
-pub record IsLineFinished {W T : Type 0} (does : W → ℕ → List Mark → List Mark) (before after : LineView W T) (worker : ℕ) (output : LineOutputView W T) : Type 0 where
+pub record IsLineFinished {W T : Type 0} (does : W → ℕ → List Mark → List Mark) (before after : LineView W T) (worker : ℕ) (output : OutputView W T) : Type 0 where
   pub entry : after.journal ≡ before.journal ++ record { worker = worker; job = (claim_of_line_output output).job; event = Finish } ∷ []
   pub finishes : line_state after ≡ finished (line_net_of does (line_basis_of before)) (line_state before) worker (claim_of_line_output output)
-  pub tallies : after.tallies ≡ line_made output.did before.tallies
+  pub tallies : after.tallies ≡ tallies_done output.did before.tallies
 
 -- this job was given up
-pub record IsLineAbandoned {W T : Type 0} (before after : LineView W T) (worker : ℕ) (job : LineJobView W T) : Type 0 where
+pub record IsLineAbandoned {W T : Type 0} (before after : LineView W T) (worker : ℕ) (job : JobView W T) : Type 0 where
   pub entry : after.journal ≡ before.journal ++ record { worker = worker; job = (claim_of_line_job job).job; event = Abandon } ∷ []
   pub abandons : line_state after ≡ abandoned (line_state before) worker (claim_of_line_job job)
-  pub tallies : after.tallies ≡ line_back job.task before.tallies
+  pub tallies : after.tallies ≡ tallies_back job.task before.tallies

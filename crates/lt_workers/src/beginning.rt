@@ -48,12 +48,6 @@ fn called<M: Machine>(machine: &M, pace: &Pace, workers: u32, job: &M::Job) -> B
     Begun::On
 }
 
-// Whether a leaf's run is thought to be its last, so that its tally need not tell how dear it was. In walk order it is, while one
-// worker is alone. Where others may be called, some leaves are weighed.
-fn is_last(pace: &Pace, workers: u32, is_free: bool) -> bool {
-    workers < 2 || !pace.weighs(is_free)
-}
-
 // Passes the gate and does the job, which worker 0 claimed. No other claim stands.
 fn work_alone<R: Wait, M: Machine, G: Gate>(
     rt: &R,
@@ -61,7 +55,6 @@ fn work_alone<R: Wait, M: Machine, G: Gate>(
     job: M::Job,
     gate: &G,
     pace: &mut Pace,
-    workers: u32,
 ) -> Begun
     requires work { M.is_job_of (M.stand machine.old).basis job }
     requires claim { (M.stand machine.old).state.claim 0 ≡ Some (M.claim_of job) }
@@ -71,10 +64,9 @@ fn work_alone<R: Wait, M: Machine, G: Gate>(
 {
     gate.pass(rt, 0, M::code(&job));
     let mut moves: Moves<()> = Moves::new();
-    let is_last = is_last(pace, workers, M::is_free(&job));
-    match M::work(job, is_last, &mut moves) {
+    match M::work(job, &mut moves) {
         Ok(output) => {
-            pace.note::<M>(&output, is_last);
+            pace.note::<M>(&output);
             machine.end(0, output);
             Begun::On
         }
@@ -100,7 +92,7 @@ pub(crate) fn go_on_alone<R: Wait, M: Machine, G: Gate>(
         Claim::Job(given) => {
             let called = called(machine, pace, workers, &given);
             if called == Begun::On {
-                return work_alone(rt, machine, given, gate, pace, workers);
+                return work_alone(rt, machine, given, gate, pace);
             }
             machine.give_up(0, given);
             called

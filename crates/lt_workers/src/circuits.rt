@@ -81,8 +81,8 @@ impl<W: LeafWork> Machine for Circuit<W> {
         job.is_free()
     }
 
-    fn work(job: Job<W>, is_last: bool, moves: &mut Moves<()>) -> Result<Output<W>, Job<W>> {
-        job.work(is_last, moves)
+    fn work(job: Job<W>, moves: &mut Moves<()>) -> Result<Output<W>, Job<W>> {
+        job.work(moves)
     }
 
     fn weight(output: &Output<W>) -> Option<usize> {

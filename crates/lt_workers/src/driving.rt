@@ -61,7 +61,7 @@ where
             Claim::Settled => Some(Ended::Settled),
             Claim::NoMemory => Some(Ended::NoMemory),
             Claim::Busy { in_flight: _ } => {
-                self.turn.look_for_entries(seat);
+                self.turn.wait_for_entries(rt, seat);
                 None
             }
             Claim::Job(job) => self.take_up(rt, seat, job, gate, luck),
@@ -93,8 +93,7 @@ where
         self.work_on(rt, seat, job, gate, luck)
     }
 
-    // Passes the gate, does the job outside the turn, and ends the claim. No leaf before a free one has a bearing on it, so that its
-    // run is thought to be its last.
+    // Passes the gate, does the job outside the turn, and ends the claim.
     fn work_on<R: Wait, G: Gate>(
         &self,
         rt: &R,
@@ -114,8 +113,7 @@ where
     {
         gate.pass(rt, seat.first(), M::code(&job));
         let mut moves: Moves<()> = Moves::new();
-        let is_last = M::is_free(&job);
-        match M::work(job, is_last, &mut moves) {
+        match M::work(job, &mut moves) {
             Ok(output) => {
                 luck.note::<M>(seat.first(), gate.waits(), &output);
                 self.finish(rt, seat, output);

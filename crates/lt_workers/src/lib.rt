@@ -10,16 +10,14 @@
 //! first one hands on what is final between its jobs, by looks at the line in a turn without an event, and the others are as at a circuit.
 //! A seat keeps what it has seen to be past, as no later event changes that.
 //!
-//! Which worker takes what is in no clause. Worker 0 begins alone on the circuit itself, without a turn, in the order of the walk. Its
-//! leaves keep nothing of their runs (`LeafWork::work_last`), but where others may be called the first and one in eight do, and the second
-//! where it isn't free: these tell how dear they were (`LeafWork::weight`, for a program the gaps and hits of its senses). Where leaves
-//! are dear in the mean and enough of them is left (`pace`), the next leaf's job goes back, so that all inner jobs are done, and the
-//! others are called, no more than there are leaves. A leaf is *free* where no program before it in the batch writes a relation that it
-//! reads: what it does on the snapshot is final, so whoever runs it keeps nothing of its run. Others than worker 0 take the lowest free
-//! leaf that never ran, then the first inner job, then the first leaf on the walk. A leaf that isn't free runs early at a risk. Two such
-//! leaves are looked at first, whether the gaps of most of their run cover what their corrections mark (`LeafWork::is_tied`): where both
-//! are tied, free leaves alone are worth a call. Later a worker ends where more of its leaves ran again in vain than not (`Luck`). A gate
-//! that waits (`Gate::waits`) has all workers from the start.
+//! Which worker takes what is in no clause. Worker 0 begins alone on the circuit itself, without a turn, in the order of the walk. Each
+//! leaf that it ran tells how dear it was (`LeafWork::weight`, for a program how much its senses keep). Where leaves are dear in the mean
+//! and enough of them is left (`pace`), the next leaf's job goes back, so that all inner jobs are done, and the others are called, no more
+//! than there are leaves. A leaf is *free* where no program before it in the batch writes a relation that it reads: what it does on the
+//! snapshot is final. Others than worker 0 take the lowest free leaf that never ran, then the first inner job, then the first leaf on the
+//! walk. A leaf that isn't free runs early at a risk. Two such leaves are looked at first, whether the senses of most of their run cover
+//! what their corrections mark (`LeafWork::is_tied`): where both are tied, free leaves alone are worth a call. Later a worker ends where
+//! more of its leaves ran again in vain than not (`Luck`). A gate that waits (`Gate::waits`) has all workers from the start.
 #![tactic(auto)]
 
 mod basis;

@@ -6,15 +6,15 @@ ghost use Rattle.lt_workers.specs.Machines.{line_net_of, line_stand, IsLineAband
 
 use crate::basis::LineBasis;
 use crate::machine::Machine;
-use lt_circuit::{Claim, LeafWork, Line, LineJob, LineOutput, Spent};
+use lt_circuit::{Claim, Job, LeafWork, Line, Output, Spent};
 use lt_face::Moves;
 
 impl<W: LeafWork> Machine for Line<W> {
     type Basis = LineBasis<W>;
 
-    type Job = LineJob<W>;
+    type Job = Job<W>;
 
-    type Output = LineOutput<W>;
+    type Output = Output<W>;
 
     type Spent = Spent<W>;
 
@@ -48,7 +48,7 @@ impl<W: LeafWork> Machine for Line<W> {
         self.free_leaves()
     }
 
-    fn ask(&mut self, worker: u32) -> Claim<LineJob<W>> {
+    fn ask(&mut self, worker: u32) -> Claim<Job<W>> {
         let _before = self.journal();
         let _segments = self.segment_count();
         let answer = self.claim(worker);
@@ -56,49 +56,45 @@ impl<W: LeafWork> Machine for Line<W> {
         answer
     }
 
-    fn end(&mut self, worker: u32, output: LineOutput<W>) -> Spent<W> {
+    fn end(&mut self, worker: u32, output: Output<W>) -> Spent<W> {
         let _before = self.journal();
         let spent = self.finish(worker, output);
         let _after = self.journal();
         spent
     }
 
-    fn give_up(&mut self, worker: u32, job: LineJob<W>) -> Spent<W> {
+    fn give_up(&mut self, worker: u32, job: Job<W>) -> Spent<W> {
         let _before = self.journal();
         let spent = self.abandon(worker, job);
         let _after = self.journal();
         spent
     }
 
-    fn code(job: &LineJob<W>) -> u32 {
-        job.code()
+    fn code(job: &Job<W>) -> u32 {
+        job.line_code()
     }
 
-    fn is_leaf(job: &LineJob<W>) -> bool {
+    fn is_leaf(job: &Job<W>) -> bool {
         job.is_leaf()
     }
 
-    fn is_free(job: &LineJob<W>) -> bool {
+    fn is_free(job: &Job<W>) -> bool {
         job.is_free()
     }
 
-    fn work(
-        job: LineJob<W>,
-        is_last: bool,
-        moves: &mut Moves<()>,
-    ) -> Result<LineOutput<W>, LineJob<W>> {
-        job.work(is_last, moves)
+    fn work(job: Job<W>, moves: &mut Moves<()>) -> Result<Output<W>, Job<W>> {
+        job.work(moves)
     }
 
-    fn weight(output: &LineOutput<W>) -> Option<usize> {
+    fn weight(output: &Output<W>) -> Option<usize> {
         output.weight()
     }
 
-    fn is_tied(output: &LineOutput<W>) -> Option<bool> {
+    fn is_tied(output: &Output<W>) -> Option<bool> {
         output.is_tied()
     }
 
-    fn is_again(output: &LineOutput<W>) -> bool {
+    fn is_again(output: &Output<W>) -> bool {
         output.is_again()
     }
 }

@@ -96,7 +96,7 @@ pub trait Machine: Drop {
     fn is_free(job: &Self::Job) -> bool;
 
     /// Does the job, or gives it back where memory is refused.
-    fn work(job: Self::Job, is_last: bool, moves: &mut Moves<()>) -> Result<Self::Output, Self::Job>
+    fn work(job: Self::Job, moves: &mut Moves<()>) -> Result<Self::Output, Self::Job>
         ensures work { IfOk result (λ output. (b : Self.Basis) → is_job_of b job → is_output_of b output) }
         ensures claim { IfOk result (λ output. claim_by output ≡ claim_of job) }
         ensures err { IfErr result (λ same. same ≡ job) };

@@ -10,15 +10,11 @@ const WORTH: usize = 1024;
 /// How many leaves are looked at, whether they are tied to those before them.
 const LOOKS: u32 = 2;
 
-/// Of so many leaves one is weighed, and the first ones.
-const WEIGHED: u32 = 8;
-
 /// What is known of the leaves that one worker alone has run in their order.
 #[derive(Drop)]
 pub(crate) struct Pace {
     left: u32,
     ran: u32,
-    weighed: u32,
     weight: usize,
     loose: u32,
     tied: u32,
@@ -30,30 +26,19 @@ impl Pace {
         Pace {
             left: leaves,
             ran: 0,
-            weighed: 0,
             weight: 0,
             loose: 0,
             tied: 0,
         }
     }
 
-    /// Whether the next leaf is to be weighed. The first ones also tell whether they are tied to those before them, which isn't
-    /// asked of a free one.
-    pub(crate) fn weighs(&self, is_free: bool) -> bool {
-        self.ran % WEIGHED == 0 || (!is_free && self.ran < LOOKS)
-    }
-
-    /// A job is done. An inner node's tells nothing, and a leaf's last run only that it is done.
-    pub(crate) fn note<M: Machine>(&mut self, output: &M::Output, is_last: bool) {
+    /// A job is done. A leaf's tells how dear it was, and the first ones that aren't free whether they are tied to those before them.
+    pub(crate) fn note<M: Machine>(&mut self, output: &M::Output) {
         let Some(weight) = M::weight(output) else {
             return;
         };
         self.ran = self.ran.saturating_add(1);
         self.left = self.left.saturating_sub(1);
-        if is_last {
-            return;
-        }
-        self.weighed = self.weighed.saturating_add(1);
         self.weight = self.weight.saturating_add(weight);
         if self.is_worth(self.left) && self.loose.saturating_add(self.tied) < LOOKS {
             self.note_tie(M::is_tied(output));
@@ -75,7 +60,7 @@ impl Pace {
 
     /// Whether so many leaves are worth to be run ahead.
     pub(crate) fn is_worth(&self, leaves: u32) -> bool {
-        let ran = self.weighed as usize;
+        let ran = self.ran as usize;
         if ran == 0 || leaves < 2 || self.weight < ran.saturating_mul(DEAR) {
             return false;
         }

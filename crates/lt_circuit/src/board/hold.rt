@@ -16,9 +16,6 @@ use crate::cells::{Held, Inputs};
 use lt_delta::Marks;
 use lt_net::{JobName, JobState};
 
-// The Pass has the code of the Merge of this node, which no tree over the most leaves has.
-const PASS: u32 = 682;
-
 impl Board {
     /// The worker holds the job, on inputs that stand now.
     pub fn hold(&mut self, worker: u32, job: JobName, inputs: Inputs, prior: Option<Marks>)
@@ -59,7 +56,7 @@ impl Board {
     {
         let _leaves = self.leaves;
         let held = Held {
-            job: JobName::Merge(PASS),
+            job: JobName::Pass(0),
             inputs,
             prior: None,
         };

@@ -63,6 +63,7 @@ impl Board {
             JobName::Leaf(leaf) => self.leaf_correction(leaf),
             JobName::Merge(node) => self.effects_below(node),
             JobName::Correct(node) => self.correction_and_left(node),
+            JobName::Pass(_segment) => unreachable!(),
         }
     }
 
@@ -78,6 +79,7 @@ impl Board {
             }
             JobName::Merge(_node) => Ok(None),
             JobName::Correct(_node) => Ok(None),
+            JobName::Pass(_segment) => Ok(None),
         }
     }
 

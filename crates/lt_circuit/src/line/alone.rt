@@ -17,13 +17,7 @@ use super::Line;
 use crate::claim::This;
 use crate::work::LeafWork;
 use lt_face::{Moves, NoMemory};
-use lt_net::{JobName, nodes_over};
-
-/// The place of a Pass among its segment's codes.
-const PASS: u32 = 2047;
-
-/// How many codes a segment has.
-const CODES: u32 = 2048;
+use lt_net::{CODES, JobName, PASS, nodes_over};
 
 impl<W: LeafWork> Line<W> {
     /// How many segments there are.
@@ -60,7 +54,7 @@ impl<W: LeafWork> Line<W> {
             This::NoMemory => Err(NoMemory),
             This::Job(job) => {
                 let mut moves: Moves<()> = Moves::new();
-                match job.work(true, &mut moves) {
+                match job.work(&mut moves) {
                     Ok(output) => {
                         drop(self.finish(0, output));
                         Ok(())

@@ -12,13 +12,15 @@ use super::{Line, LineEntry};
 use crate::claim::{Claim, This};
 use crate::claims::share_work;
 use crate::entry::Event;
-use crate::line_job::{LineJob, take_line_task};
+use crate::job::Job;
+use crate::number::name_at;
+use crate::task::take_task;
 use crate::work::LeafWork;
 use lt_face::NoMemory;
 
 impl<W: LeafWork> Line<W> {
     /// Claims a Pending job. It first takes the journal's room for its own entry and its end.
-    fn take(&mut self, worker: u32, code: u32) -> Result<LineJob<W>, NoMemory>
+    fn take(&mut self, worker: u32, code: u32) -> Result<Job<W>, NoMemory>
         requires worker { worker < most_workers }
         requires free { (line_state self.old).claim worker ≡ None }
         requires pending { (line_state self.old).status code ≡ Pending }
@@ -33,13 +35,13 @@ impl<W: LeafWork> Line<W> {
         self.journal.reserve(in_flight as usize + 2)?;
         self.row
             .hold_at(worker, code, captured.held, captured.prior);
-        let task = take_line_task(&mut self.tallies, code, captured.given);
+        let task = take_task(&mut self.tallies, name_at(code), captured.given);
         self.journal.push_reserved(LineEntry {
             worker,
             job: code,
             event: Event::Claim,
         });
-        Ok(LineJob { work, task })
+        Ok(Job { work, task })
     }
 
     // Whether the job of this code is Pending. A code that is no job's isn't.
@@ -66,7 +68,7 @@ impl<W: LeafWork> Line<W> {
 
     /// Claims a job that is Pending, if any: one of the first segment that has one, its Pass where no other job of it is Pending.
     /// Others than worker 0 first take leaves of any segment that hang on none before them.
-    pub fn claim(&mut self, worker: u32) -> Claim<LineJob<W>>
+    pub fn claim(&mut self, worker: u32) -> Claim<Job<W>>
         requires worker { worker < most_workers }
         requires free { (line_state self.old).claim worker ≡ None }
         ensures answer { IsLineAnswer (W.does self.old.work) self.old self.new worker result }
@@ -89,7 +91,7 @@ impl<W: LeafWork> Line<W> {
     }
 
     /// Claims the job of this code, if it is Pending.
-    pub fn claim_this(&mut self, worker: u32, code: u32) -> This<LineJob<W>>
+    pub fn claim_this(&mut self, worker: u32, code: u32) -> This<Job<W>>
         requires worker { worker < most_workers }
         requires free { (line_state self.old).claim worker ≡ None }
         ensures { IsLineThis (W.does self.old.work) self.old self.new worker code result }

@@ -9,25 +9,25 @@ ghost use Rattle.lt_net.specs.Line.{line_inputs, line_job, line_net};
 ghost use Rattle.lt_net.specs.Row.{HasNoOther};
 ghost use Rattle.lt_net.specs.declared.job.JobName.TheVariants.{Leaf};
 ghost use Rattle.lt_net.specs.declared.job.JobState.TheVariants.{Running};
-ghost use Rattle.lt_circuit.specs.declared.task.Done.{Done as DoneType};
-ghost use Rattle.lt_circuit.specs.declared.line_job.LineDone.TheVariants.{Tree as TreeDone};
 ghost use Rattle.lt_circuit.specs.declared.entry.Event.TheVariants.{Finish, Abandon};
-ghost use Rattle.lt_circuit.specs.Job.{done_inputs, done_name, tallies_done, Gave};
+ghost use Rattle.lt_circuit.specs.Job.{done_inputs, done_name, tallies_back, tallies_done, Gave};
 ghost use Rattle.lt_circuit.specs.Line.{line_state, number_code, number_segment};
-ghost use Rattle.lt_circuit.specs.LineJob.{claim_of_line_job, claim_of_line_output, line_back, line_done_claim, line_made, LineGave};
+ghost use Rattle.lt_circuit.specs.LineJob.{claim_of_line_job, claim_of_line_output};
 ghost use Rattle.lt_circuit.specs.Row.{parts, row_of, sizes, HasChangedClaim};
 
 use super::{Line, LineEntry};
 use crate::cells::Stood;
 use crate::ends::Spent;
 use crate::entry::Event;
-use crate::line_job::{LineDone, LineJob, LineOutput, give_line_back};
+use crate::job::Job;
+use crate::number::number_code;
+use crate::output::Output;
 use crate::row::Row;
-use crate::task::{Done, Prior, Used};
+use crate::task::{Done, Prior, Used, give_back};
 use crate::work::LeafWork;
 
-/// What a tree's job did stands in its segment's tables, and a leaf's tally in its place.
-fn store_in_tree<T: Drop>(
+/// What was done stands in its segment's tables, a Pass's in those of the next segment, and a leaf's tally in its place.
+fn store_in_line<T: Drop>(
     row: &mut Row,
     tallies: &mut Vec<Option<Prior<T>>>,
     worker: u32,
@@ -45,6 +45,7 @@ fn store_in_tree<T: Drop>(
         row_of row.new ≡ finished (line_net does (sizes row.old)) (row_of row.old) worker claim }
     ensures tallies { tallies.new.items ≡ tallies_done did tallies.old.items }
 {
+    let _segments = row.count();
     match did {
         Done::Leaf {
             leaf,
@@ -90,32 +91,7 @@ fn store_in_tree<T: Drop>(
             };
             (stood, used)
         }
-    }
-}
-
-/// What was done stands in the tables: a Pass's in those of the next segment.
-fn store_in_line<T: Drop>(
-    row: &mut Row,
-    tallies: &mut Vec<Option<Prior<T>>>,
-    worker: u32,
-    did: LineDone<T>,
-) -> (Stood, Used<T>)
-    requires worker { worker < most_workers }
-    requires job { line_inputs (sizes row.old) (line_job (line_done_claim did).job) ≢ [] }
-    requires current { (row_of row.old).status (line_done_claim did).job ≡ Running →
-        (line_done_claim did).inputs ≡ read (row_of row.old).value (line_inputs (sizes row.old) (line_job (line_done_claim did).job)) }
-    requires alone { HasNoOther (length row.old) (parts row.old) ((line_done_claim did).job / 2048) worker }
-    requires tallies { (tree : DoneType T) (leaf : ℕ) → did ≡ TreeDone tree → done_name tree ≡ Leaf leaf → leaf < length tallies.old.items }
-    ensures sizes { sizes row.new ≡ sizes row.old }
-    ensures claims { HasChangedClaim ((line_done_claim did).job / 2048) worker None row.old row.new }
-    ensures state { (does : ℕ → List Mark → List Mark) → LineGave does did →
-        row_of row.new ≡ finished (line_net does (sizes row.old)) (row_of row.old) worker (line_done_claim did) }
-    ensures tallies { tallies.new.items ≡ line_made did tallies.old.items }
-{
-    let _segments = row.count();
-    match did {
-        LineDone::Tree(did) => store_in_tree(row, tallies, worker, did),
-        LineDone::Pass {
+        Done::Pass {
             segment,
             correction,
             effect,
@@ -134,7 +110,7 @@ fn store_in_line<T: Drop>(
 
 impl<W: LeafWork> Line<W> {
     /// The worker's job is done, and this is its output.
-    pub fn finish(&mut self, worker: u32, output: LineOutput<W>) -> Spent<W>
+    pub fn finish(&mut self, worker: u32, output: Output<W>) -> Spent<W>
         requires worker { worker < most_workers }
         requires work { output.work ≡ self.old.work }
         requires claim { (line_state self.old).claim worker ≡ Some (claim_of_line_output output) }
@@ -143,11 +119,12 @@ impl<W: LeafWork> Line<W> {
         ensures state { line_state self.new ≡ finished (line_net (W.does self.old.work) (sizes self.old.row)) (line_state self.old) worker (claim_of_line_output output) }
         ensures others { (v : ℕ) → v ≢ worker → (line_state self.new).claim v ≡ (line_state self.old).claim v }
         ensures journal { self.new.journal ≡ self.old.journal ++ record { worker = worker; job = (claim_of_line_output output).job; event = Finish } ∷ [] }
-        ensures tallies { self.new.tallies ≡ line_made output.did self.old.tallies }
+        ensures tallies { self.new.tallies ≡ tallies_done output.did self.old.tallies }
     {
         let _segments = self.row.count();
-        let LineOutput { work, did } = output;
-        let job = did.code();
+        let Output { work, did } = output;
+        let name = did.name();
+        let job = number_code(name);
         let (stood, used) = store_in_line(&mut self.row, &mut self.tallies, worker, did);
         self.journal.push_reserved(LineEntry {
             worker,
@@ -158,7 +135,7 @@ impl<W: LeafWork> Line<W> {
     }
 
     /// The worker gives its job up, and the tally that a leaf's claim took goes back.
-    pub fn abandon(&mut self, worker: u32, job: LineJob<W>) -> Spent<W>
+    pub fn abandon(&mut self, worker: u32, job: Job<W>) -> Spent<W>
         requires worker { worker < most_workers }
         requires work { job.work ≡ self.old.work }
         requires claim { (line_state self.old).claim worker ≡ Some (claim_of_line_job job) }
@@ -167,13 +144,14 @@ impl<W: LeafWork> Line<W> {
         ensures state { line_state self.new ≡ abandoned (line_state self.old) worker (claim_of_line_job job) }
         ensures others { (v : ℕ) → v ≢ worker → (line_state self.new).claim v ≡ (line_state self.old).claim v }
         ensures journal { self.new.journal ≡ self.old.journal ++ record { worker = worker; job = (claim_of_line_job job).job; event = Abandon } ∷ [] }
-        ensures tallies { self.new.tallies ≡ line_back job.task self.old.tallies }
+        ensures tallies { self.new.tallies ≡ tallies_back job.task self.old.tallies }
     {
         let _segments = self.row.count();
-        let LineJob { work, task } = job;
-        let code = task.code();
+        let Job { work, task } = job;
+        let name = task.name();
+        let code = number_code(name);
         let held = self.row.abandon_at(worker, code);
-        let used = give_line_back(&mut self.tallies, task);
+        let used = give_back(&mut self.tallies, task);
         self.journal.push_reserved(LineEntry {
             worker,
             job: code,

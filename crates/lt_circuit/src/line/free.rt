@@ -8,7 +8,7 @@ ghost use Rattle.lt_circuit.specs.Row.{most_segments};
 
 use super::Line;
 use crate::work::LeafWork;
-use lt_net::JobName;
+use lt_net::{CODES, JobName};
 
 impl<W: LeafWork> Line<W> {
     /// How many leaves all segments have.
@@ -56,7 +56,7 @@ impl<W: LeafWork> Line<W> {
         ensures { IfSome result (λ code. (line_state self.now).status code ≡ Pending) }
     {
         for leaf in 0..self.row.leaves(s) {
-            let code = 2048 * s + JobName::Leaf(leaf).code();
+            let code = CODES * s + JobName::Leaf(leaf).code();
             if self.is_free(s, leaf) && self.is_pending(code) {
                 return Some(code);
             }

@@ -15,7 +15,7 @@ ghost use Rattle.lt_circuit.specs.Segment.{SegmentView};
 use super::Row;
 use crate::cells::{Held, Inputs};
 use lt_delta::Marks;
-use lt_net::JobName;
+use lt_net::{CODES, JobName, PASS};
 
 impl Row {
     /// The worker holds the job of this code, on inputs that stand now.
@@ -31,9 +31,9 @@ impl Row {
             row_of self.new ≡ claimed (line_net does (sizes self.old)) (row_of self.old) worker code }
     {
         let _segments = self.segments.len();
-        let s = code / 2048;
-        let place = code % 2048;
-        if place == 2047 {
+        let s = code / CODES;
+        let place = code % CODES;
+        if place == PASS {
             self.hold_pass(s, worker, inputs);
             return;
         }
@@ -50,9 +50,9 @@ impl Row {
         ensures state { (claim : Claim) → claim.job ≡ code → row_of self.new ≡ abandoned (row_of self.old) worker claim }
     {
         let _segments = self.segments.len();
-        let s = code / 2048;
-        let place = code % 2048;
-        if place == 2047 {
+        let s = code / CODES;
+        let place = code % CODES;
+        if place == PASS {
             return self.abandon_pass(s, worker);
         }
         self.abandon(s, worker, JobName::of(place))

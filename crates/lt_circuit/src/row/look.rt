@@ -15,7 +15,7 @@ use crate::cells::Captured;
 use crate::segment::Segment;
 use lt_delta::Marks;
 use lt_face::NoMemory;
-use lt_net::JobName;
+use lt_net::{CODES, JobName, PASS};
 
 /// How many claims stand in these segments.
 fn claims_in(segments: &[Segment]) -> u32
@@ -116,9 +116,9 @@ impl Row {
     pub fn is_pending(&self, code: u32) -> bool
         ensures { IsTrue result ↔ ((row_of self.now).status code ≡ Pending) }
     {
-        let s = (code / 2048) as usize;
+        let s = (code / CODES) as usize;
         if s < self.segments.len() {
-            return self.segments[s].is_pending(code % 2048);
+            return self.segments[s].is_pending(code % CODES);
         }
         false
     }
@@ -142,7 +142,7 @@ impl Row {
             return None;
         }
         match self.segments[s].next_pending(worker) {
-            Some(place) => Some(2048 * s as u32 + place),
+            Some(place) => Some(CODES * s as u32 + place),
             None => None,
         }
     }
@@ -154,9 +154,9 @@ impl Row {
         ensures given { IfOk result (λ captured. captured.given ≡ captured.held) }
         ensures prior { IfOk result (λ captured. captured.prior ≡ (row_of self.now).done code) }
     {
-        let segment = &self.segments[(code / 2048) as usize];
-        let place = code % 2048;
-        if place == 2047 {
+        let segment = &self.segments[(code / CODES) as usize];
+        let place = code % CODES;
+        if place == PASS {
             return segment.capture_pass();
         }
         segment.capture(JobName::of(place))

@@ -15,10 +15,7 @@ use super::Segment;
 use crate::cells::{Captured, Inputs};
 use lt_delta::Marks;
 use lt_face::NoMemory;
-use lt_net::{JobName, JobState};
-
-/// The place of the Pass among a segment's codes.
-const PASS: u32 = 2047;
+use lt_net::{JobName, JobState, PASS};
 
 /// The place of a Pass that is Pending.
 fn pending_pass(pass: JobState) -> Option<u32>

@@ -11,12 +11,12 @@ use crate::origin::Origin;
 use crate::plays::{Compare, Free, Try};
 use crate::story::Story;
 use atomic_table::{Refused, Table};
+use crossbeam_utils::sync::EventCount;
 use lt_face::NoMemory;
 use std::alloc::Global;
 use std::marker::Brand;
 use std::snapshot::Snapshot;
 use std::sync::Wait;
-use std::thread::yield_now;
 
 impl<T: Story> Turn<T> {
     /// A turn over the value, and the seat that has all numbers.
@@ -39,7 +39,11 @@ impl<T: Story> Turn<T> {
         slots.push_reserved(Some(value));
         match Table::new(alloc, &[word], slots, &origin) {
             Ok((table, token)) => Ok((
-                Turn { table },
+                Turn {
+                    table,
+                    freed: EventCount::new(),
+                    entered: EventCount::new(),
+                },
                 Seat {
                     token,
                     first: 0,
@@ -88,9 +92,7 @@ impl<T: Story> Turn<T> {
             if let Some(value) = self.try_take(&mut seat.token) {
                 return value;
             }
-            if !self.is_soon_free() {
-                yield_now();
-            }
+            self.wait_till_free(rt);
         }
         unreachable!()
     }
@@ -112,6 +114,7 @@ impl<T: Story> Turn<T> {
             Some(_) => unreachable!(),
         }
         shared.store::<Free<T>>(&mut seat.token, 0, word);
+        self.tell(left != seat.left);
         seat.left = left;
     }
 
@@ -176,7 +179,11 @@ impl<T: Story> Turn<T> {
         ensures journal { T.journal result ≡ (view seat).seen }
         ensures goes_on { GoesOn (view seat).workers (view seat).begun (view seat).seen }
     {
-        let Self { table } = self;
+        let Self {
+            table,
+            freed: _,
+            entered: _,
+        } = self;
         let mut closed = table.close_with(seat.into_token());
         let value = closed.take(0);
         closed.free();

@@ -20,4 +20,4 @@ returns-in_ok-prior-in-Leaf c =
     let here : c.in-Leaf.leaf < length b.done.items = omega (arith, there, c.self.invariant.done_there) in
     rw (← c.self.view_is)
     (c.in_ok-prior-in-Leaf.ensures ∙ c.index.ensures ∙ get_or_default b.done.items c.in-Leaf.leaf c.index.result.now None here
-    ∙ ap (done_of b.done.items) (sym (job_of-code (Leaf c.in-Leaf.leaf)) ∙ ap (λ n. job_of (code_of n)) (sym c.in-Leaf.is)))
+    ∙ ap (done_of b.done.items) (sym (job_of-code (Leaf c.in-Leaf.leaf) tt) ∙ ap (λ n. job_of (code_of n)) (sym c.in-Leaf.is)))

@@ -4,7 +4,7 @@ use Rattle.lt_circuit.specs.Board.{state_of}
 use Rattle.lt_net.specs.Tree.{inputs_of, tree_of}
 use Rattle.lt_net.proofs.Codes.{job_of-code}
 use Rattle.lt_circuit.specs.Job.{done_name}
-use Rattle.lt_circuit.proofs.Steps.{other_claim, claim_of_done, finish_circuit, done_busy, is_there, kept, end_fits}
+use Rattle.lt_circuit.proofs.Steps.{other_claim, claim_of_done, finish_circuit, done_busy, is_own, is_there, kept, end_fits}
 use Rattle.lt_circuit.proofs.circuit.Circuit.finish.Goals as goal
 
 pub store-stood-requires-clause-job : goal.store-stood-requires-clause-job
@@ -19,7 +19,7 @@ store-stood-requires-clause-current g c = λ running.
     let did = c.output.inside.did in
     let b = c.self.inside.board in
     (kept _ _ _ _ _ _ _ _ _ c.self.invariant).current c.args.worker (claim_of_done did) cl running
-    ∙ ap (λ name. read (state_of b).value (inputs_of (tree_of b.leaves) name)) (job_of-code (done_name did))
+    ∙ ap (λ name. read (state_of b).value (inputs_of (tree_of b.leaves) name)) (job_of-code (done_name did) (is_own _ _ _ _ _ _ _ _ _ c.self.invariant (done_name did) (done_busy _ _ _ _ _ _ _ _ _ c.self.invariant c.args.worker did cl)))
 
 pub store-stood-requires-clause-tallies : goal.store-stood-requires-clause-tallies
 store-stood-requires-clause-tallies g c = c.self.invariant.tallies_long

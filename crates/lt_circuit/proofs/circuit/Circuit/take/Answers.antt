@@ -9,7 +9,7 @@ use Rattle.lt_net.specs.Tree.{inputs_of, tree_of}
 use Rattle.lt_net.specs.Codes.{code_of}
 use Rattle.lt_circuit.specs.Board.{inputs_list, standing, state_of}
 use Rattle.lt_net.proofs.Fitting.{all_read}
-use Rattle.lt_circuit.proofs.Steps.{all_fit, claim_circuit, is_inside, is_there, leaf_there, pending_busy, roomier}
+use Rattle.lt_circuit.proofs.Steps.{all_fit, claim_circuit, is_inside, is_own, is_there, leaf_there, pending_busy, roomier}
 use Rattle.lt_circuit.proofs.Tasks.{from_fits, inputs_long, is_claimed}
 use Rattle.lt_circuit.proofs.circuit.Circuit.take.Goals as goal
 
@@ -77,7 +77,7 @@ returns-clause-ok g c =
     let more = c.push_reserved.ensures.items ∙ ap (λ xs. xs ++ record { worker = c.args.worker; job = name; event = Claim } ∷ []) c.in_ok-reserve.ensures.items in
     rw (← c.self.view_is) (is_claimed (g.W.LeafWork.stands_for w) (g.W.LeafWork.fits w) does w (arc_value c.in_ok-work.work) b c.hold.new.self c.self.inside.journal.items c.push_reserved.new.self.items
     c.self.inside.tallies.items c.self.invariant.are_tallies c.args.worker name c.in_ok-captured.captured.given c.take_task-task.result c.take_task-task.new.tallies.items
-    c.in_ok-work.ensures c.take_task-task.ensures.task c.hold.ensures.leaves pending long given (c.hold.ensures.state does) more c.take_task-task.ensures.tallies)
+    (is_own _ _ _ _ _ _ _ _ _ c.self.invariant name busy) c.in_ok-work.ensures c.take_task-task.ensures.task c.hold.ensures.leaves pending long given (c.hold.ensures.state does) more c.take_task-task.ensures.tallies)
 
 pub invariant_of-self : goal.invariant_of-self
 invariant_of-self g c =

@@ -12,12 +12,12 @@ use Rattle.lt_circuit.proofs.line.Line.run_if_pending.Goals as goal
 pub returns-in-Ok-clause-ran : goal.returns-in-Ok-clause-ran
 returns-in-Ok-clause-ran g c =
     line_ran g.W.LeafWork.does c.args.self.now c.claim_this.new.self c.in-Job.job c.args.code c.in-Job.ensures.0 c.in-Job.ensures.1
-    (line_state c.finish.new.self) (claim_of_line_output c.in-Ok.output) c.in-Ok.ensures.claim c.finish.ensures.state
+    (line_state c.finish.new.self) (claim_of_line_output c.in-Ok.output) c.in-Ok.ensures.line_claim c.finish.ensures.state
 
 pub returns-in-Ok-clause-free : goal.returns-in-Ok-clause-free
 returns-in-Ok-clause-free g c =
     line_ran_free g.W.LeafWork.does c.args.self.now c.claim_this.new.self c.in-Job.job c.args.code c.in-Job.ensures.0 c.in-Job.ensures.1
-    (line_state c.finish.new.self) (claim_of_line_output c.in-Ok.output) c.in-Ok.ensures.claim c.finish.ensures.state c.requires.free
+    (line_state c.finish.new.self) (claim_of_line_output c.in-Ok.output) c.in-Ok.ensures.line_claim c.finish.ensures.state c.requires.free
 
 pub returns-in-Err-clause-free : goal.returns-in-Err-clause-free
 returns-in-Err-clause-free g c =

@@ -8,6 +8,7 @@ use Rattle.lt_net.specs.Net.{read}
 use Rattle.lt_net.proofs.Fitting.{all_read}
 use Rattle.lt_circuit.specs.declared.entry.Event.TheVariants.{Claim}
 use Rattle.lt_circuit.specs.Board.{inputs_list}
+use Rattle.lt_circuit.specs.Job.{arity, tallies_left, task_from}
 use Rattle.lt_circuit.specs.Row.{HasChangedClaim, row_of, sizes, standing_in}
 use Rattle.lt_circuit.proofs.LineClaims.{changed_claim}
 use Rattle.lt_circuit.proofs.LineSteps.{claim_line, is_in_row, is_some, line_busy, roomier_line}
@@ -30,29 +31,29 @@ hold_at-requires-clause-job g c =
     let free : (row_of row).claim c.args.worker ≡ None = rw (← c.self.view_is) at c.requires.free in
     is_some _ _ _ _ _ _ _ _ _ c.self.invariant c.args.code (line_busy _ _ _ _ _ _ _ _ _ c.self.invariant c.args.worker c.args.code free pending)
 
-pub take_line_task-task-requires-clause-small : goal.take_line_task-task-requires-clause-small
-take_line_task-task-requires-clause-small g c =
+pub name_at-requires : goal.name_at-requires
+name_at-requires g c =
     let row = c.self.inside.row in
     let pending : (row_of row).status c.args.code ≡ Pending = rw (← c.self.view_is) at c.requires.pending in
     let free : (row_of row).claim c.args.worker ≡ None = rw (← c.self.view_is) at c.requires.free in
     let inside = is_in_row _ _ _ _ _ _ _ _ _ c.self.invariant c.args.code (line_busy _ _ _ _ _ _ _ _ _ c.self.invariant c.args.worker c.args.code free pending) in
     omega (arith, inside, c.count-segments.ensures.count, c.count-segments.ensures.few)
 
-pub take_line_task-task-requires-clause-leaf : goal.take_line_task-task-requires-clause-leaf
-take_line_task-task-requires-clause-leaf g c =
+pub take_task-task-requires-clause-leaf : goal.take_task-task-requires-clause-leaf
+take_task-task-requires-clause-leaf g c =
     let row = c.self.inside.row in
     let pending : (row_of row).status c.args.code ≡ Pending = rw (← c.self.view_is) at c.requires.pending in
     let free : (row_of row).claim c.args.worker ≡ None = rw (← c.self.view_is) at c.requires.free in
-    line_leaf_is_there _ _ _ _ _ _ _ _ _ c.self.invariant c.args.worker c.args.code free pending
+    λ leaf e. line_leaf_is_there _ _ _ _ _ _ _ _ _ c.self.invariant c.args.worker c.args.code free pending leaf (sym c.name_at.ensures ∙ e)
 
-pub take_line_task-task-requires-clause-inputs : goal.take_line_task-task-requires-clause-inputs
-take_line_task-task-requires-clause-inputs g c =
+pub take_task-task-requires-clause-inputs : goal.take_task-task-requires-clause-inputs
+take_task-task-requires-clause-inputs g c =
     let row = c.self.inside.row in
     let pending : (row_of row).status c.args.code ≡ Pending = rw (← c.self.view_is) at c.requires.pending in
     let free : (row_of row).claim c.args.worker ≡ None = rw (← c.self.view_is) at c.requires.free in
     let some = is_some _ _ _ _ _ _ _ _ _ c.self.invariant c.args.code (line_busy _ _ _ _ _ _ _ _ _ c.self.invariant c.args.worker c.args.code free pending) in
     let given : inputs_list c.in_ok-captured.captured.given ≡ read (row_of row).value (line_inputs (sizes row) (line_job c.args.code)) = ap inputs_list c.in_ok-captured.ensures.given ∙ c.in_ok-captured.ensures.held in
-    ap length given ∙ line_long (sizes row) c.self.invariant.small.few c.args.code some (row_of row).value
+    ap length given ∙ line_long (sizes row) c.self.invariant.small.few c.args.code some (row_of row).value ∙ ap arity (sym c.name_at.ensures)
 
 pub invariant_of-result : goal.invariant_of-result
 invariant_of-result g c =
@@ -66,7 +67,7 @@ invariant_of-result g c =
     let long = ap length given ∙ line_long (sizes row) c.self.invariant.small.few c.args.code some (row_of row).value in
     let cells = (line_all_fit _ _ _ _ _ _ _ _ _ c.self.invariant (laws.empty_fits w) (laws.then_fits w) (laws.does_fits w)).cells in
     let all = subst (AllByRecursion (g.W.LeafWork.fits w)) (sym given) (all_read (g.W.LeafWork.fits w) (row_of row).value (line_inputs (sizes row) (line_job c.args.code)) cells) in
-    rw (c.in_ok-work.ensures, c.take_line_task-task.ensures.task)
+    rw (c.in_ok-work.ensures, c.take_task-task.ensures.task, c.name_at.ensures)
     (line_from_fits _ _ _ _ _ _ _ _ _ c.self.invariant c.args.worker c.args.code free pending c.in_ok-captured.captured.given long all)
 
 pub invariant_of-self-2 : goal.invariant_of-self-2
@@ -80,7 +81,7 @@ invariant_of-self-2 g c =
     let changed = subst (HasChangedClaim (c.args.code / 2048) c.args.worker (Some k.1) row) (sym k.2) (changed_claim row (c.args.code / 2048) c.args.worker (Some k.1) k.0 inside k.3) in
     let room : vec_len c.self.inside.journal + standing_in row + 2 ≤ vec_capacity c.reserve.new.self = omega (arith, c.in_ok-reserve.ensures.ok, c.in_flight-in_flight.ensures) in
     let r = claim_line _ _ _ _ _ _ _ _ _ c.self.invariant c.args.worker c.args.code free pending c.hold_at.new.self k.1 (vec_capacity c.reserve.new.self) c.hold_at.ensures.sizes (c.hold_at.ensures.state does) changed room in
-    rw (c.push_reserved.ensures.items, c.push_reserved.ensures.len, c.push_reserved.ensures.capacity, c.in_ok-reserve.ensures.items, c.in_ok-reserve.ensures.len, c.take_line_task-task.ensures.tallies) r
+    rw (c.push_reserved.ensures.items, c.push_reserved.ensures.len, c.push_reserved.ensures.capacity, c.in_ok-reserve.ensures.items, c.in_ok-reserve.ensures.len, c.take_task-task.ensures.tallies, c.name_at.ensures) r
 
 pub returns-clause-ok : goal.returns-clause-ok
 returns-clause-ok g c =
@@ -94,8 +95,8 @@ returns-clause-ok g c =
     let long = ap length given ∙ line_long (sizes row) c.self.invariant.small.few c.args.code some (row_of row).value in
     let more = c.push_reserved.ensures.items ∙ ap (λ xs. xs ++ record { worker = c.args.worker; job = c.args.code; event = Claim } ∷ []) c.in_ok-reserve.ensures.items in
     rw (← c.self.view_is) (is_line_claimed _ _ _ _ _ _ _ _ _ c.self.invariant c.args.worker c.args.code free pending c.in_ok-captured.captured.given long given
-    w (arc_value c.in_ok-work.work) c.hold_at.new.self c.push_reserved.new.self.items c.take_line_task-task.result c.take_line_task-task.new.tallies.items c.take_line_task-task.ensures.task
-    c.in_ok-work.ensures c.hold_at.ensures.sizes (c.hold_at.ensures.state does) more c.take_line_task-task.ensures.tallies)
+    w (arc_value c.in_ok-work.work) c.hold_at.new.self c.push_reserved.new.self.items c.take_task-task.result c.take_task-task.new.tallies.items (c.take_task-task.ensures.task ∙ ap (λ n. task_from n c.in_ok-captured.captured.given c.self.inside.tallies.items) c.name_at.ensures)
+    c.in_ok-work.ensures c.hold_at.ensures.sizes (c.hold_at.ensures.state does) more (c.take_task-task.ensures.tallies ∙ ap (λ n. tallies_left n c.self.inside.tallies.items) c.name_at.ensures))
 
 pub returns-clause-code : goal.returns-clause-code
 returns-clause-code g c =
@@ -107,7 +108,7 @@ returns-clause-code g c =
     let given : inputs_list c.in_ok-captured.captured.given ≡ read (row_of row).value (line_inputs (sizes row) (line_job c.args.code)) = ap inputs_list c.in_ok-captured.ensures.given ∙ c.in_ok-captured.ensures.held in
     let long = ap length given ∙ line_long (sizes row) c.self.invariant.small.few c.args.code some (row_of row).value in
     line_code_is _ _ _ _ _ _ _ _ _ c.self.invariant c.args.worker c.args.code free pending c.in_ok-captured.captured.given long given
-    w (arc_value c.in_ok-work.work) c.hold_at.new.self c.push_reserved.new.self.items c.take_line_task-task.result c.take_line_task-task.new.tallies.items c.take_line_task-task.ensures.task
+    w (arc_value c.in_ok-work.work) c.hold_at.new.self c.push_reserved.new.self.items c.take_task-task.result c.take_task-task.new.tallies.items (c.take_task-task.ensures.task ∙ ap (λ n. task_from n c.in_ok-captured.captured.given c.self.inside.tallies.items) c.name_at.ensures)
 
 pub invariant_of-self : goal.invariant_of-self
 invariant_of-self g c =

@@ -10,9 +10,9 @@ use Rattle.lt_circuit.proofs.row.Row.abandon_at.Goals as goal
 pub abandon_pass-requires-clause-segment : goal.abandon_pass-requires-clause-segment
 abandon_pass-requires-clause-segment c = read_inside c.args.self.now c.args.code c.requires.job
 
-pub returns-then-place-eq2047-clause-state : goal.returns-then-place-eq2047-clause-state
-returns-then-place-eq2047-clause-state c = λ claim job.
-    let e = c.if-place-eq2047.true in
+pub returns-then-place-eq-PASS-clause-state : goal.returns-then-place-eq-PASS-clause-state
+returns-then-place-eq-PASS-clause-state c = λ claim job.
+    let e = c.if-place-eq-PASS.true in
     let whole : 2048 * (c.args.code / 2048) + 2047 ≡ claim.job = omega (arith, e, job) in
     c.abandon_pass.ensures.state (record { job = 2047; inputs = claim.inputs; prior = claim.prior }) refl
     ∙ ap (λ j. abandoned (row_of c.args.self.now) c.args.worker (record { job = j; inputs = claim.inputs; prior = claim.prior })) whole
@@ -22,7 +22,7 @@ abandon-requires-clause-segment c = read_inside c.args.self.now c.args.code c.re
 
 pub abandon-requires-clause-job : goal.abandon-requires-clause-job
 abandon-requires-clause-job c =
-    let other = eq_false (c.args.code % 2048) 2047 c.if-place-eq2047.false in
+    let other = eq_false (c.args.code % 2048) 2047 c.if-place-eq-PASS.false in
     let leaves = (segment_at c.args.self.now (c.args.code / 2048)).board.leaves in
     let inside = job_inside leaves (job_of (c.args.code % 2048)) (tree_some c.args.self.now c.args.code other c.requires.job) in
     let name = ap code_of c.of.ensures.name in

@@ -15,5 +15,5 @@ returns-clause-held c =
     let s = c.args.code / 2048 in
     let inside : s < length vs = read_inside vs c.args.code (rw (← c.self.view_is) at c.requires) in
     let is : c.index-segment.result.now ≡ segment_at vs s = c.index-segment.ensures ∙ get_or_default vs s c.index-segment.result.now no_segment inside in
-    let all = (λ i. read (state_of (is i).board).value (inputs_of (tree_of (is i).board.leaves) (c.of.ensures.name i))) ∙ sym (tree_read vs c.self.invariant c.args.code (eq_false (c.args.code % 2048) 2047 c.if-place-eq2047.false)) in
+    let all = (λ i. read (state_of (is i).board).value (inputs_of (tree_of (is i).board.leaves) (c.of.ensures.name i))) ∙ sym (tree_read vs c.self.invariant c.args.code (eq_false (c.args.code % 2048) 2047 c.if-place-eq-PASS.false)) in
     rw (← c.self.view_is) (IfOk-weaker c.capture.result _ _ (λ captured e. e ∙ all) c.capture.ensures.held)
