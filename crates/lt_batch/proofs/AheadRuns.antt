@@ -11,34 +11,37 @@ use Rattle.lt_face.specs.State.{State}
 use Rattle.lt_face.proofs.RowLemmas.{each_at}
 use Rattle.lt_model.specs.declared.normal.Stmt.{Stmt}
 use Rattle.lt_model.specs.declared.reply.Reply.{Reply}
-use Rattle.lt_model.specs.Fits.{Fits}
-use Rattle.lt_model.specs.Marks.{Marks, laid}
+use Rattle.lt_model.specs.Fits.{Fits, FitMarks}
+use Rattle.lt_model.specs.Marks.{Marks, and_then, laid}
 use Rattle.lt_model.specs.Run.{run}
 use Rattle.lt_base.specs.Tables.{Table, state_of}
 use Rattle.lt_program.specs.declared.going.Ran.{Ran}
 use Rattle.lt_program.specs.Alone.{kept_if}
 use Rattle.lt_program.specs.Tally.{HasIndexes}
 use Rattle.lt_batch.specs.declared.ahead.Ahead.{Ahead}
+use Rattle.lt_batch.specs.declared.ahead.Early.{Early}
+use Rattle.lt_batch.specs.declared.ahead.Early.TheVariants.{Ran as RanEarly, Kept}
 use Rattle.lt_batch.specs.declared.fold.Fold.{Fold}
 use Rattle.lt_batch.specs.Batch.{program_at}
-use Rattle.lt_batch.specs.Folding.{AreAhead, AreAllInPlace, AreInPlace, HasGone, HasRun, IsInPlace, IsRanOn}
+use Rattle.lt_batch.specs.Folding.{AreAhead, AreAllInPlace, AreInPlace, HasGone, HasRun, IsEarly, IsInPlace, IsRanOn, IsWhole}
+use Rattle.lt_batch.proofs.KeptRuns.{kept_later}
 use Rattle.lt_batch.proofs.Gone.{fit_later, gone_more, gone_none, gone_one}
 use Rattle.lt_batch.proofs.Indexed.{all_stay}
 use Rattle.lt_batch.proofs.Widths.{as_wide-laid, marks_fit}
 
--- the run of the program at this place, if it was made
-abbrev pub IsRunAt : List (List Stmt) → State → ℕ → Option Ahead → Type 0
-IsRunAt programs s p x = IfSome x (λ (one : Ahead). IsRanOn (program_at programs p) s one.ran)
+-- what was run of the program at this place, if it was
+abbrev pub IsRunAt : List (List Stmt) → State → Marks → ℕ → Option Ahead → Type 0
+IsRunAt programs s since p x = IfSome x (λ (one : Ahead). IsEarly (program_at programs p) s since one.early)
 
-pub none_ahead : (programs : List (List Stmt)) (s : State) (all : List (Option Ahead)) → ((p : ℕ) → get_or all p None ≡ None) → AreAhead programs s 0 all
-none_ahead programs s all none = λ p below. subst (IsRunAt programs s p) (sym (none p)) tt
+pub none_ahead : (programs : List (List Stmt)) (s : State) (all : List (Option Ahead)) → ((p : ℕ) → get_or all p None ≡ None) → AreAhead programs s [] 0 all
+none_ahead programs s all none = λ p below. subst (IsRunAt programs s [] p) (sym (none p)) tt
 
 -- one more is put at its place
-pub put_ahead : (programs : List (List Stmt)) (s : State) (all : List (Option Ahead)) (one : Ahead) → one.place < length all → IsInPlace programs s one → AreAhead programs s 0 all → AreAhead programs s 0 (slice_set all one.place (Some one))
+pub put_ahead : (programs : List (List Stmt)) (s : State) (all : List (Option Ahead)) (one : Ahead) → one.place < length all → IsInPlace programs s one → AreAhead programs s [] 0 all → AreAhead programs s [] 0 (slice_set all one.place (Some one))
 put_ahead programs s all one below is are = λ p le. elim (cases_eq p one.place) [
-  | inl same ↦ subst (λ (k : ℕ). IsRunAt programs s k (get_or (slice_set all one.place (Some one)) k None)) (sym same)
-      (subst (IsRunAt programs s one.place) (sym (get_or-set_same all one.place (Some one) None below)) is)
-  | inr other ↦ subst (IsRunAt programs s p) (sym (get_or-set_other all one.place p (Some one) None other)) (are p le)
+  | inl same ↦ subst (λ (k : ℕ). IsRunAt programs s [] k (get_or (slice_set all one.place (Some one)) k None)) (sym same)
+      (subst (IsRunAt programs s [] one.place) (sym (get_or-set_same all one.place (Some one) None below)) is)
+  | inr other ↦ subst (IsRunAt programs s [] p) (sym (get_or-set_other all one.place p (Some one) None other)) (are p le)
 ]
 
 -- one of the lists, where it was made
@@ -48,8 +51,8 @@ in_place_of {E} programs s lists i list runs below is was are =
     subst (λ (r : Result (Vec Ahead) E). AreInPlace programs s r) was (subst (λ (r : Result (Vec Ahead) E). AreInPlace programs s r) (sym is) (are i list below))
 
 -- one was taken out at its turn
-pub taken_ahead : (programs : List (List Stmt)) (s : State) (i : ℕ) (all : List (Option Ahead)) → AreAhead programs s i all → AreAhead programs s (i + 1) (slice_set all i None)
-taken_ahead programs s i all are = λ p le. subst (IsRunAt programs s p) (sym (get_or-set_other all i p None None (omega (arith, le)))) (are p (omega (arith, le)))
+pub taken_ahead : (programs : List (List Stmt)) (s : State) (since : Marks) (i : ℕ) (all : List (Option Ahead)) → AreAhead programs s since i all → AreAhead programs s since (i + 1) (slice_set all i None)
+taken_ahead programs s since i all are = λ p le. subst (IsRunAt programs s since p) (sym (get_or-set_other all i p None None (omega (arith, le)))) (are p (omega (arith, le)))
 
 -- ---- what marks have no bearing on stays
 
@@ -61,49 +64,57 @@ ran_laid program s marks ran same h = record {
   printed = h.printed;
 }
 
--- where there is none, there is nothing to say
-pub nothing_there : (P Q : Ahead → Type 0) (x : Option Ahead) (b : Bool) → is_some x ≡ not b → b ≡ true → IfSome x P → IfSome x Q
-nothing_there P Q None b e none h = tt
-nothing_there P Q (Some one) b e none h =
-    let never : true ≡ false = e ∙ ap not none in
-    absurd cc
+-- a run that is kept stays whatever is written
+pub kept_stays : (program : List Stmt) (s : State) (since marks : Marks) (x : Option Ahead) → FitMarks s marks → IfSome x (λ (one : Ahead). IsWhole one.early)
+    → IfSome x (λ (one : Ahead). IsEarly program s since one.early) → IfSome x (λ (one : Ahead). IsEarly program (laid s marks) (and_then since marks) one.early)
+kept_stays program s since marks None fit whole h = tt
+kept_stays program s since marks (Some one) fit whole h = go one.early whole h
+  where
+    go : (early : Early) → IsWhole early → IsEarly program s since early → IsEarly program (laid s marks) (and_then since marks) early
+    go (RanEarly ran) whole h = absurd whole
+    go (Kept tally) whole h = kept_later program s since marks tally fit h
 
-pub run_stays : (program : List Stmt) (s : State) (marks : Marks) (x : Option Ahead) → run program s ≡ run program (laid s marks)
-    → IfSome x (λ (one : Ahead). IsRanOn program s one.ran) → IfSome x (λ (one : Ahead). IsRanOn program (laid s marks) one.ran)
-run_stays program s marks None same h = tt
-run_stays program s marks (Some one) same h = ran_laid program s marks one.ran same h
+-- where what was written has no bearing on the program, any does
+pub early_stays : (program : List Stmt) (s : State) (since marks : Marks) (x : Option Ahead) → FitMarks s marks → run program s ≡ run program (laid s marks)
+    → IfSome x (λ (one : Ahead). IsEarly program s since one.early) → IfSome x (λ (one : Ahead). IsEarly program (laid s marks) (and_then since marks) one.early)
+early_stays program s since marks None fit same h = tt
+early_stays program s since marks (Some one) fit same h = go one.early h
+  where
+    go : (early : Early) → IsEarly program s since early → IsEarly program (laid s marks) (and_then since marks) early
+    go (RanEarly ran) h = ran_laid program s marks ran same h
+    go (Kept tally) h = kept_later program s since marks tally fit h
 
 -- those up to a place were looked at
 pub record IsLookedAt (programs : List (List Stmt)) (marks : Marks) (from place : ℕ) (old now : List (Option Ahead)) : Type 0 where
   pub long : length now ≡ length old
-  pub done : (s : State) (p : ℕ) → from ≤ p → p < place → IsRunAt programs s p (get_or old p None) → IsRunAt programs (laid s marks) p (get_or now p None)
+  pub done : (s : State) (since : Marks) (p : ℕ) → FitMarks s marks → from ≤ p → p < place → IsRunAt programs s since p (get_or old p None) → IsRunAt programs (laid s marks) (and_then since marks) p (get_or now p None)
   pub rest : (p : ℕ) → place ≤ p → get_or now p None ≡ get_or old p None
 
 pub looked_none : (programs : List (List Stmt)) (marks : Marks) (from : ℕ) (all : List (Option Ahead)) → IsLookedAt programs marks from from all all
-looked_none programs marks from all = record { long = refl; done = λ s p le lt. absurd (omega (arith, le, lt)); rest = λ p le. refl }
+looked_none programs marks from all = record { long = refl; done = λ s since p fit le lt. absurd (omega (arith, le, lt)); rest = λ p le. refl }
 
 pub looked_more : (programs : List (List Stmt)) (marks : Marks) (from place : ℕ) (old now : List (Option Ahead)) (x : Option Ahead) → place < length now
-    → ((s : State) → IsRunAt programs s place (get_or now place None) → IsRunAt programs (laid s marks) place x)
+    → ((s : State) (since : Marks) → FitMarks s marks → IsRunAt programs s since place (get_or now place None) → IsRunAt programs (laid s marks) (and_then since marks) place x)
     → IsLookedAt programs marks from place old now → IsLookedAt programs marks from (place + 1) old (slice_set now place x)
 looked_more programs marks from place old now x below here h = record {
   long = length-set now place x ∙ h.long;
-  done = λ s p le lt was. elim (cases_eq p place) [
+  done = λ s since p fit le lt was. elim (cases_eq p place) [
     | inl same ↦
-        let before : IsRunAt programs s place (get_or now place None) = subst (λ (k : ℕ). IsRunAt programs s k (get_or now k None)) same (subst (IsRunAt programs s p) (sym (h.rest p (omega (arith, same)))) was) in
-        subst (λ (k : ℕ). IsRunAt programs (laid s marks) k (get_or (slice_set now place x) k None)) (sym same)
-        (subst (IsRunAt programs (laid s marks) place) (sym (get_or-set_same now place x None below)) (here s before))
-    | inr other ↦ subst (IsRunAt programs (laid s marks) p) (sym (get_or-set_other now place p x None other)) (h.done s p le (omega (arith, lt, other)) was)
+        let before : IsRunAt programs s since place (get_or now place None) = subst (λ (k : ℕ). IsRunAt programs s since k (get_or now k None)) same (subst (IsRunAt programs s since p) (sym (h.rest p (omega (arith, same)))) was) in
+        subst (λ (k : ℕ). IsRunAt programs (laid s marks) (and_then since marks) k (get_or (slice_set now place x) k None)) (sym same)
+        (subst (IsRunAt programs (laid s marks) (and_then since marks) place) (sym (get_or-set_same now place x None below)) (here s since fit before))
+    | inr other ↦ subst (IsRunAt programs (laid s marks) (and_then since marks) p) (sym (get_or-set_other now place p x None other)) (h.done s since p fit le (omega (arith, lt, other)) was)
   ];
   rest = λ p le. get_or-set_other now place p x None (omega (arith, le)) ∙ h.rest p (omega (arith, le));
 }
 
 pub looked_all : (programs : List (List Stmt)) (marks : Marks) (from place : ℕ) (old now : List (Option Ahead)) → length old ≤ place → IsLookedAt programs marks from place old now
-    → (s : State) → AreAhead programs s from old → AreAhead programs (laid s marks) from now
-looked_all programs marks from place old now whole h s are = λ p le. elim (cases_lt p place) [
-  | inl lt ↦ h.done s p le lt (are p le)
+    → (s : State) (since : Marks) → FitMarks s marks → AreAhead programs s since from old → AreAhead programs (laid s marks) (and_then since marks) from now
+looked_all programs marks from place old now whole h s since fit are = λ p le. elim (cases_lt p place) [
+  | inl lt ↦ h.done s since p fit le lt (are p le)
   | inr ge ↦
       let long = h.long in
-      subst (IsRunAt programs (laid s marks) p) (sym (get_or-eq_default now None (omega (arith, long, whole, ge)))) tt
+      subst (IsRunAt programs (laid s marks) (and_then since marks) p) (sym (get_or-eq_default now None (omega (arith, long, whole, ge)))) tt
 ]
 
 -- ---- the next program of a round
@@ -114,52 +125,53 @@ found [] i x d below is = absurd (omega arith)
 found (y ∷ xs) zero x d below is = sym is
 found (y ∷ xs) (suc i) x d below is = found xs i x d (omega arith) is
 
-pub next_run : (programs : List (List Stmt)) (program : List Stmt) (s : State) (i : ℕ) (all : List (Option Ahead)) (x y : Option Ahead) → program_at programs i ≡ program → get_or all i None ≡ x → y ≡ x → IsRunAt programs s i (get_or all i None)
-    → IfSome y (λ (one : Ahead). IsRanOn program s one.ran)
-next_run programs program s i all x y is there same h =
-    subst (λ (o : Option Ahead). IfSome o (λ (one : Ahead). IsRanOn program s one.ran)) (there ∙ sym same)
-    (subst (λ (p : List Stmt). IfSome (get_or all i None) (λ (one : Ahead). IsRanOn p s one.ran)) is h)
+pub next_run : (programs : List (List Stmt)) (program : List Stmt) (s : State) (since : Marks) (i : ℕ) (all : List (Option Ahead)) (x y : Option Ahead) → program_at programs i ≡ program → get_or all i None ≡ x → y ≡ x → IsRunAt programs s since i (get_or all i None)
+    → IfSome y (λ (one : Ahead). IsEarly program s since one.early)
+next_run programs program s since i all x y is there same h =
+    subst (λ (o : Option Ahead). IfSome o (λ (one : Ahead). IsEarly program s since one.early)) (there ∙ sym same)
+    (subst (λ (p : List Stmt). IfSome (get_or all i None) (λ (one : Ahead). IsEarly p s since one.early)) is h)
 
 pub step_of : (programs : List (List Stmt)) (program : List Stmt) (marks : Marks) (i : ℕ) (all : List (Option Ahead)) (x y : Option Ahead) → program_at programs i ≡ program → get_or all i None ≡ x
-    → ((s : State) → IfSome x (λ (one : Ahead). IsRanOn program s one.ran) → IfSome y (λ (one : Ahead). IsRanOn program (laid s marks) one.ran))
-    → (s : State) → IsRunAt programs s i (get_or all i None) → IsRunAt programs (laid s marks) i y
-step_of programs program marks i all x y is there step s h =
-    subst (λ (p : List Stmt). IfSome y (λ (one : Ahead). IsRanOn p (laid s marks) one.ran)) (sym is) (step s (next_run programs program s i all x x is there refl h))
+    → ((s : State) (since : Marks) → FitMarks s marks → IfSome x (λ (one : Ahead). IsEarly program s since one.early) → IfSome y (λ (one : Ahead). IsEarly program (laid s marks) (and_then since marks) one.early))
+    → (s : State) (since : Marks) → FitMarks s marks → IsRunAt programs s since i (get_or all i None) → IsRunAt programs (laid s marks) (and_then since marks) i y
+step_of programs program marks i all x y is there step s since fit h =
+    subst (λ (p : List Stmt). IfSome y (λ (one : Ahead). IsEarly p (laid s marks) (and_then since marks) one.early)) (sym is) (step s since fit (next_run programs program s since i all x x is there refl h))
 
--- the first i programs of a round are done, and the runs from there on are those on the database as it is
-pub record IsGoing (programs : List (List Stmt)) (old : Fold) (i : ℕ) (fold : Fold) (ahead : List (Option Ahead)) : Type 0 where
+-- the first i programs of a round are done, and wrote these marks; what was run from there on is as it was or kept
+pub record IsGoing (programs : List (List Stmt)) (old : Fold) (i : ℕ) (fold : Fold) (since : Marks) (ahead : List (Option Ahead)) : Type 0 where
   pub gone : HasGone (take i programs) old fold
   pub indexes : AllByRecursion (HasIndexes fold.db) programs
   pub long : length ahead ≡ length programs
-  pub are : AreAhead programs (state_of fold.db) i ahead
+  pub are : AreAhead programs (state_of fold.db) since i ahead
 
-pub going_more : (programs : List (List Stmt)) (old : Fold) (i : ℕ) (fold mid new : Fold) (ahead left : List (Option Ahead)) (ran : Ran) → i < length programs → IsGoing programs old i fold ahead
+pub going_more : (programs : List (List Stmt)) (old : Fold) (i : ℕ) (fold mid new : Fold) (since more : Marks) (ahead left : List (Option Ahead)) (ran : Ran) → i < length programs → IsGoing programs old i fold since ahead
     → HasRun (program_at programs i) true fold mid ran → new.replies ≡ mid.replies ++ ran.reply ∷ [] → new.effects ≡ mid.effects ++ kept_if mid.keeps ran.marks ∷ [] → new.db ≡ mid.db → new.keeps ≡ mid.keeps
-    → length left ≡ length ahead → AreAhead programs (laid (state_of fold.db) ran.marks) (i + 1) left → IsGoing programs old (i + 1) new left
-going_more programs old i fold mid new ahead left ran below h did replies effects db keeps long are = record {
+    → length left ≡ length ahead → more ≡ and_then since ran.marks → AreAhead programs (laid (state_of fold.db) ran.marks) (and_then since ran.marks) (i + 1) left → IsGoing programs old (i + 1) new more left
+going_more programs old i fold mid new since more ahead left ran below h did replies effects db keeps long wrote are = record {
   gone = rw add-one (subst (λ (ps : List (List Stmt)). HasGone ps old new) (sym (take-suc programs i [] below))
       (gone_more (take i programs) (program_at programs i ∷ []) old fold new h.gone (gone_one (program_at programs i) true fold mid new ran (λ k. refl) did replies effects db keeps)));
   indexes = subst (λ (tables : List Table). AllByRecursion (HasIndexes tables) programs) (sym db) (all_stay fold.db mid.db programs did.indexes h.indexes);
   long = long ∙ h.long;
   are =
       let state : laid (state_of fold.db) ran.marks ≡ state_of new.db = ap (laid (state_of fold.db)) did.marks ∙ sym did.state ∙ ap state_of (sym db) in
-      subst (λ (s : State). AreAhead programs s (i + 1) left) state are;
+      subst (λ (m : Marks). AreAhead programs (state_of new.db) m (i + 1) left) (sym wrote)
+      (subst (λ (s : State). AreAhead programs s (and_then since ran.marks) (i + 1) left) state are);
 }
 
 -- what the next program asks for
-pub going_fits : (programs : List (List Stmt)) (old : Fold) (i : ℕ) (fold : Fold) (ahead : List (Option Ahead)) → i < length programs → IsGoing programs old i fold ahead → AllByRecursion (Fits (state_of old.db)) programs
+pub going_fits : (programs : List (List Stmt)) (old : Fold) (i : ℕ) (fold : Fold) (since : Marks) (ahead : List (Option Ahead)) → i < length programs → IsGoing programs old i fold since ahead → AllByRecursion (Fits (state_of old.db)) programs
     → Fits (state_of fold.db) (program_at programs i)
-going_fits programs old i fold ahead below h fits =
+going_fits programs old i fold since ahead below h fits =
     each_at (Fits (state_of fold.db)) programs i [] (fit_later (take i programs) programs (state_of old.db) (state_of fold.db) h.gone.state fits) below
 
-pub going_indexes : (programs : List (List Stmt)) (old : Fold) (i : ℕ) (fold : Fold) (ahead : List (Option Ahead)) → i < length programs → IsGoing programs old i fold ahead → HasIndexes fold.db (program_at programs i)
-going_indexes programs old i fold ahead below h = each_at (HasIndexes fold.db) programs i [] h.indexes below
+pub going_indexes : (programs : List (List Stmt)) (old : Fold) (i : ℕ) (fold : Fold) (since : Marks) (ahead : List (Option Ahead)) → i < length programs → IsGoing programs old i fold since ahead → HasIndexes fold.db (program_at programs i)
+going_indexes programs old i fold since ahead below h = each_at (HasIndexes fold.db) programs i [] h.indexes below
 
-pub going_ahead : (programs : List (List Stmt)) (old : Fold) (i : ℕ) (fold : Fold) (ahead : List (Option Ahead)) → IsGoing programs old i fold ahead → IsRunAt programs (state_of fold.db) i (get_or ahead i None)
-going_ahead programs old i fold ahead h = h.are i (omega arith)
+pub going_ahead : (programs : List (List Stmt)) (old : Fold) (i : ℕ) (fold : Fold) (since : Marks) (ahead : List (Option Ahead)) → IsGoing programs old i fold since ahead → IsRunAt programs (state_of fold.db) since i (get_or ahead i None)
+going_ahead programs old i fold since ahead h = h.are i (omega arith)
 
-pub going_none : (programs : List (List Stmt)) (old : Fold) (ahead : List (Option Ahead)) → AllByRecursion (HasIndexes old.db) programs → length ahead ≡ length programs → AreAhead programs (state_of old.db) 0 ahead → IsGoing programs old 0 old ahead
+pub going_none : (programs : List (List Stmt)) (old : Fold) (ahead : List (Option Ahead)) → AllByRecursion (HasIndexes old.db) programs → length ahead ≡ length programs → AreAhead programs (state_of old.db) [] 0 ahead → IsGoing programs old 0 old [] ahead
 going_none programs old ahead indexes long are = record { gone = gone_none old; indexes = indexes; long = long; are = are }
 
-pub going_all : (programs : List (List Stmt)) (old : Fold) (i : ℕ) (fold : Fold) (ahead : List (Option Ahead)) → length programs ≤ i → IsGoing programs old i fold ahead → HasGone programs old fold
-going_all programs old i fold ahead whole h = subst (λ (ps : List (List Stmt)). HasGone ps old fold) (take_all i programs whole) h.gone
+pub going_all : (programs : List (List Stmt)) (old : Fold) (i : ℕ) (fold : Fold) (since : Marks) (ahead : List (Option Ahead)) → length programs ≤ i → IsGoing programs old i fold since ahead → HasGone programs old fold
+going_all programs old i fold since ahead whole h = subst (λ (ps : List (List Stmt)). HasGone ps old fold) (take_all i programs whole) h.gone

@@ -7,20 +7,20 @@ use Rattle.std.proofs.Math.ListN.{get_or-eq_default}
 use Rattle.std.proofs.Math.Seq.{get_or-append_seam}
 use Rattle.lt_face.specs.State.{State}
 use Rattle.lt_model.specs.declared.normal.Stmt.{Stmt}
-use Rattle.lt_batch.specs.declared.leaf.BareTally.{BareTally}
+use Rattle.lt_batch.specs.declared.leaf.LeafTally.{LeafTally}
 use Rattle.lt_batch.specs.Batch.{program_at}
 use Rattle.lt_batch.specs.Early.{AreEarly, early_at}
-use Rattle.lt_batch.specs.LeafRun.{IsBareOn}
+use Rattle.lt_batch.specs.LeafRun.{IsRunOn}
 
 -- the run of a program on the snapshot, if it was made
-abbrev pub IsEarly : State → List Stmt → Option BareTally → Type 0
-IsEarly s program x = IfSome x (IsBareOn program s [])
+abbrev pub IsEarly : State → List Stmt → Option LeafTally → Type 0
+IsEarly s program x = IfSome x (IsRunOn program s [])
 
 pub none_early : (s : State) (programs : List (List Stmt)) → AreEarly s programs []
 none_early s programs = λ i. tt
 
 -- the run of the next program
-pub early_more : (s : State) (programs : List (List Stmt)) (all : List (Option BareTally)) (x : Option BareTally) (n : ℕ) (program : List Stmt)
+pub early_more : (s : State) (programs : List (List Stmt)) (all : List (Option LeafTally)) (x : Option LeafTally) (n : ℕ) (program : List Stmt)
     → AreEarly s programs all → length all ≡ n → program_at programs n ≡ program → IsEarly s program x → AreEarly s programs (all ++ x ∷ [])
 early_more s programs all x n program are long is one = λ i. elim (cases_lt i n) [
   | inl lt ↦ subst (IsEarly s (program_at programs i)) (sym (get_or_append_left all (x ∷ []) None i (omega (arith, lt, long)))) (are i)

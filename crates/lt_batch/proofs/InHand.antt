@@ -8,7 +8,7 @@ use Rattle.lt_model.specs.declared.mark.Mark.{Mark}
 use Rattle.lt_net.specs.declared.job.JobName.{JobName}
 use Rattle.lt_net.specs.declared.job.JobState.{JobState}
 use Rattle.lt_net.specs.declared.job.JobState.TheVariants.{Clean, Pending, Running, Dirty}
-use Rattle.lt_net.specs.Codes.{code_of}
+use Rattle.lt_net.specs.Codes.{code_of, IsOfTree}
 use Rattle.lt_net.specs.Net.{Claim, Claims, Net, State, abandon_step, abandoned, claim_of, claim_step, claimed, finish_step, finished, is_pending, step}
 use Rattle.lt_net.specs.Tree.{circuit_net, tree_of}
 use Rattle.lt_net.proofs.Codes.{same_job}
@@ -47,7 +47,7 @@ one_more journal more e w is worker job kind =
 module _ {W T : Type 0} where
   moved : (old new : CircuitView W T) (v : ℕ) (hand : Option (JobView W T)) → new.work ≡ old.work → (state new).claim v ≡ (state old).claim v → IsInHand old v hand → IsInHand new v hand
   moved old new v None work same h = same ∙ h
-  moved old new v (Some job) work same h = (h.0 ∙ sym work, same ∙ h.1)
+  moved old new v (Some job) work same h = (h.0 ∙ sym work, same ∙ h.1, h.2)
 
   -- one worker's hand is another
   pub hand_put : (old new : CircuitView W T) (hands : List (Option (JobView W T))) (w : ℕ) (hand : Option (JobView W T)) → w < most_workers → AreHeld old hands
@@ -73,14 +73,14 @@ module _ {W T : Type 0} where
   free_hand c w (Some job) h none = cc
 
   -- who holds another job, or none, can't end this one
-  pub not_his : (c : CircuitView W T) (w j : ℕ) (name : JobName) (hand : Option (JobView W T)) → code_of name ≡ j → IsInHand c w hand → (IsJob name hand → ⊥) → claim_of ((state c).claim w) j ≡ None
-  not_his c w j name None is h other = ap (λ o. claim_of o j) h
-  not_his c w j name (Some job) is h other =
-      let apart : (claim_of_job job).job ≢ j = λ e. other (same_job (name_of_job job) name (e ∙ sym is)) in
+  pub not_his : (c : CircuitView W T) (w j : ℕ) (name : JobName) (hand : Option (JobView W T)) → IsOfTree name → code_of name ≡ j → IsInHand c w hand → (IsJob name hand → ⊥) → claim_of ((state c).claim w) j ≡ None
+  not_his c w j name None own is h other = ap (λ o. claim_of o j) h
+  not_his c w j name (Some job) own is h other =
+      let apart : (claim_of_job job).job ≢ j = λ e. other (same_job (name_of_job job) name h.2 own (e ∙ sym is)) in
       ap (λ o. claim_of o j) h.1 ∙ ap (λ b. if b then Some (claim_of_job job) else None) (eq_false (claim_of_job job).job j apart)
 
   pub his : (c : CircuitView W T) (w : ℕ) (hand : Option (JobView W T)) (job : JobView W T) → IsInHand c w hand → hand ≡ Some job → (job.work ≡ c.work) × ((state c).claim w ≡ Some (claim_of_job job))
-  his c w hand job h is = subst (IsInHand c w) is h
+  his c w hand job h is = let k = subst (IsInHand c w) is h in (k.0, k.1)
 
 own_claim : (c : Claim) (o : Option Claim) (j : ℕ) → o ≡ Some c → c.job ≡ j → claim_of o j ≡ Some c
 own_claim c o j is same =
@@ -120,7 +120,7 @@ module _ {W T : Type 0} (does : W → ℕ → List Mark → List Mark) (old new 
         ∙ ap (λ j. claim_step net (state old) entry.worker j ((state old).claim entry.worker)) (sym code) ∙ claims;
     same = same_shape does old new is.work is.leaves;
     journal = one_more old.journal new.journal (record { worker = entry.worker; job = name_of_job job; event = ClaimKind }) entry is.journal refl code kind;
-    held = hand_put old new hands entry.worker (Some job) worker h is.work is.others (is.of_work ∙ sym is.work, is.held);
+    held = hand_put old new hands entry.worker (Some job) worker h is.work is.others (is.of_work ∙ sym is.work, is.held, is.of_tree);
   }
 
   pub finish_done : (left : List (Option (JobView W T))) (claim : Claim) (name : JobName) → left ≡ set hands entry.worker None → entry.code % 3 ≡ 1 → (state old).claim entry.worker ≡ Some claim → claim.job ≡ entry.code / 3 → code_of name ≡ entry.code / 3

@@ -5,7 +5,7 @@ use Rattle.lt_face.proofs.RowLemmas.{each_at}
 use Rattle.lt_model.specs.declared.normal.Stmt.{Stmt}
 use Rattle.lt_model.specs.Fits.{Fits}
 use Rattle.lt_model.specs.Marks.{Marks, laid}
-use Rattle.lt_base.specs.Tables.{state_of}
+use Rattle.lt_base.specs.Tables.{Table, state_of}
 use Rattle.lt_batch.specs.Batch.{program_at, does_at}
 use Rattle.lt_batch.specs.Work.{AreRunnable, BatchView, IsLeaf, batch_does}
 use Rattle.lt_program.proofs.FittingRuns.{run_ascends}
@@ -32,6 +32,13 @@ is_leaf work i can below = record {
 -- the same of a work of these programs on this state
 pub is_leaf_of : (work : BatchView) (s : State) (programs : List (List Stmt)) (i : ℕ) → state_of work.snapshot ≡ s → work.programs ≡ programs → AreRunnable s programs → i < length programs → IsLeaf work i
 is_leaf_of work s programs i e f can below = is_leaf work i (rw (e, f) can) (rw f below)
+
+-- a leaf doesn't hang on what was run before
+pub same_leaf : (v w : BatchView) (i : ℕ) → v.programs ≡ w.programs → v.snapshot ≡ w.snapshot → IsLeaf w i → IsLeaf v i
+same_leaf v w i programs snapshot h =
+    subst (λ (s : List Table). IsLeaf (record { snapshot = s; programs = v.programs; early = v.early }) i) (sym snapshot)
+    (subst (λ (ps : List (List Stmt)). IsLeaf (record { snapshot = w.snapshot; programs = ps; early = v.early }) i) (sym programs)
+    (record { below = h.below; fit = h.fit }))
 
 -- what is so of the effects of a work is so of these programs on this state
 pub of_programs : (P : (ℕ → Marks → Marks) → Type 0) (w v : BatchView) (s : State) (programs : List (List Stmt)) → w ≡ v → state_of v.snapshot ≡ s → v.programs ≡ programs → P (batch_does w) → P (does_at programs s)

@@ -10,10 +10,14 @@ pub mod LineOpened
 pub mod Indexed
 pub mod Leaves
 pub mod Runs
+pub mod Helpers
+pub mod Crossing
 pub mod EarlyRuns
 pub mod Gone
 pub mod AheadRuns
+pub mod KeptRuns
 mod JobsInside
 mod InHand
 mod Following
 mod Machine
+pub mod Unborne

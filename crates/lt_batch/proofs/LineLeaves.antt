@@ -11,12 +11,12 @@ use Rattle.lt_base.specs.Tables.{state_of}
 use Rattle.lt_batch.specs.declared.leaf.LeafTally.{LeafTally}
 use Rattle.lt_batch.specs.declared.spans.Span.{Span}
 use Rattle.lt_batch.specs.Batch.{program_at}
-use Rattle.lt_batch.specs.LeafRun.{effect_of, reply_of, IsOfRun, StandsFor}
+use Rattle.lt_batch.specs.LeafRun.{IsRunOn, StandsFor}
 use Rattle.lt_batch.specs.Line.{batch_at}
 use Rattle.lt_batch.specs.LineWork.{FitsLine, IsLineLeaf, LineWorkView, StandsInLine, batch_in, line_leaf_bound}
-use Rattle.lt_batch.specs.Priors.{leaf_bound, run_bound, kept_in}
+use Rattle.lt_batch.specs.Priors.{leaf_bound, helper, run_bound}
 use Rattle.lt_batch.specs.Spans.{no_span, parted}
-use Rattle.lt_batch.specs.Work.{BatchView, FitsBatch, IsLeaf, IsSnapshot, base_on, marks_for}
+use Rattle.lt_batch.specs.Work.{BatchView, FitsBatch, IsLeaf, IsSnapshot, marks_for}
 use Rattle.lt_batch.proofs.Leaves.{is_leaf_of}
 use Rattle.lt_batch.proofs.LineLists.{each_batch, segment_of, within_of}
 use Rattle.lt_batch.proofs.SpanLists.{part_at, part_inside}
@@ -28,9 +28,9 @@ place_in leaf is same = is ∙ ap (λ ss. (get_or ss (leaf / 256) no_span).start
 -- what the program's tally stands for
 abbrev pub StandsAs : State → List Stmt → LeafTally → Marks → Type 0
 StandsAs snapshot program tally on =
-    IsOfRun program snapshot (marks_for program on) tally
-    × (reply_of tally ≡ (run program (laid snapshot on)).0)
-    × (effect_of tally ≡ (run program (laid snapshot on)).1)
+    IsRunOn program snapshot (marks_for program on) tally
+    × (tally.run.reply ≡ (run program (laid snapshot on)).0)
+    × (tally.run.marks ≡ (run program (laid snapshot on)).1)
 
 -- two leaves on one snapshot with one program stand for the same
 pub stands_as : (v w : BatchView) (i j : ℕ) (tally : LeafTally) (on : Marks) → state_of v.snapshot ≡ state_of w.snapshot → program_at v.programs i ≡ program_at w.programs j → StandsFor v tally i on → StandsFor w tally j on
@@ -38,6 +38,11 @@ stands_as v w i j tally on snapshot program h =
     let there = subst (λ s. StandsAs s (program_at w.programs j) tally on) snapshot
     (subst (λ p. StandsAs (state_of v.snapshot) p tally on) program (h.ran, h.reply, h.marks)) in
     record { ran = there.0; reply = there.1; marks = there.2 }
+
+-- where nothing was run before, the place doesn't matter
+no_early : (i j : ℕ) (prior : Option LeafTally) → helper [] prior i ≡ helper [] prior j
+no_early i j None = refl
+no_early i j (Some old) = refl
 
 module _ (all : BatchView) (spans : List Span) (leaf place : ℕ) (is : place ≡ (get_or spans (leaf / 256) no_span).start + leaf % 256) where
   abbrev line : LineWorkView
@@ -83,10 +88,12 @@ module _ (all : BatchView) (spans : List Span) (leaf place : ℕ) (is : place �
     stands_of tally on stands =
         subst (λ (w : LineWorkView). StandsInLine w tally leaf on) view (stands_as all (batch_in line (leaf / 256)) place (leaf % 256) tally on refl (program_there own.below) stands)
 
-    pub bound_of : (prior : Option LeafTally) (on : Marks) (m n : ℕ) → IfSome (leaf_bound all prior place on) (λ most. n ≤ m + most) → IfSome (line_leaf_bound work prior leaf on) (λ most. n ≤ m + most)
-    bound_of prior on m n most =
+    pub bound_of : all.early ≡ [] → (prior : Option LeafTally) (on : Marks) (m n : ℕ) → IfSome (leaf_bound all prior place on) (λ most. n ≤ m + most) → IfSome (line_leaf_bound work prior leaf on) (λ most. n ≤ m + most)
+    bound_of none prior on m n most =
         subst (λ (w : LineWorkView). IfSome (line_leaf_bound w prior leaf on) (λ most. n ≤ m + most)) view
-        (subst (λ p. n ≤ m + run_bound (kept_in prior) p (base_on p (state_of all.snapshot) on)) (program_there own.below) most)
+        (subst (λ p. n ≤ m + run_bound (helper [] prior (leaf % 256)) p (state_of all.snapshot) (marks_for p on)) (program_there own.below)
+        (subst (λ (o : Option LeafTally). n ≤ m + run_bound o (program_at all.programs place) (state_of all.snapshot) (marks_for (program_at all.programs place) on)) (no_early place (leaf % 256) prior)
+        (subst (λ (early : List (Option LeafTally)). n ≤ m + run_bound (helper early prior place) (program_at all.programs place) (state_of all.snapshot) (marks_for (program_at all.programs place) on)) none most)))
 
 -- leaf 256 * s + i stands for what leaf i of batch s does
 pub stands_in : (work : LineWorkView) (tally : LeafTally) (s i : ℕ) (on : Marks) → i < 256 → StandsInLine work tally (256 * s + i) on → StandsFor (batch_in work s) tally i on

@@ -20,7 +20,6 @@ use Rattle.lt_circuit.specs.Segment.{SegmentView}
 use Rattle.lt_workers.specs.Given.{roots, GaveSome}
 use Rattle.lt_batch.specs.declared.leaf.LeafTally.{LeafTally}
 use Rattle.lt_batch.specs.Batch.{serial_effects, serial_replies, program_at, run_at}
-use Rattle.lt_batch.specs.LeafRun.{reply_of}
 use Rattle.lt_batch.specs.Line.{batch_at, line_effects, line_marks, state_before, HasGivenFront}
 use Rattle.lt_batch.specs.LineRun.{IsOverBatches, IsRunBelow}
 use Rattle.lt_batch.specs.LineWork.{LineWorkView, StandsInLine, line_work_does}
@@ -76,7 +75,7 @@ module _ {T : Type 0} (line : LineView LineWorkView T) where
 
     -- what a leaf's tally tells is its program's reply
     pub replied_in : (s i : ℕ) (tally : LeafTally) → s < f → i < size_in (sizes line.row) s → StandsInLine line.work tally (256 * s + i) (then_all (leaves_in s) (before_in s) i)
-        → reply_of tally ≡ (run_at (batch_at line.work.batches s) (base_in s) i (then_all (leaves_in s) [] i)).0
+        → tally.run.reply ≡ (run_at (batch_at line.work.batches s) (base_in s) i (then_all (leaves_in s) [] i)).0
     replied_in s i tally below inside stands =
         let small = size_small s in
         (stands_in line.work tally s i (then_all (leaves_in s) (before_in s) i) (omega (arith, small, inside)) stands).reply
@@ -85,7 +84,7 @@ module _ {T : Type 0} (line : LineView LineWorkView T) where
     -- one leaf more of segment s
     pub gathers_more : (s i : ℕ) (replies : List Reply) (effects : List Marks) (tally : LeafTally) (reply : Reply) (effect : Marks) → s < f → i < size_in (sizes line.row) s
         → RanFirst (batch_at line.work.batches s) (base_in s) (leaves_in s) i replies effects
-        → StandsInLine line.work tally (256 * s + i) (then_all (leaves_in s) (before_in s) i) → reply ≡ reply_of tally → effect ≡ leaves_in s i
+        → StandsInLine line.work tally (256 * s + i) (then_all (leaves_in s) (before_in s) i) → reply ≡ tally.run.reply → effect ≡ leaves_in s i
         → RanFirst (batch_at line.work.batches s) (base_in s) (leaves_in s) (suc i) (replies ++ reply ∷ []) (effects ++ effect ∷ [])
     gathers_more s i replies effects tally reply effect below inside ran stands told same =
         let is = size_is s in

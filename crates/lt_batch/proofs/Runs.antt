@@ -17,15 +17,10 @@ use Rattle.lt_base.proofs.Apart.{alike, with_marks}
 use Rattle.lt_program.specs.Run.{reads_marked_in}
 use Rattle.lt_program.specs.Tally.{TallyView, IsRun, has_ended}
 use Rattle.lt_restate.specs.Walked.{is_named}
-use Rattle.lt_batch.specs.declared.leaf.BareTally.{BareTally}
-use Rattle.lt_batch.specs.declared.leaf.KeptTally.{KeptTally}
 use Rattle.lt_batch.specs.declared.leaf.LeafTally.{LeafTally}
-use Rattle.lt_batch.specs.declared.leaf.LeafTally.TheVariants.{Kept, Bare}
-use Rattle.lt_batch.specs.Batch.{program_at}
-use Rattle.lt_batch.specs.Early.{AreEarly, IsSomeRun, early_at}
-use Rattle.lt_batch.specs.LeafRun.{IsTallyOn, IsRunOn, IsBareOn, StandsFor}
-use Rattle.lt_batch.specs.Priors.{IsPriorOf, IsRestated, IsRestatedFrom, kept_in, run_bound, leaf_bound}
-use Rattle.lt_batch.specs.Work.{BatchView, FitsBatch, marks_for, base_on}
+use Rattle.lt_batch.specs.LeafRun.{IsTallyOn}
+use Rattle.lt_batch.specs.Priors.{IsRestated, IsRestatedFrom}
+use Rattle.lt_batch.specs.Work.{marks_for}
 
 -- a row that neither list marks is said the same of by both, and so the states agree on it
 pub marked_or_agree : (a b : Marks) (s t : State) → ((relation : ℕ) (row : Row) → mark_on a relation row ≡ mark_on b relation row → AgreeOn s t relation row) → (relation : ℕ) (row : Row) → AgreeOn s t relation row ⊎ ((is_named a relation row ≡ true) ⊎ (is_named b relation row ≡ true))
@@ -70,20 +65,11 @@ itself_restated t = (
   },
 )
 
--- a tally that was kept is a restatement of the one before
-pub kept_restated : (prior : Option (Bor KeptTally)) (old : Bor KeptTally) (tally : KeptTally) → prior ≡ Some old → tally ≡ old.now → IfSome prior (λ (before : Bor KeptTally). IsRestated before.now.run tally.run)
-kept_restated prior old tally is same =
-    subst (λ (o : Option (Bor KeptTally)). IfSome o (λ (before : Bor KeptTally). IsRestated before.now.run tally.run)) (sym is)
-    (subst (λ (t : KeptTally). IsRestated old.now.run t.run) (sym same) (itself_restated old.now.run))
-
--- what a kept run says of a prior that was kept, it says of the prior's tally
-pub restated_for : (kept : Option (Bor KeptTally)) (prior : Option KeptTally) (tally : KeptTally) → option_map (λ (k : Bor KeptTally). k.now) kept ≡ prior
-    → IfSome kept (λ (old : Bor KeptTally). IsRestated old.now.run tally.run) → IfSome prior (λ (old : KeptTally). IsRestatedFrom old (Kept tally))
-restated_for kept prior tally is h = subst (λ (o : Option KeptTally). IfSome o (λ (old : KeptTally). IsRestatedFrom old (Kept tally))) is (same kept h)
-  where
-    same : (k : Option (Bor KeptTally)) → IfSome k (λ (old : Bor KeptTally). IsRestated old.now.run tally.run) → IfSome (option_map (λ (b : Bor KeptTally). b.now) k) (λ (old : KeptTally). IsRestatedFrom old (Kept tally))
-    same None r = tt
-    same (Some old) r = r
+-- so is an equal one of whatever tally it is equal to
+pub same_restated : (prior : Option (Bor LeafTally)) (old : Bor LeafTally) (tally : LeafTally) → prior ≡ Some old → tally ≡ old.now → IfSome prior (λ (before : Bor LeafTally). IsRestatedFrom before.now tally)
+same_restated prior old tally is same =
+    subst (λ (o : Option (Bor LeafTally)). IfSome o (λ (before : Bor LeafTally). IsRestatedFrom before.now tally)) (sym is)
+    (subst (λ (t : LeafTally). IsRestatedFrom old.now t) (sym same) (itself_restated old.now.run))
 
 -- ---- a leaf's run
 
@@ -94,75 +80,6 @@ fits_for program s c fit = go (list_any (reads_marked_in c) program)
     go : (b : Bool) → FitMarks s (if b then c else [])
     go true = fit
     go false = tt
-
-prior_kept : (t : LeafTally) (kept : KeptTally) (work : BatchView) (i : ℕ) (program : List Stmt) (snapshot : State) (c : Marks) → Some kept ≡ kept_in (Some t) → program_at work.programs i ≡ program → state_of work.snapshot ≡ snapshot → FitsBatch work c → StandsFor work t i c → IsPriorOf program snapshot kept
-prior_kept (Kept old) kept work i program snapshot c e is on fit stands =
-    let same : old ≡ kept = cc in
-    subst (IsPriorOf program snapshot) same
-    (subst (λ (p : List Stmt). IsPriorOf p snapshot old) is
-    (subst (λ (s : State). IsPriorOf (program_at work.programs i) s old) on
-    (marks_for (program_at work.programs i) c, fits_for (program_at work.programs i) (state_of work.snapshot) c fit.0, stands.ran)))
-prior_kept (Bare old) kept work i program snapshot c e is on fit stands = cc
-
-pub prior_for : (o : Option (Bor LeafTally)) (k : Option (Bor KeptTally)) (work : BatchView) (i : ℕ) (program : List Stmt) (snapshot : State) → option_map (λ (b : Bor KeptTally). b.now) k ≡ kept_in (option_map (λ (b : Bor LeafTally). b.now) o) → program_at work.programs i ≡ program → state_of work.snapshot ≡ snapshot
-    → IfSome o (λ (old : Bor LeafTally). (c : Marks) × FitsBatch work c × StandsFor work old.now i c) → IfSome k (λ (old : Bor KeptTally). IsPriorOf program snapshot old.now)
-prior_for o None work i program snapshot e is on h = tt
-prior_for None (Some kept) work i program snapshot e is on h = cc
-prior_for (Some old) (Some kept) work i program snapshot e is on h = prior_kept old.now kept.now work i program snapshot h.0 e is on h.1 h.2
-
-pub bound_kept : (prior : Option LeafTally) (kept : Option KeptTally) (work : BatchView) (i : ℕ) (program : List Stmt) (snapshot : State) (laid_on on : Marks) (m n : ℕ) → kept ≡ kept_in prior → program_at work.programs i ≡ program → state_of work.snapshot ≡ snapshot → laid_on ≡ marks_for program on
-    → n ≤ m + run_bound kept program (laid snapshot laid_on) → IfSome (leaf_bound work prior i on) (λ most. n ≤ m + most)
-bound_kept prior kept work i program snapshot laid_on on m n kept_is is snapshot_is on_is h =
-    let of_prior : n ≤ m + run_bound (kept_in prior) program (laid snapshot laid_on) = subst (λ (k : Option KeptTally). n ≤ m + run_bound k program (laid snapshot laid_on)) kept_is h in
-    let there : n ≤ m + run_bound (kept_in prior) program (base_on program snapshot on) = subst (λ (c : Marks). n ≤ m + run_bound (kept_in prior) program (laid snapshot c)) on_is of_prior in
-    let here : n ≤ m + run_bound (kept_in prior) program (base_on program (state_of work.snapshot) on) = subst (λ (s : State). n ≤ m + run_bound (kept_in prior) program (base_on program s on)) (sym snapshot_is) there in
-    subst (λ (p : List Stmt). n ≤ m + run_bound (kept_in prior) p (base_on p (state_of work.snapshot) on)) (sym is) here
-
-pub stands_is : (work : BatchView) (i : ℕ) (program : List Stmt) (snapshot : State) (laid_on on : Marks) (tally : KeptTally) → program_at work.programs i ≡ program → state_of work.snapshot ≡ snapshot → laid_on ≡ marks_for program on
-    → run program (laid snapshot laid_on) ≡ run program (laid snapshot on) → IsRunOn program snapshot laid_on tally → StandsFor work (Kept tally) i on
-stands_is work i program snapshot laid_on on tally is snapshot_is on_is runs h =
-    (let all = subst (λ (p : List Stmt). Stands p (state_of work.snapshot)) (sym is) (subst (Stands program) (sym snapshot_is) here) in record { ran = all.0; reply = all.1; marks = all.2 })
-  where
-    Stands : List Stmt → State → Type 0
-    Stands p s = IsRunOn p s (marks_for p on) tally × (tally.run.reply ≡ (run p (laid s on)).0) × (tally.run.marks ≡ (run p (laid s on)).1)
-
-    here : Stands program snapshot
-    here = (subst (λ (c : Marks). IsRunOn program snapshot c tally) on_is h, h.run.reply ∙ ap (λ (out : Reply × Marks). out.0) runs, h.run.marks ∙ ap (λ (out : Reply × Marks). out.1) runs)
-
--- so does what is kept without the run
-pub stands_bare : (work : BatchView) (i : ℕ) (program : List Stmt) (snapshot : State) (laid_on on : Marks) (tally : BareTally) → program_at work.programs i ≡ program → state_of work.snapshot ≡ snapshot → laid_on ≡ marks_for program on
-    → run program (laid snapshot laid_on) ≡ run program (laid snapshot on) → IsBareOn program snapshot laid_on tally → StandsFor work (Bare tally) i on
-stands_bare work i program snapshot laid_on on tally is snapshot_is on_is runs h =
-    (let all = subst (λ (p : List Stmt). Stands p (state_of work.snapshot)) (sym is) (subst (Stands program) (sym snapshot_is) here) in record { ran = all.0; reply = all.1; marks = all.2 })
-  where
-    Stands : List Stmt → State → Type 0
-    Stands p s = IsBareOn p s (marks_for p on) tally × (tally.reply ≡ (run p (laid s on)).0) × (tally.marks ≡ (run p (laid s on)).1)
-
-    here : Stands program snapshot
-    here = (subst (λ (c : Marks). IsBareOn program snapshot c tally) on_is h, h.reply ∙ ap (λ (out : Reply × Marks). out.0) runs, h.marks ∙ ap (λ (out : Reply × Marks). out.1) runs)
-
--- what a prior tally stands for is a run of the program
-pub some_run_for : (o : Option (Bor LeafTally)) (work : BatchView) (i : ℕ) (program : List Stmt) (snapshot : State) → program_at work.programs i ≡ program → state_of work.snapshot ≡ snapshot
-    → IfSome o (λ (old : Bor LeafTally). (c : Marks) × FitsBatch work c × StandsFor work old.now i c) → IfSome o (λ (old : Bor LeafTally). IsSomeRun program snapshot old.now)
-some_run_for None work i program snapshot is on h = tt
-some_run_for (Some old) work i program snapshot is on h =
-    subst (λ (s : State). IsSomeRun program s old.now) on
-    (subst (λ (p : List Stmt). IsSomeRun p (state_of work.snapshot) old.now) is (marks_for (program_at work.programs i) h.0, h.2.ran))
-
--- an early run of the program at the place, as it was read
-pub early_run_for : (early : List (Option BareTally)) (o : Option (Bor BareTally)) (programs : List (List Stmt)) (i : ℕ) (program : List Stmt) (snapshot : State) → option_map (λ (b : Bor BareTally). b.now) o ≡ early_at early i → program_at programs i ≡ program
-    → AreEarly snapshot programs early → IfSome o (λ (b : Bor BareTally). IsBareOn program snapshot [] b.now)
-early_run_for early o programs i program snapshot there is are =
-    read o (subst (λ (e : Option BareTally). IfSome e (IsBareOn program snapshot [])) (sym there) (subst (λ (p : List Stmt). IfSome (early_at early i) (IsBareOn p snapshot [])) is (are i)))
-  where
-    read : (x : Option (Bor BareTally)) → IfSome (option_map (λ (b : Bor BareTally). b.now) x) (IsBareOn program snapshot []) → IfSome x (λ (b : Bor BareTally). IsBareOn program snapshot [] b.now)
-    read None h = tt
-    read (Some b) h = h
-
--- where a prior run is kept, no other tally is taken for it
-pub none_restated : (k : Option KeptTally) (found : Option (Bor BareTally)) (bare : Bor BareTally) (tally : LeafTally) → IfSome k (λ (old : KeptTally). found ≡ None) → found ≡ Some bare → IfSome k (λ (old : KeptTally). IsRestatedFrom old tally)
-none_restated None found bare tally none is = tt
-none_restated (Some old) found bare tally none is = cc
 
 pub item_at : {X : Type 0} (f : X → List Stmt) (xs : List X) (i : ℕ) (x : X) → i < length xs → x ≡ get_or xs i x → slice_index_or (map f xs) i [] ≡ f x
 item_at f [] i x lt is = absurd (omega arith)

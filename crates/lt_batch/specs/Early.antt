@@ -2,27 +2,21 @@
 use Rattle.std.specs.Prelude.{ℕ, List, [], Option, None, slice_index_or, IfSome}
 use Rattle.lt_face.specs.State.{State}
 use Rattle.lt_model.specs.declared.normal.Stmt.{Stmt}
-use Rattle.lt_model.specs.Marks.{Marks}
 use Rattle.lt_base.specs.Tables.{Table, state_of}
-use Rattle.lt_batch.specs.declared.leaf.BareTally.{BareTally}
 use Rattle.lt_batch.specs.declared.leaf.LeafTally.{LeafTally}
 use Rattle.lt_batch.specs.Batch.{program_at}
-use Rattle.lt_batch.specs.LeafRun.{IsBareOn, IsOfRun}
+use Rattle.lt_batch.specs.LeafRun.{IsRunOn}
 use Rattle.lt_batch.specs.Work.{IsBatch}
 
 -- the early run of program i, if there is one
-abbrev pub early_at : List (Option BareTally) → ℕ → Option BareTally
+abbrev pub early_at : List (Option LeafTally) → ℕ → Option LeafTally
 early_at early i = slice_index_or early i None
 
 -- each early run is its program's, on the snapshot itself
-abbrev pub AreEarly : State → List (List Stmt) → List (Option BareTally) → Type 0
-AreEarly snapshot programs early = (i : ℕ) → IfSome (early_at early i) (IsBareOn (program_at programs i) snapshot [])
+abbrev pub AreEarly : State → List (List Stmt) → List (Option LeafTally) → Type 0
+AreEarly snapshot programs early = (i : ℕ) → IfSome (early_at early i) (IsRunOn (program_at programs i) snapshot [])
 
 -- the programs can run on the snapshot, which has the indexes that they need, and the early runs are theirs
-pub record IsBegun (snapshot : List Table) (programs : List (List Stmt)) (runs : List (Option BareTally)) : Type 0 where
+pub record IsBegun (snapshot : List Table) (programs : List (List Stmt)) (runs : List (Option LeafTally)) : Type 0 where
   pub batch : IsBatch snapshot programs
   pub early : AreEarly (state_of snapshot) programs runs
-
--- a tally of the program's run on the snapshot, whatever was laid on it
-abbrev pub IsSomeRun : List Stmt → State → LeafTally → Type 0
-IsSomeRun program snapshot tally = (on : Marks) × IsOfRun program snapshot on tally

@@ -1,17 +1,22 @@
 -- The run of a batch in order.
-use Rattle.std.specs.Prelude.{◌≡◌, ℕ, ◌<◌, ◌≤◌, Bool, true, List, ◌++◌, length, Option, None, slice_index_or, Result, IfOk, IfSome}
+use Rattle.std.specs.Prelude.{◌≡◌, ℕ, ◌<◌, ◌≤◌, ◌⊎◌, Bool, true, ⊤, List, [], ◌++◌, length, Option, None, slice_index_or, Result, IfOk, IfSome}
 use Rattle.std.specs.Global.{Vec}
 use Rattle.std.specs.List.{AllByRecursion}
-use Rattle.lt_face.specs.State.{State}
+use Rattle.lt_face.specs.State.{Row, State, AgreeOn}
 use Rattle.lt_model.specs.declared.normal.Stmt.{Stmt}
 use Rattle.lt_model.specs.Fits.{FitMarks}
-use Rattle.lt_model.specs.Marks.{Marks, laid}
+use Rattle.lt_model.specs.Marks.{Marks, AreMarks, laid}
 use Rattle.lt_model.specs.Run.{run}
 use Rattle.lt_base.specs.Tables.{Table, state_of, has_index}
 use Rattle.lt_program.specs.declared.going.Ran.{Ran}
 use Rattle.lt_program.specs.Alone.{kept_if}
 use Rattle.lt_program.specs.Run.{AreReplied}
+use Rattle.lt_program.specs.Tally.{TallyView, has_ended}
+use Rattle.lt_restate.specs.Bases.{widths}
+use Rattle.lt_restate.specs.Walked.{is_named}
 use Rattle.lt_batch.specs.declared.ahead.Ahead.{Ahead}
+use Rattle.lt_batch.specs.declared.ahead.Early.{Early}
+use Rattle.lt_batch.specs.declared.ahead.Early.TheVariants.{Ran as RanEarly, Kept}
 use Rattle.lt_batch.specs.declared.fold.Fold.{Fold}
 use Rattle.lt_batch.specs.Batch.{program_at, serial_replies, serial_effects, serial_state}
 
@@ -58,9 +63,27 @@ pub record IsRanOn (program : List Stmt) (state : State) (ran : Ran) : Type 0 wh
   pub fits : FitMarks state ran.marks
   pub printed : AreReplied ran.reply
 
+-- The whole run of the program on an earlier state: on each row that no mark is on that was written since the state is as that one.
+pub record IsKeptSince (statements : List Stmt) (state : State) (since : Marks) (tally : TallyView) : Type 0 where
+  pub program : tally.program ≡ statements
+  pub ended : has_ended tally ≡ true
+  pub relations : widths state ≡ widths (state_of tally.base)
+  pub ascending : AreMarks since
+  pub marked : (relation : ℕ) (row : Row) → AgreeOn (state_of tally.base) state relation row ⊎ (is_named since relation row ≡ true)
+
+-- what was run before its turn is what the program does on the state as it is, or is its run on an earlier one
+abbrev pub IsEarly : List Stmt → State → Marks → Early → Type 0
+IsEarly program state since (RanEarly ran) = IsRanOn program state ran
+IsEarly program state since (Kept tally) = IsKeptSince program state since tally
+
+-- it is a whole run
+abbrev pub IsWhole : Early → Type 0
+IsWhole (RanEarly ran) = ⊥
+IsWhole (Kept tally) = ⊤
+
 -- the run of the program at its place
 abbrev pub IsInPlace : List (List Stmt) → State → Ahead → Type 0
-IsInPlace programs state one = IsRanOn (program_at programs one.place) state one.ran
+IsInPlace programs state one = IsEarly (program_at programs one.place) state [] one.early
 
 -- each of the runs, where they were made
 abbrev pub AreInPlace : {E : Type 0} → List (List Stmt) → State → Result (Vec Ahead) E → Type 0
@@ -70,6 +93,6 @@ AreInPlace programs state runs = IfOk runs (λ all. AllByRecursion (IsInPlace pr
 abbrev pub AreAllInPlace : {E : Type 0} → List (List Stmt) → State → List (Result (Vec Ahead) E) → Type 0
 AreAllInPlace {E} programs state lists = (i : ℕ) (d : Result (Vec Ahead) E) → i < length lists → AreInPlace programs state (slice_index_or lists i d)
 
--- each run from a place on is its program's
-abbrev pub AreAhead : List (List Stmt) → State → ℕ → List (Option Ahead) → Type 0
-AreAhead programs state from ahead = (p : ℕ) → from ≤ p → IfSome (slice_index_or ahead p None) (λ (one : Ahead). IsRanOn (program_at programs p) state one.ran)
+-- each run from a place on is its program's, on the state as it is or one before the marks
+abbrev pub AreAhead : List (List Stmt) → State → Marks → ℕ → List (Option Ahead) → Type 0
+AreAhead programs state since from ahead = (p : ℕ) → from ≤ p → IfSome (slice_index_or ahead p None) (λ (one : Ahead). IsEarly (program_at programs p) state since one.early)

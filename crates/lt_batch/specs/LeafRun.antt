@@ -6,11 +6,7 @@ use Rattle.lt_model.specs.Marks.{Marks, laid}
 use Rattle.lt_model.specs.Run.{run as run_of}
 use Rattle.lt_base.specs.Tables.{state_of}
 use Rattle.lt_program.specs.Tally.{TallyView, IsRun, has_ended}
-use Rattle.lt_model.specs.declared.reply.Reply.{Reply}
-use Rattle.lt_batch.specs.declared.leaf.BareTally.{BareTally}
-use Rattle.lt_batch.specs.declared.leaf.KeptTally.{KeptTally}
 use Rattle.lt_batch.specs.declared.leaf.LeafTally.{LeafTally}
-use Rattle.lt_batch.specs.declared.leaf.LeafTally.TheVariants.{Kept, Bare}
 use Rattle.lt_batch.specs.Batch.{program_at, run_at}
 use Rattle.lt_batch.specs.Work.{BatchView, marks_for}
 
@@ -24,34 +20,13 @@ pub record IsTallyOn (prog : List Stmt) (snapshot : State) (on : Marks) (run : T
   pub marks : run.marks ≡ (run_of prog (laid snapshot on)).1
 
 -- such a run, kept with the marks that were laid
-pub record IsRunOn (prog : List Stmt) (snapshot : State) (on : Marks) (tally : KeptTally) : Type 0 where
+pub record IsRunOn (prog : List Stmt) (snapshot : State) (on : Marks) (tally : LeafTally) : Type 0 where
   pub run : IsTallyOn prog snapshot on tally.run
   pub same_on : tally.on ≡ on
-
--- what the program answers and writes there, where no more of its run is kept, and the marks that were laid
-pub record IsBareOn (prog : List Stmt) (snapshot : State) (on : Marks) (tally : BareTally) : Type 0 where
-  pub same_on : tally.on ≡ on
-  pub reply : tally.reply ≡ (run_of prog (laid snapshot on)).0
-  pub marks : tally.marks ≡ (run_of prog (laid snapshot on)).1
-
--- what the program answered
-abbrev pub reply_of : LeafTally → Reply
-reply_of (Kept kept) = kept.run.reply
-reply_of (Bare bare) = bare.reply
-
--- what it wrote
-abbrev pub effect_of : LeafTally → Marks
-effect_of (Kept kept) = kept.run.marks
-effect_of (Bare bare) = bare.marks
-
--- the tally is of the program's run there
-abbrev pub IsOfRun : List Stmt → State → Marks → LeafTally → Type 0
-IsOfRun prog snapshot on (Kept kept) = IsRunOn prog snapshot on kept
-IsOfRun prog snapshot on (Bare bare) = IsBareOn prog snapshot on bare
 
 -- What program i answers and writes on the snapshot with the correction laid on it. The tally is of the run there; a program that
 -- reads no relation that the correction has a mark on is as well run on the snapshot itself.
 pub record StandsFor (work : BatchView) (tally : LeafTally) (i : ℕ) (on : Marks) : Type 0 where
-  pub ran : IsOfRun (program_at work.programs i) (state_of work.snapshot) (marks_for (program_at work.programs i) on) tally
-  pub reply : reply_of tally ≡ (run_at work.programs (state_of work.snapshot) i on).0
-  pub marks : effect_of tally ≡ (run_at work.programs (state_of work.snapshot) i on).1
+  pub ran : IsRunOn (program_at work.programs i) (state_of work.snapshot) (marks_for (program_at work.programs i) on) tally
+  pub reply : tally.run.reply ≡ (run_at work.programs (state_of work.snapshot) i on).0
+  pub marks : tally.run.marks ≡ (run_at work.programs (state_of work.snapshot) i on).1

@@ -10,3 +10,4 @@ pub mod Priors
 pub mod Replaying
 pub mod Held
 pub mod Folding
+pub mod Bearing

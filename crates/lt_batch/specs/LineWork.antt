@@ -1,5 +1,5 @@
 -- The work of a line: its leaves are the programs of batches.
-use Rattle.std.specs.Prelude.{ℕ, ◌/◌, ◌%◌, List, Option}
+use Rattle.std.specs.Prelude.{◌≡◌, ℕ, ◌/◌, ◌%◌, List, [], Option}
 use Rattle.std.specs.List.{AllByRecursion}
 use Rattle.lt_face.specs.State.{State}
 use Rattle.lt_model.specs.declared.normal.Stmt.{Stmt}
@@ -7,9 +7,11 @@ use Rattle.lt_model.specs.Fits.{Fits, FitMarks}
 use Rattle.lt_model.specs.Marks.{Marks, AreMarks}
 use Rattle.lt_base.specs.Tables.{Table, state_of}
 use Rattle.lt_batch.specs.declared.leaf.LeafTally.{LeafTally}
+use Rattle.lt_batch.specs.declared.spans.Span.{Span}
 use Rattle.lt_batch.specs.LeafRun.{StandsFor}
 use Rattle.lt_batch.specs.Line.{batch_at, line_does}
 use Rattle.lt_batch.specs.Priors.{leaf_bound}
+use Rattle.lt_batch.specs.Spans.{AreWithin}
 use Rattle.lt_batch.specs.Work.{BatchView, IsLeaf, IsSnapshot}
 
 -- the snapshot that all programs start on, and the programs of each batch
@@ -17,9 +19,14 @@ pub record LineWorkView : Type 0 where
   pub snapshot : List Table
   pub batches : List (List (List Stmt))
 
--- batch s alone on the snapshot
+-- The spans lie within the programs of a work of which nothing was run before.
+pub record IsLaidOut (all : BatchView) (spans : List Span) : Type 0 where
+  pub within : AreWithin spans 2048
+  pub early : all.early ≡ []
+
+-- batch s by itself on the snapshot, of which nothing was run before
 abbrev pub batch_in : LineWorkView → ℕ → BatchView
-batch_in work s = record { snapshot = work.snapshot; programs = batch_at work.batches s }
+batch_in work s = record { snapshot = work.snapshot; programs = batch_at work.batches s; early = [] }
 
 -- leaf 256 * s + i is leaf i of batch s: its marks fit where the correction does
 abbrev pub IsLineLeaf : LineWorkView → ℕ → Type 0

@@ -1,49 +1,49 @@
--- What a leaf's prior tally is for.
-use Rattle.std.specs.Prelude.{ℕ, List, Option, Some, None}
+-- What a leaf's older tally is for.
+use Rattle.std.specs.Prelude.{ℕ, ◌&&◌, Bool, true, false, if◌then◌else◌, List, [], ◌∷◌, Option, Some, None}
 use Rattle.lt_face.specs.State.{State}
 use Rattle.lt_model.specs.declared.normal.Stmt.{Stmt}
 use Rattle.lt_model.specs.Fits.{FitMarks}
-use Rattle.lt_model.specs.Marks.{Marks}
+use Rattle.lt_model.specs.Marks.{Marks, laid}
+use Rattle.lt_base.specs.Tables.{state_of}
 use Rattle.lt_program.specs.Tally.{TallyView, cost_of_first, ends_at}
 use Rattle.lt_restate.specs.declared.touch.Touch.{Touch}
 use Rattle.lt_restate.specs.Touches.{AreTouches, cost_again}
-use Rattle.lt_batch.specs.declared.leaf.KeptTally.{KeptTally}
 use Rattle.lt_batch.specs.declared.leaf.LeafTally.{LeafTally}
-use Rattle.lt_batch.specs.declared.leaf.LeafTally.TheVariants.{Kept, Bare}
 use Rattle.lt_batch.specs.Batch.{program_at}
+use Rattle.lt_batch.specs.Early.{early_at}
 use Rattle.lt_batch.specs.LeafRun.{IsRunOn}
-use Rattle.lt_batch.specs.Work.{BatchView, base_at}
+use Rattle.lt_batch.specs.Work.{BatchView, marks_for}
 
 -- a whole run of the program on the snapshot, with some marks laid on it that fit it
-abbrev pub IsPriorOf : List Stmt → State → KeptTally → Type 0
+abbrev pub IsPriorOf : List Stmt → State → LeafTally → Type 0
 IsPriorOf program snapshot old = (on : Marks) × FitMarks snapshot on × IsRunOn program snapshot on old
 
--- what the touches of a restatement say of the two tallies
+-- what the touches of a restatement say of the two runs
 abbrev pub IsRestated : TallyView → TallyView → Type 0
 IsRestated old new = (touches : List Touch) × AreTouches old new touches
 
--- the run of a prior tally, if it was kept
-abbrev pub kept_in : Option LeafTally → Option KeptTally
-kept_in None = None
-kept_in (Some (Kept kept)) = Some kept
-kept_in (Some (Bare bare)) = None
+-- the new tally is the old one restated
+abbrev pub IsRestatedFrom : LeafTally → LeafTally → Type 0
+IsRestatedFrom old new = IsRestated old.run new.run
 
--- the run is kept
-abbrev pub IsKept : LeafTally → Type 0
-IsKept (Kept kept) = Unit {0}
-IsKept (Bare bare) = ⊥
+-- the tally that a leaf restates: its prior, and without one its early run, if there is one
+abbrev pub helper : List (Option LeafTally) → Option LeafTally → ℕ → Option LeafTally
+helper early None i = early_at early i
+helper early (Some old) i = Some old
 
--- the run is kept, and restates this one
-abbrev pub IsRestatedFrom : KeptTally → LeafTally → Type 0
-IsRestatedFrom old (Kept kept) = IsRestated old.run kept.run
-IsRestatedFrom old (Bare bare) = ⊥
+-- no mark is laid
+abbrev pub is_unlaid : Marks → Bool
+is_unlaid [] = true
+is_unlaid (mark ∷ marks) = false
 
--- the moves that a run of the program on the state takes at most: where a prior run is kept, those of its restatement, else
--- those of all statements up to where it ends
-abbrev pub run_bound : Option KeptTally → List Stmt → State → ℕ
-run_bound None program state = cost_of_first (ends_at program state) program state
-run_bound (Some old) program state = cost_again old.run state (ends_at program state)
+-- The moves that a run of the program takes at most on the snapshot with the marks laid on it. Where an older run is there, those of its
+-- restatement: none where nothing was laid and nothing is to be. Else those of all statements up to where it ends.
+abbrev pub run_bound : Option LeafTally → List Stmt → State → Marks → ℕ
+run_bound None program snapshot on = cost_of_first (ends_at program (laid snapshot on)) program (laid snapshot on)
+run_bound (Some old) program snapshot on =
+    if is_unlaid old.on && is_unlaid on then 0 else cost_again old.run (laid snapshot on) (ends_at program (laid snapshot on))
 
 -- the moves that the leaf takes at most
 abbrev pub leaf_bound : BatchView → Option LeafTally → ℕ → Marks → Option ℕ
-leaf_bound work prior i on = Some (run_bound (kept_in prior) (program_at work.programs i) (base_at work i on))
+leaf_bound work prior i on =
+    Some (run_bound (helper work.early prior i) (program_at work.programs i) (state_of work.snapshot) (marks_for (program_at work.programs i) on))

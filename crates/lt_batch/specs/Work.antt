@@ -1,15 +1,16 @@
 -- The work of a batch: its leaves are the programs.
-use Rattle.std.specs.Prelude.{ℕ, ◌<◌, ◌≤◌, List, [], length, if◌then◌else◌}
+use Rattle.std.specs.Prelude.{ℕ, ◌<◌, ◌≤◌, List, [], Option, length, if◌then◌else◌}
 use Rattle.std.specs.List.{AllByRecursion, list_any}
 use Rattle.lt_face.specs.Limits.{most_columns}
 use Rattle.lt_face.specs.State.{State, Relation}
 use Rattle.lt_model.specs.declared.normal.Stmt.{Stmt}
 use Rattle.lt_model.specs.Fits.{Fits, FitMarks}
-use Rattle.lt_model.specs.Marks.{Marks, AreMarks, laid}
+use Rattle.lt_model.specs.Marks.{Marks, AreMarks}
 use Rattle.lt_model.specs.State.{IsState}
 use Rattle.lt_base.specs.Tables.{Table, state_of}
 use Rattle.lt_program.specs.Run.{reads_marked_in}
 use Rattle.lt_program.specs.Tally.{HasIndexes}
+use Rattle.lt_batch.specs.declared.leaf.LeafTally.{LeafTally}
 use Rattle.lt_batch.specs.Batch.{program_at, does_at}
 
 -- a state that programs can run on: its relations are sets of rows with at most 8 cells
@@ -22,10 +23,11 @@ pub record AreRunnable (state : State) (programs : List (List Stmt)) : Type 0 wh
   pub snapshot : IsSnapshot state
   pub fit : AllByRecursion (Fits state) programs
 
--- the snapshot that all programs start on, and the programs
+-- the snapshot that all programs start on, the programs, and by their places the tallies of those that were run on it before
 pub record BatchView : Type 0 where
   pub snapshot : List Table
   pub programs : List (List Stmt)
+  pub early : List (Option LeafTally)
 
 -- the programs can run on the snapshot, and it has the indexes that they need
 pub record IsBatch (snapshot : List Table) (programs : List (List Stmt)) : Type 0 where
@@ -36,13 +38,6 @@ pub record IsBatch (snapshot : List Table) (programs : List (List Stmt)) : Type 
 -- one of its marks is on
 abbrev pub marks_for : List Stmt → Marks → Marks
 marks_for program on = if list_any (reads_marked_in on) program then on else []
-
--- the state that a program with this correction runs on
-abbrev pub base_on : List Stmt → State → Marks → State
-base_on program snapshot on = laid snapshot (marks_for program on)
-
-abbrev pub base_at : BatchView → ℕ → Marks → State
-base_at work i on = base_on (program_at work.programs i) (state_of work.snapshot) on
 
 -- what program i writes where the correction is laid on the snapshot
 abbrev pub batch_does : BatchView → ℕ → Marks → Marks

@@ -8,16 +8,17 @@ ghost use Rattle.lt_model.specs.Fits.{Fits};
 ghost use Rattle.lt_base.specs.Tables.{state_of};
 ghost use Rattle.lt_program.specs.Tally.{HasIndexes};
 ghost use Rattle.lt_batch.specs.Early.{AreEarly, early_at};
-ghost use Rattle.lt_batch.specs.LeafRun.{IsBareOn};
+ghost use Rattle.lt_batch.specs.LeafRun.{IsRunOn};
+ghost use Rattle.lt_batch.specs.Priors.{helper};
 ghost use Rattle.lt_batch.specs.Work.{AreRunnable};
 
-use crate::leaf::BareTally;
+use crate::leaf::LeafTally;
 use crate::ties::Ties;
 use lt_base::Database;
 use lt_delta::Marks;
 use lt_face::memory::NoMemory;
 use lt_face::moves::Moves;
-use lt_program::{Ran, has_long_join, run_split_alone};
+use lt_program::{has_long_join, run_split};
 use lt_query::Planned;
 use std::alloc::Global;
 use std::sync::{Arc, Wait};
@@ -30,20 +31,19 @@ fn early_run<R: Threads + Wait + Sync>(
     snapshot: &Database,
     parts: u32,
     is_free: bool,
-) -> Result<Option<BareTally>, NoMemory>
+) -> Result<Option<LeafTally>, NoMemory>
     requires fits { Fits (state_of snapshot.now) (arc_value prog.now) }
     requires indexes { HasIndexes snapshot.now (arc_value prog.now) }
     requires parts { (1 ≤ parts) × (parts ≤ most_workers) }
-    ensures { IfOk result (λ run. IfSome run (IsBareOn (arc_value prog.now) (state_of snapshot.now) [])) }
+    ensures { IfOk result (λ run. IfSome run (IsRunOn (arc_value prog.now) (state_of snapshot.now) [])) }
 {
     if !is_free || !has_long_join(prog, snapshot) {
         return Ok(None);
     }
     let mut moves: Moves<()> = Moves::new();
-    let ran = run_split_alone(rt, prog, snapshot, parts, &mut moves)?;
+    let run = run_split(rt, prog, snapshot, parts, &mut moves)?;
     let on = Marks::empty(prog.allocator())?;
-    let Ran { reply, marks } = ran;
-    Ok(Some(BareTally { reply, on, marks }))
+    Ok(Some(LeafTally { run, on }))
 }
 
 /// Whether no program before the one at the place has a bearing on it. No clause speaks of it.
@@ -60,7 +60,7 @@ pub(crate) fn all_early<R: Threads + Wait + Sync>(
     progs: &[Arc<Planned>],
     ties: &[Ties],
     workers: u32,
-) -> Result<Vec<Option<BareTally>>, NoMemory>
+) -> Result<Vec<Option<LeafTally>>, NoMemory>
     requires runnable { AreRunnable (state_of snapshot.now) (map arc_value progs.now) }
     requires indexed { AllByRecursion (HasIndexes snapshot.now) (map arc_value progs.now) }
     requires workers { (1 ≤ workers) × (workers ≤ most_workers) }
@@ -79,11 +79,25 @@ pub(crate) fn all_early<R: Threads + Wait + Sync>(
 }
 
 /// The early run at the place, if there is one.
-pub(crate) fn early_in(early: &Vec<Option<BareTally>>, place: usize) -> Option<&BareTally>
-    ensures { option_map (λ bare. bare.now) result ≡ early_at early.now.items place }
+fn early_in(early: &Vec<Option<LeafTally>>, place: usize) -> Option<&LeafTally>
+    ensures { option_map (λ run. run.now) result ≡ early_at early.now.items place }
 {
     if place >= early.len() {
         return None;
     }
     early[place].as_ref()
+}
+
+/// The tally that the leaf at the place restates: its prior, and without one its early run, if there is one.
+pub(crate) fn helper_in<'a>(
+    early: &'a Vec<Option<LeafTally>>,
+    prior: Option<&'a LeafTally>,
+    place: usize,
+) -> Option<&'a LeafTally>
+    ensures { option_map (λ old. old.now) result ≡ helper early.now.items (option_map (λ old. old.now) prior.entry) place }
+{
+    match prior {
+        None => early_in(early, place),
+        Some(old) => Some(old),
+    }
 }

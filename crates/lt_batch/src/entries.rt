@@ -90,7 +90,7 @@ fn finish<W: LeafWork>(
     match taken(hands, entry.worker, JobName::of(entry.code / 3)) {
         Some(job) => {
             let mut moves: Moves<()> = Moves::new();
-            match job.work(false, &mut moves) {
+            match job.work(&mut moves) {
                 Ok(output) => {
                     drop(circuit.finish(entry.worker, output));
                     Ok(true)

@@ -10,13 +10,13 @@ ghost use Rattle.lt_program.specs.Alone.{kept_if};
 ghost use Rattle.lt_program.specs.Run.{AreReplied};
 ghost use Rattle.lt_program.specs.Tally.{HasIndexes};
 ghost use Rattle.lt_batch.specs.Batch.{serial_replies, serial_effects, serial_state};
-ghost use Rattle.lt_batch.specs.Folding.{AreAhead, HasGone, HasRun, IsAlike, IsRanOn};
+ghost use Rattle.lt_batch.specs.Folding.{AreAhead, HasGone, HasRun, IsAlike, IsEarly, IsRanOn};
 
-use crate::ahead::{Ahead, let_go, run_ahead};
+use crate::ahead::{Ahead, Early, Task, corrected, let_go, run_ahead};
 use crate::batch::run_batch;
 use crate::outcome::{Effects, Outcome, Replies};
-use crate::ties::ties_of;
-use crate::weight::Weight;
+use crate::pace::Pace;
+use crate::ties::{Ties, ties_of};
 use lt_base::Database;
 use lt_delta::Marks;
 use lt_edges::Gate;
@@ -28,6 +28,9 @@ use lt_query::Planned;
 use std::alloc::Global;
 use std::sync::{Arc, Wait};
 use std::thread::Threads;
+
+/// A kept run takes several times the time of another, so that it pays from so many workers on.
+const KEEPERS: u32 = 16;
 
 /// What a batch answered and wrote, and the database that it left.
 #[derive(Drop)]
@@ -44,12 +47,18 @@ struct Fold {
     effects: Effects,
     db: Database,
     keeps: bool,
-    weight: Weight,
+    pace: Pace,
 }
 
 impl Fold {
     /// No program yet.
-    fn new(alloc: Global, db: &Database, count: usize, keeps: bool) -> Result<Fold, NoMemory>
+    fn new(
+        alloc: Global,
+        db: &Database,
+        count: usize,
+        keeps: bool,
+        pace: Pace,
+    ) -> Result<Fold, NoMemory>
         ensures replies { IfOk result (λ fold. fold.replies ≡ []) }
         ensures effects { IfOk result (λ fold. fold.effects ≡ []) }
         ensures db { IfOk result (λ fold. fold.db ≡ db.now) }
@@ -63,7 +72,7 @@ impl Fold {
             effects: Items::from_vec(effects),
             db,
             keeps,
-            weight: Weight::none(),
+            pace,
         })
     }
 
@@ -119,7 +128,7 @@ impl Fold {
     {
         let mut moves: Moves<()> = Moves::new();
         let ran = run_in_place(prog, &mut self.db, keeps, &mut moves)?;
-        self.weight.count(moves.ticks(), ran.marks.len());
+        self.pace.count(moves.ticks(), ran.marks.len());
         Ok(ran)
     }
 
@@ -141,31 +150,50 @@ impl Fold {
         Ok(ran)
     }
 
-    /// Takes the run of the next program that was run ahead.
-    fn take(&mut self, _prog: &Planned, ahead: Ahead) -> Result<Ran, NoMemory>
-        requires { IsRanOn _prog.now (state_of self.old.db) ahead.ran }
+    /// Takes what the next program did ahead, which it does in its place, too.
+    fn take(&mut self, _prog: &Planned, ran: Ran) -> Result<Ran, NoMemory>
+        requires { IsRanOn _prog.now (state_of self.old.db) ran }
         ensures { IfOk result (HasRun _prog.now true self.old self.new) }
     {
-        let Ahead {
-            place: _,
-            ran,
-            moves,
-        } = ahead;
-        self.weight.count(moves, ran.marks.len());
         self.db.lay(&ran.marks)?;
         Ok(ran)
     }
 
     /// Runs the next program, or takes its run, if it was run ahead.
-    fn take_or_go_on(&mut self, prog: &Planned, ahead: Option<Ahead>) -> Result<Ran, NoMemory>
+    fn take_or_go_on(
+        &mut self,
+        alloc: Global,
+        prog: &Planned,
+        ahead: Option<Ahead>,
+        since: &Marks,
+    ) -> Result<Ran, NoMemory>
         requires fit { Fits (state_of self.old.db) prog.now }
         requires indexes { HasIndexes self.old.db prog.now }
-        requires ahead { IfSome ahead (λ one. IsRanOn prog.now (state_of self.old.db) one.ran) }
+        requires ahead { IfSome ahead (λ one. IsEarly prog.now (state_of self.old.db) since.now one.early) }
         ensures { IfOk result (HasRun prog.now true self.old self.new) }
     {
-        match ahead {
-            Some(one) => self.take(prog, one),
-            None => self.go_on(prog, true),
+        let Some(one) = ahead else {
+            return self.go_on(prog, true);
+        };
+        let Ahead {
+            place: _,
+            early,
+            moves,
+        } = one;
+        match early {
+            Early::Ran(ran) => {
+                self.pace.count(moves, ran.marks.len());
+                self.pace.note();
+                self.take(prog, ran)
+            }
+            Early::Kept(tally) => {
+                let (ran, stood) = corrected(alloc, prog, &self.db, tally, since)?;
+                self.pace.count(moves, ran.marks.len());
+                if stood {
+                    self.pace.note();
+                }
+                self.take(prog, ran)
+            }
         }
     }
 
@@ -179,20 +207,22 @@ impl Fold {
         requires fit { AllByRecursion (Fits (state_of self.old.db)) (map arc_value round.now) }
         requires indexes { AllByRecursion (HasIndexes self.old.db) (map arc_value round.now) }
         requires long { length ahead.old.items ≡ length round.now }
-        requires ahead { AreAhead (map arc_value round.now) (state_of self.old.db) 0 ahead.old.items }
+        requires ahead { AreAhead (map arc_value round.now) (state_of self.old.db) [] 0 ahead.old.items }
         ensures { OnOk result (HasGone (map arc_value round.now) self.old self.new) }
     {
+        let mut since = Marks::empty(alloc)?;
         for i in 0..round.len() {
             let prog = &round[i];
             let one = ahead[i].take();
-            let ran = self.take_or_go_on(prog, one)?;
+            let ran = self.take_or_go_on(alloc, prog, one, &since)?;
             let_go(ahead, round, i + 1, &ran.marks);
+            since.add(&ran.marks)?;
             self.push(alloc, ran)?;
         }
         Ok(())
     }
 
-    /// The runs of the free ones among the next programs on the database so far.
+    /// What is run ahead of the next programs, on the database so far.
     fn ran_ahead<R: Threads + Wait + Sync>(
         &self,
         rt: &R,
@@ -203,17 +233,31 @@ impl Fold {
         requires fit { AllByRecursion (Fits (state_of self.now.db)) (map arc_value round.now) }
         requires indexes { AllByRecursion (HasIndexes self.now.db) (map arc_value round.now) }
         ensures long { IfOk result (λ all. length all.items ≡ length round.now) }
-        ensures ahead { IfOk result (λ all. AreAhead (map arc_value round.now) (state_of self.now.db) 0 all.items) }
+        ensures ahead { IfOk result (λ all. AreAhead (map arc_value round.now) (state_of self.now.db) [] 0 all.items) }
     {
-        let mut places = free_places(alloc, round)?;
-        if !self.weight.is_worth(places.len()) {
-            places.clear();
-        }
-        let all = run_ahead(rt, alloc, round, places.as_slice(), &self.db, workers)?;
+        let tasks = self.tasks(alloc, round, workers)?;
+        let all = run_ahead(rt, alloc, round, tasks.as_slice(), &self.db, workers)?;
         Ok(all)
     }
 
-    /// The next programs: those that none before them has a bearing on are run ahead by all workers.
+    /// Which of the next programs are run ahead: those that none before them has a bearing on; and while runs mostly stand those that
+    /// read what is written before them by constants alone, and, where there are many workers, all others, whose runs are kept. None,
+    /// where that isn't worth a thread.
+    fn tasks(
+        &self,
+        alloc: Global,
+        round: &[Arc<Planned>],
+        workers: u32,
+    ) -> Result<Vec<Task>, NoMemory> {
+        let is_lucky = self.pace.is_lucky();
+        let mut tasks = tasks_of(alloc, round, is_lucky, is_lucky && workers >= KEEPERS)?;
+        if !self.pace.is_worth(tasks.len()) {
+            tasks.clear();
+        }
+        Ok(tasks)
+    }
+
+    /// The next programs, which are run ahead by all workers, and corrected in order.
     fn go_on_together<R: Threads + Wait + Sync>(
         &mut self,
         rt: &R,
@@ -226,12 +270,14 @@ impl Fold {
     {
         self.index_all(rt, progs)?;
         let mut ahead = self.ran_ahead(rt, alloc, progs, workers)?;
+        let made = made(&ahead);
         self.go_round(alloc, progs, &mut ahead)?;
+        self.pace.end_round(progs.len(), made);
         Ok(())
     }
 
     /// The next program.
-    fn go_on_alone<R: Threads + Wait + Sync>(
+    fn go_one<R: Threads + Wait + Sync>(
         &mut self,
         rt: &R,
         alloc: Global,
@@ -243,13 +289,13 @@ impl Fold {
         ensures { OnOk result (HasGone (prog.now ∷ []) self.old self.new) }
     {
         self.index(rt, prog)?;
-        let ran = self.ran_alone(rt, prog, parts)?;
+        let ran = self.ran_one(rt, prog, parts)?;
         self.push(alloc, ran)?;
         Ok(())
     }
 
     /// Runs the next program, its long joins by so many parts.
-    fn ran_alone<R: Threads + Wait + Sync>(
+    fn ran_one<R: Threads + Wait + Sync>(
         &mut self,
         rt: &R,
         prog: &Planned,
@@ -282,15 +328,15 @@ impl Fold {
         ensures some { IfOk result (λ count. (1 ≤ count) × (count ≤ length progs.now)) }
         ensures gone { IfOk result (λ count. HasGone (map arc_value (take count progs.now)) self.old self.new) }
     {
-        let together = workers > 1 && self.weight.is_worth(progs.len());
+        let together = workers > 1 && self.pace.is_worth(progs.len());
         if together {
-            let count = progs.len().min(self.weight.next_round(workers));
+            let count = progs.len().min(self.pace.next_round(workers));
             let (round, _) = progs.split_at(count);
             self.go_on_together(rt, alloc, round, workers)?;
             return Ok(count);
         }
         let prog = &progs[0];
-        self.go_on_alone(rt, alloc, prog, parts)?;
+        self.go_one(rt, alloc, prog, parts)?;
         Ok(1)
     }
 
@@ -342,23 +388,55 @@ fn parts_for(programs: usize, workers: u32) -> u32
     1
 }
 
-/// The places of the programs that none before them has a bearing on.
-fn free_places(alloc: Global, progs: &[Arc<Planned>]) -> Result<Vec<usize>, NoMemory> {
-    let ties = ties_of(alloc, progs)?;
-    let mut places = Vec::with_capacity(alloc, progs.len())?;
-    for place in 0..ties.len() {
-        if ties[place].is_free() {
-            places.push(place)?;
+/// How many runs were made.
+fn made(ahead: &[Option<Ahead>]) -> usize {
+    let mut count: usize = 0;
+    for one in ahead {
+        if one.is_some() {
+            count = count.saturating_add(1);
         }
     }
-    Ok(places)
+    count
+}
+
+/// The programs to be run ahead: those that none before them has a bearing on; of the others, if asked for, those that read what is
+/// written before them by constants alone; and, if asked for, the rest, whose runs are kept.
+fn tasks_of(
+    alloc: Global,
+    progs: &[Arc<Planned>],
+    with_narrow: bool,
+    with_kept: bool,
+) -> Result<Vec<Task>, NoMemory> {
+    let ties = ties_of(alloc, progs)?;
+    let mut tasks = Vec::with_capacity(alloc, progs.len())?;
+    for place in 0..ties.len() {
+        let tie = ties[place];
+        if tie.is_free() || (with_narrow && is_narrow_at(progs, place, tie)) {
+            tasks.push(Task {
+                place,
+                keeps: false,
+            })?;
+        } else if with_kept {
+            tasks.push(Task { place, keeps: true })?;
+        }
+    }
+    Ok(tasks)
+}
+
+/// Whether the program at the place reads what is written before it by constants alone.
+fn is_narrow_at(progs: &[Arc<Planned>], place: usize, tie: Ties) -> bool {
+    if place >= progs.len() {
+        return false;
+    }
+    tie.is_narrow(progs[place].statements())
 }
 
 /// Runs the programs of a batch, one after another. The replies and the database left are those of the programs one after another, and
 /// so are the effects, where they are asked for.
 ///
-/// Where there are several workers and the programs show to be dear, the next ones are run ahead by all of them. At a gate that may hold
-/// a worker until another comes they are run by a circuit.
+/// Where there are several workers and the programs show to be dear, the next ones are run ahead by all of them on the database so far.
+/// At its turn a run is corrected by what was written since: what no changed row touches stays. At a gate that may hold a worker until
+/// another comes they are run by a circuit. The pace is kept from batch to batch.
 pub fn fold_batch<R: Threads + Wait + Sync, G: Gate>(
     rt: &R,
     alloc: Global,
@@ -367,6 +445,7 @@ pub fn fold_batch<R: Threads + Wait + Sync, G: Gate>(
     keeps: bool,
     workers: u32,
     gate: &G,
+    pace: &mut Pace,
 ) -> Result<Folded, NoMemory>
     requires few { length progs.now ≤ most_programs }
     requires workers { (1 ≤ workers) × (workers ≤ most_workers) }
@@ -393,14 +472,15 @@ pub fn fold_batch<R: Threads + Wait + Sync, G: Gate>(
             db,
         });
     }
-    let mut fold = Fold::new(alloc, db, progs.len(), keeps)?;
+    let mut fold = Fold::new(alloc, db, progs.len(), keeps, *pace)?;
     fold.go_all(rt, alloc, progs, workers)?;
+    *pace = fold.pace;
     let Fold {
         replies,
         effects,
         db,
         keeps: _,
-        weight: _,
+        pace: _,
     } = fold;
     let mut db = db;
     db.age();

@@ -1,15 +1,15 @@
 //! A batch of programs: each starts on one snapshot, and is corrected by what those before it do.
 //!
-//! `fold` is the run in order. `weight` says how dear programs show to be, by the moves that `Moves` counts as they run, `ties` which are
-//! free (by masks of 64 bits), and `ahead` runs these and lets go those that a later write has a bearing on. All else is for circuits.
+//! `fold` is the run in order. Where programs show to be dear (`pace`: by the moves that `Moves` counts as they run), rounds of the next
+//! ones are run ahead by all workers (`ahead`): those that none before them in the round has a bearing on (`ties`, by masks of 64 bits)
+//! keep their replies and marks, the others their tallies, and each is corrected at its turn: `restate_marks` evaluates those statements
+//! again that a changed row touches. All else is for circuits.
 //! `work` is the leaves (`BatchWork`): a run of a program on the corrected snapshot, or its restatement where the claim brought an older
 //! tally of it. Nothing of a correction is laid where the program reads no relation that it marks (`marks_to_lay`); where that was so for
-//! the older tally too, the older one is kept (`tally_on`). A run that is thought to be the leaf's last (`work_last`) is `run_alone`, and
-//! its tally is bare: a reply, an effect, and what was laid. Where such a leaf runs again it runs anew, unless nothing was laid and
-//! nothing is to be: then the old tally is right still, and is copied (`bare`). `early` runs programs with long joins by parts
-//! (`run_split_alone`) before a circuit starts; where nothing is laid their leaves copy these tallies. `gathering` is what a settled
-//! circuit answered. `replaying` is a batch by a journal that was written down: `entries` does each entry on a new circuit, and keeps the
-//! jobs that workers hold meanwhile, by worker.
+//! the older tally too, the older one is kept (`tally_on`). So each tally keeps its senses, and each run of a leaf restates the one before.
+//! `early` runs programs with long joins by parts (`run_split`) before a circuit starts; a leaf without an older tally restates such a
+//! run. `gathering` is what a settled circuit answered. `replaying` is a batch by a journal that was written down: `entries` does each
+//! entry on a new circuit, and keeps the jobs that workers hold meanwhile, by worker.
 //!
 //! Batches that follow one another run as one line (`line`). Its work (`line_work`) is a `BatchWork` over the programs of all of them,
 //! batch after batch, so that they share one snapshot with all indexes, and plans; `spans` tells where each batch stands in it. Leaf 256 *
@@ -20,8 +20,8 @@
 #![tactic(auto)]
 
 mod ahead;
-mod bare;
 mod batch;
+mod bearing;
 mod early;
 mod entries;
 mod fold;
@@ -32,10 +32,10 @@ mod line;
 mod line_gathering;
 pub mod line_work;
 pub mod outcome;
+mod pace;
 mod replaying;
 pub mod spans;
 mod ties;
-mod weight;
 pub mod work;
 
 pub use batch::run_batch;
@@ -44,6 +44,7 @@ pub use leaf::LeafTally;
 pub use line::run_line;
 pub use line_work::LineWork;
 pub use outcome::{Effects, LineEffects, LineOutcome, LineReplies, Outcome, Replies};
+pub use pace::Pace;
 pub use replaying::{Journal, ReplayFault, Written, replay_batch, write_down};
 pub use spans::ProgList;
 pub use work::BatchWork;

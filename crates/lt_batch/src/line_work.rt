@@ -1,13 +1,16 @@
 //! The work of a line: the programs of several batches as its leaves.
-ghost use Rattle.std.specs.Prelude.{◌≡◌, ◌<◌, ◌≤◌, ◌+◌, ◌*◌, ℕ, List, length, IfOk};
+ghost use Rattle.std.specs.Prelude.{◌≡◌, ◌<◌, ◌≤◌, ◌+◌, ◌*◌, ℕ, List, length, IfOk, IfSome};
 ghost use Rattle.std.specs.List.{AllByRecursion};
+ghost use Rattle.std.specs.Option.{option_map};
 ghost use Rattle.lt_face.specs.Limits.{most_programs};
 ghost use Rattle.lt_model.specs.Fits.{Fits};
+ghost use Rattle.lt_model.specs.Marks.{Marks as MarksView};
 ghost use Rattle.lt_model.specs.declared.normal.Stmt.{Stmt};
 ghost use Rattle.lt_base.specs.Tables.{state_of};
 ghost use Rattle.lt_circuit.specs.Row.{most_segments};
 ghost use Rattle.lt_batch.specs.Line.{batch_at, programs_of};
-ghost use Rattle.lt_batch.specs.LineWork.{IsLineLeaf};
+ghost use Rattle.lt_batch.specs.LineWork.{FitsLine, IsLineLeaf, StandsInLine, line_leaf_bound};
+ghost use Rattle.lt_batch.specs.Priors.{IsRestatedFrom};
 ghost use Rattle.lt_batch.specs.Work.{IsSnapshot};
 
 use crate::leaf::LeafTally;
@@ -32,15 +35,14 @@ pub struct LineWork {
 }
 
 impl Model for LineWork {
-    ghost use Rattle.lt_batch.specs.LineWork.{LineWorkView};
-    ghost use Rattle.lt_batch.specs.Spans.{parted, AreWithin};
-    ghost use Rattle.std.specs.Prelude.{length};
+    ghost use Rattle.lt_batch.specs.LineWork.{IsLaidOut, LineWorkView};
+    ghost use Rattle.lt_batch.specs.Spans.{parted};
 
     ghost Value = { LineWorkView };
 
     ghost view = { λ w. record { snapshot = w.all.snapshot; batches = parted w.spans.items w.all.programs } };
 
-    ghost invariant = { λ w. AreWithin w.spans.items 2048 };
+    ghost invariant = { λ w. IsLaidOut w.all w.spans.items };
 }
 
 impl LineWork {
@@ -105,20 +107,17 @@ impl LeafWork for LineWork {
         prior: Option<&LeafTally>,
         correction: &Marks,
         moves: &mut Moves<L>,
-    ) -> Result<LeafTally, NoMemory> {
+    ) -> Result<LeafTally, NoMemory>
+        requires leaf { IsLineLeaf self.now leaf }
+        requires correction { FitsLine self.now correction.now }
+        requires prior { IfSome prior (λ old. (c : MarksView) × FitsLine self.now c × StandsInLine self.now old.now leaf c) }
+        ensures stands { IfOk result (λ tally. StandsInLine self.now tally leaf correction.now) }
+        ensures moves { IfSome (line_leaf_bound self.now (option_map (λ old. old.now) prior.entry) leaf correction.now) (λ most. moves.new ≤ moves.old + most) }
+        ensures rises { moves.old ≤ moves.new }
+        ensures restated { IfOk result (λ tally. IfSome prior.entry (λ old. IsRestatedFrom old.now tally)) }
+    {
         let place = place_of(&self.spans, leaf);
         let tally = self.all.work(place, prior, correction, moves)?;
-        Ok(tally)
-    }
-
-    fn work_last<L>(
-        &self,
-        leaf: u32,
-        correction: &Marks,
-        moves: &mut Moves<L>,
-    ) -> Result<LeafTally, NoMemory> {
-        let place = place_of(&self.spans, leaf);
-        let tally = self.all.work_last(place, correction, moves)?;
         Ok(tally)
     }
 

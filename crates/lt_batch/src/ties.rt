@@ -1,12 +1,11 @@
 //! How dear a program's run was, and how it hangs on the programs before it. No clause speaks of it.
-use crate::leaf::KeptTally;
+use crate::leaf::LeafTally;
 use lt_delta::Marks;
 use lt_face::memory::NoMemory;
 use lt_model::mark::Mark;
-use lt_model::normal::{Atom, Stmt};
-use lt_program::{Part, Tally};
+use lt_model::normal::{Atom, Stmt, Term};
+use lt_program::{Found, Part, weight_of};
 use lt_query::{Planned, body_of};
-use lt_sense::Sense;
 use std::alloc::Global;
 use std::sync::Arc;
 
@@ -24,6 +23,16 @@ impl Ties {
     /// Whether no program before it writes what the program reads.
     pub(crate) fn is_free(self) -> bool {
         self.reads & self.written == 0
+    }
+
+    /// Whether the program, where it reads what programs before it write, reads it by constants alone.
+    pub(crate) fn is_narrow(self, prog: &[Stmt]) -> bool {
+        for stmt in prog {
+            if !is_narrow_in(stmt, self.written) {
+                return false;
+            }
+        }
+        true
     }
 
     /// Whether the program reads a relation of this number, modulo 64.
@@ -66,6 +75,50 @@ fn displacing(stmt: &Stmt) -> u64 {
     }
 }
 
+/// Whether one of the first terms is a constant.
+fn has_constant(terms: &[Term], count: usize) -> bool {
+    for i in 0..terms.len() {
+        if i < count && matches!(terms[i], Term::Cell(_)) {
+            return true;
+        }
+    }
+    false
+}
+
+/// Whether each of the atoms on these relations has a constant.
+fn are_narrow(atoms: &[Atom], relations: u64) -> bool {
+    for atom in atoms {
+        let terms = atom.terms.as_slice();
+        if relations & bit(atom.relation) != 0 && !has_constant(terms, terms.len()) {
+            return false;
+        }
+    }
+    true
+}
+
+/// The same of the key of a head, whose relation has value columns.
+fn is_narrow_head(head: &Atom, keys: u32, relations: u64) -> bool {
+    let terms = head.terms.as_slice();
+    relations & bit(head.relation) == 0
+        || keys as usize == terms.len()
+        || has_constant(terms, keys as usize)
+}
+
+/// Whether the statement reads these relations by constants alone.
+fn is_narrow_in(stmt: &Stmt, relations: u64) -> bool {
+    let body = body_of(stmt);
+    if !are_narrow(body.atoms.as_slice(), relations)
+        || !are_narrow(body.absents.as_slice(), relations)
+    {
+        return false;
+    }
+    match stmt {
+        Stmt::Insert { head, keys, .. } => is_narrow_head(head, *keys, relations),
+        Stmt::Replace { come, keys, .. } => is_narrow_head(come, *keys, relations),
+        _plain => true,
+    }
+}
+
 /// The ties of each program of a batch.
 pub(crate) fn ties_of(alloc: Global, progs: &[Arc<Planned>]) -> Result<Vec<Ties>, NoMemory> {
     let mut ties = Vec::with_capacity(alloc, progs.len())?;
@@ -86,36 +139,19 @@ pub(crate) fn ties_of(alloc: Global, progs: &[Arc<Planned>]) -> Result<Vec<Ties>
     Ok(ties)
 }
 
-/// How many gaps and hits the sense has.
-fn sense_weight(sense: &Sense) -> usize {
-    sense.gap_count().saturating_add(sense.hit_count())
-}
-
-/// How many gaps and hits the part's senses have.
-fn part_weight(part: &Part) -> usize {
-    let mut size = sense_weight(&part.sense);
-    for shared in part.slices.as_slice() {
-        size = size.saturating_add(sense_weight(&shared.slice().sense));
+/// Whether a statement found one row at most.
+fn has_few(found: &Found) -> bool {
+    match found {
+        Found::Rows(rows) => rows.len() < 2,
+        Found::Both(gone, _) => gone.len() < 2,
+        _whole => true,
     }
-    size
 }
 
-/// How many gaps and hits the senses of the run have.
-pub(crate) fn weight_of(run: &Tally) -> usize {
-    let mut size: usize = 0;
-    for shared in run.parts() {
-        size = size.saturating_add(part_weight(shared.part()));
-    }
-    size
-}
-
-/// Whether all of the part hangs on the mark's row. Of many slices only few do.
+/// Whether all of the part hangs on the mark's row. Of many rows that were found key by key only few do.
 fn hangs_on(part: &Part, mark: &Mark) -> bool {
-    if part.sense.covers(mark.relation, &mark.row) {
-        return true;
-    }
-    let slices = part.slices.as_slice();
-    slices.len() == 1 && slices[0].slice().sense.covers(mark.relation, &mark.row)
+    let is_whole = part.slices().is_none() || has_few(part.outcome());
+    is_whole && part.covers(mark.relation, &mark.row)
 }
 
 /// Whether all of the part hangs on some of the marks. Of those on relations that the program reads the last few are looked up.
@@ -137,12 +173,12 @@ fn hangs_on_some(part: &Part, ties: Ties, marks: &Marks) -> bool {
 }
 
 /// Whether most of the run hangs on its correction.
-pub(crate) fn is_tied(ties: Ties, tally: &KeptTally) -> bool {
+pub(crate) fn is_tied(ties: Ties, tally: &LeafTally) -> bool {
     let mut size: usize = 0;
     for shared in tally.run.parts() {
         let part = shared.part();
         if hangs_on_some(part, ties, &tally.on) {
-            size = size.saturating_add(part_weight(part));
+            size = size.saturating_add(part.certificate().weight());
         }
     }
     size.saturating_mul(2) > weight_of(&tally.run)

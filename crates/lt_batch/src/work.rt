@@ -1,5 +1,5 @@
 //! The work of a batch: its programs as the leaves of a circuit.
-ghost use Rattle.std.specs.Prelude.{◌≡◌, ◌≢◌, ◌<◌, ◌≤◌, ◌+◌, ℕ, [], None, map, length, IfOk, IfSome, IsTrue};
+ghost use Rattle.std.specs.Prelude.{◌≡◌, ◌<◌, ◌≤◌, ◌+◌, ◌&&◌, ℕ, [], None, map, length, IfOk, IfSome, IsTrue};
 ghost use Rattle.lt_face.specs.Limits.{most_workers};
 ghost use Rattle.lt_face.specs.State.{State};
 ghost use Rattle.std.specs.Arc.{arc_value};
@@ -11,23 +11,22 @@ ghost use Rattle.lt_model.specs.Run.{run as run_of};
 ghost use Rattle.lt_base.specs.Tables.{state_of};
 ghost use Rattle.lt_program.specs.Tally.{HasIndexes, cost_of_first, ends_at};
 ghost use Rattle.lt_restate.specs.Touches.{cost_again};
-ghost use Rattle.lt_batch.specs.Batch.{program_at};
-ghost use Rattle.lt_batch.specs.LeafRun.{IsTallyOn, IsRunOn, IsBareOn, StandsFor};
-ghost use Rattle.lt_batch.specs.Priors.{IsPriorOf, IsKept, IsRestated, IsRestatedFrom, kept_in, run_bound, leaf_bound};
+ghost use Rattle.lt_batch.specs.Early.{early_at};
+ghost use Rattle.lt_batch.specs.LeafRun.{IsTallyOn, IsRunOn, StandsFor};
+ghost use Rattle.lt_batch.specs.Priors.{IsPriorOf, IsRestated, IsRestatedFrom, is_unlaid, run_bound, leaf_bound};
 ghost use Rattle.lt_batch.specs.Work.{AreRunnable, FitsBatch, IsLeaf, marks_for};
 
-use crate::bare::{copied_bare, unlaid_for};
-use crate::early::{all_early, early_in};
+use crate::early::{all_early, helper_in};
 use crate::indexing::all_indexed;
-use crate::leaf::{BareTally, KeptTally, LeafTally};
+use crate::leaf::LeafTally;
 use crate::spans::{ProgList, push_all};
-use crate::ties::{Ties, is_tied, ties_of, weight_of};
+use crate::ties::{Ties, is_tied, ties_of};
 use lt_base::Database;
 use lt_circuit::LeafWork;
 use lt_delta::Marks;
 use lt_face::memory::NoMemory;
 use lt_face::moves::Moves;
-use lt_program::{Ran, Tally, reads_marked, run, run_alone};
+use lt_program::{Tally, reads_marked, run, weight_of};
 use lt_query::Planned;
 use lt_restate::restate_marks;
 use std::alloc::Global;
@@ -40,8 +39,8 @@ use std::thread::Threads;
 pub struct BatchWork {
     snapshot: Database,
     programs: ProgList,
-    /// The runs of programs on the snapshot that are there from the start, by their places. Past the end there are none.
-    early: Vec<Option<BareTally>>,
+    /// The tallies of programs that were run on the snapshot before, by their places. Past the end there are none.
+    early: Vec<Option<LeafTally>>,
     /// Of each program, which of those before it have a bearing on it. No clause speaks of it.
     ties: Vec<Ties>,
 }
@@ -54,7 +53,7 @@ impl Model for BatchWork {
 
     ghost Value = { BatchView };
 
-    ghost view = { λ w. record { snapshot = w.snapshot; programs = map arc_value w.programs.items } };
+    ghost view = { λ w. record { snapshot = w.snapshot; programs = map arc_value w.programs.items; early = w.early.items } };
 
     ghost invariant = { λ w. IsBegun w.snapshot (map arc_value w.programs.items) w.early.items };
 }
@@ -111,7 +110,7 @@ fn begun<L>(
 fn restated<L>(
     prog: &Arc<Planned>,
     snapshot: &Database,
-    old: &KeptTally,
+    old: &LeafTally,
     on: &Marks,
     moves: &mut Moves<L>,
 ) -> Result<Tally, NoMemory>
@@ -130,88 +129,47 @@ fn restated<L>(
     Ok(tally)
 }
 
-/// A second owner of the tally.
-fn shared(old: &KeptTally) -> Result<KeptTally, NoMemory>
-    ensures { IfOk result (λ same. same ≡ old.now) }
-{
-    let run = old.run.share()?;
-    let on = old.on.share()?;
-    Ok(KeptTally { run, on })
-}
-
 /// Whether neither of both lists has a mark.
 fn are_empty(first: &Marks, second: &Marks) -> bool
+    ensures value { result ≡ (is_unlaid first.now && is_unlaid second.now) }
     ensures first { IsTrue result → first.now ≡ [] }
     ensures second { IsTrue result → second.now ≡ [] }
 {
     first.len() == 0 && second.len() == 0
 }
 
-/// The tally of a program on the snapshot with the marks laid on it, by an old one where there is one. Where both ran on the
-/// snapshot itself, it is the old one.
+/// The tally of a program on the snapshot with the marks laid on it, by an older one where there is one. Where both ran on the
+/// snapshot itself, it is the older one.
 fn tally_on<L>(
     prog: &Arc<Planned>,
     snapshot: &Database,
-    prior: Option<&KeptTally>,
+    prior: Option<&LeafTally>,
     on: Marks,
     moves: &mut Moves<L>,
-) -> Result<KeptTally, NoMemory>
+) -> Result<LeafTally, NoMemory>
     requires marks { FitMarks (state_of snapshot.now) on }
     requires fits { Fits (state_of snapshot.now) (arc_value prog.now) }
     requires indexes { HasIndexes snapshot.now (arc_value prog.now) }
     requires prior { IfSome prior (λ old. IsPriorOf (arc_value prog.now) (state_of snapshot.now) old.now) }
     ensures run { IfOk result (IsRunOn (arc_value prog.now) (state_of snapshot.now) on) }
-    ensures restated { IfOk result (λ tally. IfSome prior.entry (λ old. IsRestated old.now.run tally.run)) }
-    ensures moves { moves.new ≤ moves.old + run_bound (option_map (λ old. old.now) prior.entry) (arc_value prog.now) (laid (state_of snapshot.now) on) }
+    ensures restated { IfOk result (λ tally. IfSome prior.entry (λ old. IsRestatedFrom old.now tally)) }
+    ensures moves { moves.new ≤ moves.old + run_bound (option_map (λ old. old.now) prior.entry) (arc_value prog.now) (state_of snapshot.now) on }
     ensures rises { moves.old ≤ moves.new }
 {
     match prior {
         None => {
             let run = begun(prog, snapshot, &on, moves)?;
-            Ok(KeptTally { run, on })
+            Ok(LeafTally { run, on })
         }
         Some(old) => {
             if are_empty(&old.on, &on) {
-                let tally = shared(old)?;
+                let tally = old.share()?;
                 return Ok(tally);
             }
             let run = restated(prog, snapshot, old, &on, moves)?;
-            Ok(KeptTally { run, on })
+            Ok(LeafTally { run, on })
         }
     }
-}
-
-/// The run of a prior tally, if it was kept.
-fn kept_of(prior: Option<&LeafTally>) -> Option<&KeptTally>
-    ensures { option_map (λ kept. kept.now) result ≡ kept_in (option_map (λ old. old.now) prior.entry) }
-{
-    match prior {
-        None => None,
-        Some(old) => match old {
-            LeafTally::Kept(kept) => Some(kept),
-            LeafTally::Bare(_) => None,
-        },
-    }
-}
-
-/// What a program answers and writes on the snapshot with the marks laid on it, of which no more is kept.
-fn bare_on<L>(
-    prog: &Arc<Planned>,
-    snapshot: &Database,
-    on: Marks,
-    moves: &mut Moves<L>,
-) -> Result<BareTally, NoMemory>
-    requires marks { FitMarks (state_of snapshot.now) on }
-    requires fits { Fits (state_of snapshot.now) (arc_value prog.now) }
-    requires indexes { HasIndexes snapshot.now (arc_value prog.now) }
-    ensures run { IfOk result (IsBareOn (arc_value prog.now) (state_of snapshot.now) on) }
-    ensures moves { moves.new ≤ moves.old + run_bound None (arc_value prog.now) (laid (state_of snapshot.now) on) }
-    ensures rises { moves.old ≤ moves.new }
-{
-    let base = corrected(snapshot, prog, &on)?;
-    let ran = run_alone(prog, &base, moves)?;
-    let Ran { reply, marks } = ran;
-    Ok(BareTally { reply, on, marks })
 }
 
 impl BatchWork {
@@ -246,6 +204,7 @@ impl BatchWork {
         ensures snapshot { IfOk result (λ work. state_of work.snapshot ≡ state_of db.now) }
         ensures runnable { IfOk result (λ work. AreRunnable (state_of work.snapshot) work.programs) }
         ensures leaves { IfOk result (λ work. (i : ℕ) → i < length programs.items → IsLeaf work i) }
+        ensures early { IfOk result (λ work. work.early ≡ []) }
     {
         db.look_over();
         let snapshot = all_indexed(rt, db, programs.as_slice())?;
@@ -258,7 +217,7 @@ impl BatchWork {
         })
     }
 
-    /// The same work, with the early runs that so many workers make together.
+    /// The same work, of which those programs were run before that so many workers are to run together.
     pub(crate) fn begin_early<R: Threads + Wait + Sync>(
         self,
         rt: &R,
@@ -266,7 +225,8 @@ impl BatchWork {
         workers: u32,
     ) -> Result<BatchWork, NoMemory>
         requires workers { (1 ≤ workers) × (workers ≤ most_workers) }
-        ensures { IfOk result (λ work. work ≡ self) }
+        ensures programs { IfOk result (λ work. work.programs ≡ self.programs) }
+        ensures snapshot { IfOk result (λ work. work.snapshot ≡ self.snapshot) }
     {
         let BatchWork {
             snapshot,
@@ -340,42 +300,14 @@ impl LeafWork for BatchWork {
         ensures stands { IfOk result (λ tally. StandsFor self.now tally leaf correction.now) }
         ensures moves { IfSome (leaf_bound self.now (option_map (λ old. old.now) prior.entry) leaf correction.now) (λ most. moves.new ≤ moves.old + most) }
         ensures rises { moves.old ≤ moves.new }
-        ensures restated { IfOk result (λ tally. IfSome (kept_in (option_map (λ old. old.now) prior.entry)) (λ old. IsRestatedFrom old tally)) }
-        ensures kept { IfOk result (λ tally. marks_for (program_at self.now.programs leaf) correction.now ≢ [] → IsKept tally) }
+        ensures restated { IfOk result (λ tally. IfSome prior.entry (λ old. IsRestatedFrom old.now tally)) }
+        ensures early { IfOk result (λ tally. option_map (λ old. old.now) prior.entry ≡ None → IfSome (early_at self.now.early leaf) (λ old. IsRestatedFrom old tally)) }
     {
         let prog = &self.programs[leaf as usize];
         let on = marks_to_lay(prog, correction)?;
-        let early = early_in(&self.early, leaf as usize);
-        if let Some(bare) = unlaid_for(prior, early, &on) {
-            let same = copied_bare(prog.allocator(), bare)?;
-            return Ok(LeafTally::Bare(same));
-        }
-        let kept = kept_of(prior);
-        let tally = tally_on(prog, &self.snapshot, kept, on, moves)?;
-        Ok(LeafTally::Kept(tally))
-    }
-
-    fn work_last<L>(
-        &self,
-        leaf: u32,
-        correction: &Marks,
-        moves: &mut Moves<L>,
-    ) -> Result<LeafTally, NoMemory>
-        requires leaf { IsLeaf self.now leaf }
-        requires correction { FitsBatch self.now correction.now }
-        ensures stands { IfOk result (λ tally. StandsFor self.now tally leaf correction.now) }
-        ensures moves { IfSome (leaf_bound self.now None leaf correction.now) (λ most. moves.new ≤ moves.old + most) }
-        ensures rises { moves.old ≤ moves.new }
-    {
-        let prog = &self.programs[leaf as usize];
-        let on = marks_to_lay(prog, correction)?;
-        let early = early_in(&self.early, leaf as usize);
-        if let Some(bare) = unlaid_for(None, early, &on) {
-            let same = copied_bare(prog.allocator(), bare)?;
-            return Ok(LeafTally::Bare(same));
-        }
-        let tally = bare_on(prog, &self.snapshot, on, moves)?;
-        Ok(LeafTally::Bare(tally))
+        let helper = helper_in(&self.early, prior, leaf as usize);
+        let tally = tally_on(prog, &self.snapshot, helper, on, moves)?;
+        Ok(tally)
     }
 
     fn effect<'a>(&self, tally: &'a LeafTally) -> &'a Marks {
@@ -383,18 +315,12 @@ impl LeafWork for BatchWork {
     }
 
     fn weight(&self, tally: &LeafTally) -> usize {
-        match tally {
-            LeafTally::Kept(kept) => weight_of(&kept.run),
-            LeafTally::Bare(_) => 0,
-        }
+        weight_of(&tally.run)
     }
 
     fn is_tied(&self, leaf: u32, tally: &LeafTally) -> bool {
         let leaf = leaf as usize;
-        match tally {
-            LeafTally::Kept(kept) => leaf < self.ties.len() && is_tied(self.ties[leaf], kept),
-            LeafTally::Bare(_) => false,
-        }
+        leaf < self.ties.len() && is_tied(self.ties[leaf], tally)
     }
 
     fn is_free(&self, leaf: u32) -> bool {

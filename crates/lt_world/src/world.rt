@@ -17,7 +17,7 @@ use crate::halt::Halt;
 use crate::options::Options;
 use crate::prepared::Prepared;
 use lt_base::Database;
-use lt_batch::{Folded, fold_batch};
+use lt_batch::{Folded, Pace, fold_batch};
 use lt_check::schema::DeclareFault;
 use lt_edges::{Failed, Gate, Sink};
 use lt_face::NoMemory;
@@ -36,6 +36,8 @@ pub struct World {
     pub schema: Prepared,
     pub database: Database,
     pub versions: Versions,
+    /// How dear programs showed to be. No clause speaks of it.
+    pub pace: Pace,
 }
 
 // The database of now, or of a version that is there.
@@ -66,6 +68,7 @@ impl World {
             schema: Prepared::new(alloc),
             database: Database::empty(alloc),
             versions,
+            pace: Pace::start(),
         })
     }
 
@@ -189,7 +192,16 @@ impl World {
     {
         let judgements = self.schema.judge_all(alloc, programs)?;
         let good = good_ones(alloc, &judgements)?;
-        let folded = fold_batch(rt, alloc, &self.database, &good, marks, workers, gate)?;
+        let folded = fold_batch(
+            rt,
+            alloc,
+            &self.database,
+            &good,
+            marks,
+            workers,
+            gate,
+            &mut self.pace,
+        )?;
         let Folded {
             replies,
             effects,

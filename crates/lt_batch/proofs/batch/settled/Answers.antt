@@ -1,31 +1,54 @@
-use Rattle.std.proofs.Common.{◌∙◌, rules, ap, sym, subst, arith}
-use Rattle.lt_base.specs.Tables.{state_of}
+use denote.Param.Send.{sendable}
+use Rattle.std.proofs.Common.{◌∙◌, List, rules, ap, sym, subst, arith}
+use Rattle.lt_model.specs.declared.normal.Stmt.{Stmt}
+use Rattle.lt_base.specs.Tables.{Table, state_of}
 use Rattle.lt_circuit.specs.Circuit.{IsReplay}
 use Rattle.lt_batch.specs.Work.{BatchView, IsLeaf, AreRunnable}
-use Rattle.lt_batch.proofs.Leaves.{of_programs}
+use Rattle.lt_batch.proofs.Crossing.{tally_send, tally_sync, work_send, work_sync}
+use Rattle.lt_batch.proofs.Leaves.{of_programs, same_leaf}
 use Rattle.lt_batch.proofs.batch.settled.Goals as goal
 
 pub start-requires-clause-has : goal.start-requires-clause-has
 start-requires-clause-has g c = λ i below.
-    subst (λ (work : BatchView). IsLeaf work i) (sym (c.in_ok-clone.ensures.cases ∙ c.in_ok-work-3.ensures.ok ∙ c.in_ok-work-2.ensures)) (c.in_ok-work.ensures.leaves i (omega arith))
+    subst (λ (work : BatchView). IsLeaf work i) (sym (c.in_ok-clone.ensures.cases ∙ c.in_ok-work-3.ensures.ok))
+    (same_leaf c.in_ok-work-2.work c.in_ok-work.work i c.in_ok-work-2.ensures.programs c.in_ok-work-2.ensures.snapshot (c.in_ok-work.ensures.leaves i (omega arith)))
 
 pub returns-clause-work : goal.returns-clause-work
 returns-clause-work g c = c.in_ok-circuit-2.ensures.work ∙ c.in_ok-circuit.ensures.work ∙ c.in_ok-clone.ensures.cases
 
 pub returns-clause-programs : goal.returns-clause-programs
-returns-clause-programs g c = ap (λ (work : BatchView). work.programs) (c.in_ok-circuit-2.ensures.work ∙ c.in_ok-circuit.ensures.work ∙ c.in_ok-clone.ensures.cases ∙ c.in_ok-work-3.ensures.ok ∙ c.in_ok-work-2.ensures) ∙ c.in_ok-work.ensures.programs
+returns-clause-programs g c =
+    ap (λ (work : BatchView). work.programs) (c.in_ok-circuit-2.ensures.work ∙ c.in_ok-circuit.ensures.work ∙ c.in_ok-clone.ensures.cases ∙ c.in_ok-work-3.ensures.ok)
+    ∙ (c.in_ok-work-2.ensures.programs ∙ c.in_ok-work.ensures.programs)
 
 pub returns-clause-snapshot : goal.returns-clause-snapshot
-returns-clause-snapshot g c = ap (λ (work : BatchView). state_of work.snapshot) (c.in_ok-circuit-2.ensures.work ∙ c.in_ok-circuit.ensures.work ∙ c.in_ok-clone.ensures.cases ∙ c.in_ok-work-3.ensures.ok ∙ c.in_ok-work-2.ensures) ∙ c.in_ok-work.ensures.snapshot
+returns-clause-snapshot g c =
+    ap (λ (work : BatchView). state_of work.snapshot) (c.in_ok-circuit-2.ensures.work ∙ c.in_ok-circuit.ensures.work ∙ c.in_ok-clone.ensures.cases ∙ c.in_ok-work-3.ensures.ok)
+    ∙ (ap state_of c.in_ok-work-2.ensures.snapshot ∙ c.in_ok-work.ensures.snapshot)
 
 pub returns-clause-runnable : goal.returns-clause-runnable
-returns-clause-runnable g c = subst (λ (work : BatchView). AreRunnable (state_of work.snapshot) work.programs) (sym (c.in_ok-circuit-2.ensures.work ∙ c.in_ok-circuit.ensures.work ∙ c.in_ok-clone.ensures.cases ∙ c.in_ok-work-3.ensures.ok ∙ c.in_ok-work-2.ensures)) c.in_ok-work.ensures.runnable
+returns-clause-runnable g c =
+    subst (λ (work : BatchView). AreRunnable (state_of work.snapshot) work.programs) (sym (c.in_ok-circuit-2.ensures.work ∙ c.in_ok-circuit.ensures.work ∙ c.in_ok-clone.ensures.cases ∙ c.in_ok-work-3.ensures.ok))
+    (subst (λ (ps : List (List Stmt)). AreRunnable (state_of c.in_ok-work-2.work.snapshot) ps) (sym c.in_ok-work-2.ensures.programs)
+    (subst (λ (tables : List Table). AreRunnable (state_of tables) c.in_ok-work.work.programs) (sym c.in_ok-work-2.ensures.snapshot) c.in_ok-work.ensures.runnable))
 
 pub returns-clause-journal : goal.returns-clause-journal
 returns-clause-journal g c =
-    of_programs (λ does. IsReplay does c.in_ok-circuit-2.circuit.board c.in_ok-circuit-2.circuit.journal) c.in_ok-circuit-2.circuit.work c.in_ok-work.work _ _
-    (c.in_ok-circuit-2.ensures.work ∙ c.in_ok-circuit.ensures.work ∙ c.in_ok-clone.ensures.cases ∙ c.in_ok-work-3.ensures.ok ∙ c.in_ok-work-2.ensures)
-    c.in_ok-work.ensures.snapshot c.in_ok-work.ensures.programs c.journal-entries.ensures.replay
+    of_programs (λ does. IsReplay does c.in_ok-circuit-2.circuit.board c.in_ok-circuit-2.circuit.journal) c.in_ok-circuit-2.circuit.work c.in_ok-work-2.work _ _
+    (c.in_ok-circuit-2.ensures.work ∙ c.in_ok-circuit.ensures.work ∙ c.in_ok-clone.ensures.cases ∙ c.in_ok-work-3.ensures.ok)
+    (ap state_of c.in_ok-work-2.ensures.snapshot ∙ c.in_ok-work.ensures.snapshot) (c.in_ok-work-2.ensures.programs ∙ c.in_ok-work.ensures.programs) c.journal-entries.ensures.replay
 
 pub returns-clause-leaves : goal.returns-clause-leaves
 returns-clause-leaves g c = search rules
+
+pub settle-requires-send-W : goal.settle-requires-send-W
+settle-requires-send-W g c κs within = search (sendable, work_send)
+
+pub settle-requires-send-W-Tally : goal.settle-requires-send-W-Tally
+settle-requires-send-W-Tally g c κs within = search (sendable, tally_send)
+
+pub settle-requires-sync-W : goal.settle-requires-sync-W
+settle-requires-sync-W g c κs within = search (sendable, work_sync)
+
+pub settle-requires-sync-W-Tally : goal.settle-requires-sync-W-Tally
+settle-requires-sync-W-Tally g c κs within = search (sendable, tally_sync)

@@ -1,3 +1,4 @@
+use denote.Param.Send.{sendable}
 use Rattle.std.proofs.Common.{◌∙◌, ◌++◌, map, length, ap, sym, subst}
 use Rattle.std.specs.List.{AllByRecursion}
 use Rattle.lt_face.specs.State.{State}
@@ -8,6 +9,7 @@ use Rattle.lt_circuit.specs.Row.{sizes}
 use Rattle.lt_batch.specs.Line.{last_state, line_does, line_effects, line_marks, line_replies, programs_of, HasGivenFront}
 use Rattle.lt_batch.specs.LineWork.{LineWorkView}
 use Rattle.lt_sense.proofs.Growth.{on_err}
+use Rattle.lt_batch.proofs.Crossing.{line_send, line_sync, tally_send, tally_sync}
 use Rattle.lt_batch.proofs.FittingRuns.{snapshot_of}
 use Rattle.lt_batch.proofs.LineInOrder.{marks_lead}
 use Rattle.lt_batch.proofs.LineOpened.{by_both, over_same, replay_same}
@@ -93,3 +95,15 @@ returns-in_err-done-clause-states g c = marks_lead (programs_of c.args.batches.n
 
 pub returns-in_err-outcome-clause-states : goal.returns-in_err-outcome-clause-states
 returns-in_err-outcome-clause-states g c = marks_lead (programs_of c.args.batches.now) (state_of c.args.db.now) (snapshot_of (state_of c.args.db.now) c.look_over.ensures.state c.look_over.ensures.wide) c.requires.fit
+
+pub settle_line-requires-send-W : goal.settle_line-requires-send-W
+settle_line-requires-send-W g c κs within = search (sendable, line_send)
+
+pub settle_line-requires-send-W-Tally : goal.settle_line-requires-send-W-Tally
+settle_line-requires-send-W-Tally g c κs within = search (sendable, tally_send)
+
+pub settle_line-requires-sync-W : goal.settle_line-requires-sync-W
+settle_line-requires-sync-W g c κs within = search (sendable, line_sync)
+
+pub settle_line-requires-sync-W-Tally : goal.settle_line-requires-sync-W-Tally
+settle_line-requires-sync-W-Tally g c κs within = search (sendable, tally_sync)

@@ -3,8 +3,10 @@ use Rattle.std.specs.Arc.{arc_value}
 use Rattle.lt_model.specs.declared.normal.Stmt.{Stmt}
 use Rattle.lt_model.specs.Run.{run}
 use Rattle.lt_model.specs.Fits.{Fits}
+use Rattle.lt_model.proofs.Composition.{same_widths}
 use Rattle.lt_base.specs.Tables.{state_of}
 use Rattle.lt_program.specs.Tally.{HasIndexes}
+use Rattle.lt_restate.specs.Bases.{widths}
 use Rattle.lt_batch.proofs.Runs.{bases_marked, tally_is}
 use Rattle.lt_batch.proofs.work.restated.Goals as goal
 
@@ -27,6 +29,11 @@ pub restate_marks-requires-clause-marked : goal.restate_marks-requires-clause-ma
 restate_marks-requires-clause-marked g c =
     bases_marked (state_of c.args.snapshot.now) (state_of c.args.old.now.run.base) (state_of c.in_ok-base.base) c.requires.prior.0 c.args.on.now c.args.old.now.on
     c.requires.prior.2.run.base c.in_ok-base.ensures.state c.requires.prior.2.same_on c.requires.prior.1 c.requires.marks
+
+pub restate_marks-requires-clause-relations : goal.restate_marks-requires-clause-relations
+restate_marks-requires-clause-relations g c =
+    ap widths c.in_ok-base.ensures.state ∙ (same_widths (state_of c.args.snapshot.now) c.args.on.now
+    ∙ (sym (same_widths (state_of c.args.snapshot.now) c.requires.prior.0) ∙ sym (ap widths c.requires.prior.2.run.base)))
 
 pub returns-clause-run : goal.returns-clause-run
 returns-clause-run g c =

@@ -13,4 +13,16 @@ pub go_round-requires-clause-fit : goal.go_round-requires-clause-fit
 go_round-requires-clause-fit g c = subst (λ (s : State). AllByRecursion (Fits s) (map arc_value c.args.progs.now)) (sym c.in_ok-index_all.ensures.alike.state) c.requires
 
 pub returns : goal.returns
-returns g c = gone_alike (map arc_value c.args.progs.now) c.args.self.now c.index_all.new.self c.go_round.new.self c.in_ok-index_all.ensures.alike c.in_ok-go_round.ensures
+returns g c =
+    let gone = gone_alike (map arc_value c.args.progs.now) c.args.self.now c.index_all.new.self c.go_round.new.self c.in_ok-index_all.ensures.alike c.in_ok-go_round.ensures in
+    record {
+      replies = gone.replies;
+      printed = gone.printed;
+      wrote = gone.wrote;
+      effects = gone.effects;
+      each = gone.each;
+      kept = gone.kept;
+      fit = gone.fit;
+      state = gone.state;
+      keeps = gone.keeps;
+    }

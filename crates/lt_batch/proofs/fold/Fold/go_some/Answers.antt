@@ -19,17 +19,17 @@ go_on_together-requires g c = (
 
 pub returns-then-together-clause-gone : goal.returns-then-together-clause-gone
 returns-then-together-clause-gone g c =
-    let mid : Fold = record c.args.self.now { weight = c.next_round.new.self } in
+    let mid : Fold = record c.args.self.now { pace = c.next_round.new.self } in
     gone_alike (map arc_value (take c.min-count.result c.args.progs.now)) c.args.self.now mid c.go_on_together.new.self
     (record { state = refl; indexes = λ relation columns there. there; replies = refl; effects = refl; keeps = refl })
     (subst (λ xs. HasGone (map arc_value xs) mid c.go_on_together.new.self) c.split_at.ensures.front c.in_ok-go_on_together.ensures)
 
-pub go_on_alone-requires-clause-fit : goal.go_on_alone-requires-clause-fit
-go_on_alone-requires-clause-fit g c = λ lifetimes outlive.
+pub go_one-requires-clause-fit : goal.go_one-requires-clause-fit
+go_one-requires-clause-fit g c = λ lifetimes outlive.
     rw c.deref.ensures (each_item (Fits (state_of c.args.self.now.db)) arc_value c.args.progs.now 0 c.index-progs-0.result c.requires.some c.index-progs-0.is c.requires.fit)
 
 pub returns-clause-gone : goal.returns-clause-gone
 returns-clause-gone g c =
-    subst (λ (ps : List (List Stmt)). HasGone ps c.args.self.now c.go_on_alone.new.self)
+    subst (λ (ps : List (List Stmt)). HasGone ps c.args.self.now c.go_one.new.self)
     (ap (λ (p : List Stmt). p ∷ []) c.deref.ensures ∙ sym (first_taken arc_value c.args.progs.now c.index-progs-0.result c.requires.some c.index-progs-0.is))
-    c.in_ok-go_on_alone.ensures
+    c.in_ok-go_one.ensures

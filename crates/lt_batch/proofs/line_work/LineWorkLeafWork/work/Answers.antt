@@ -17,7 +17,7 @@ pub returns-clause-stands : goal.returns-clause-stands
 returns-clause-stands g c = stands_of c.self.inside.all c.self.inside.spans.items c.args.leaf c.place_of-place.result (place_in c.args.leaf c.place_of-place.ensures c.deref.ensures.value) c.args.self.now c.self.view_is c.requires.leaf c.in_ok-tally.tally c.args.correction.now c.in_ok-tally.ensures.stands
 
 pub returns-clause-moves : goal.returns-clause-moves
-returns-clause-moves g c = bound_of c.self.inside.all c.self.inside.spans.items c.args.leaf c.place_of-place.result (place_in c.args.leaf c.place_of-place.ensures c.deref.ensures.value) c.args.self.now c.self.view_is c.requires.leaf (option_map (λ (old : Bor LeafTally). old.now) c.args.prior) c.args.correction.now c.args.moves.now c.work.new.moves c.work.ensures.moves
+returns-clause-moves g c = bound_of c.self.inside.all c.self.inside.spans.items c.args.leaf c.place_of-place.result (place_in c.args.leaf c.place_of-place.ensures c.deref.ensures.value) c.args.self.now c.self.view_is c.requires.leaf c.self.invariant.early (option_map (λ (old : Bor LeafTally). old.now) c.args.prior) c.args.correction.now c.args.moves.now c.work.new.moves c.work.ensures.moves
 
 pub returns-in_err-tally-clause-moves : goal.returns-in_err-tally-clause-moves
-returns-in_err-tally-clause-moves g c = bound_of c.self.inside.all c.self.inside.spans.items c.args.leaf c.place_of-place.result (place_in c.args.leaf c.place_of-place.ensures c.deref.ensures.value) c.args.self.now c.self.view_is c.requires.leaf (option_map (λ (old : Bor LeafTally). old.now) c.args.prior) c.args.correction.now c.args.moves.now c.work.new.moves c.work.ensures.moves
+returns-in_err-tally-clause-moves g c = bound_of c.self.inside.all c.self.inside.spans.items c.args.leaf c.place_of-place.result (place_in c.args.leaf c.place_of-place.ensures c.deref.ensures.value) c.args.self.now c.self.view_is c.requires.leaf c.self.invariant.early (option_map (λ (old : Bor LeafTally). old.now) c.args.prior) c.args.correction.now c.args.moves.now c.work.new.moves c.work.ensures.moves

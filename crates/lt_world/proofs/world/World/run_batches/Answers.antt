@@ -82,6 +82,6 @@ returns-clause-world g c = λ marks m s.
     let out = c.in_ok-outcome.ensures in
     let good : programs_of c.deref-2.result.now ≡ goods_of judged = ap programs_of c.deref-2.ensures.value ∙ c.in_ok-goods.ensures ∙ ap goods_of c.deref.ensures.value in
     line_shown c.args.self.now m s c.args.batches.now (goods_of judged) (goods_are c.args.self.now.schema c.args.batches.now judged c.in_ok-judgements.ensures.checked) marks
-    (record { schema = c.line_judged.new.schema; database = c.in_ok-outcome.outcome.db; versions = c.run_published.new.versions }) c.line_judged.ensures.same
+    (record { schema = c.line_judged.new.schema; database = c.in_ok-outcome.outcome.db; versions = c.run_published.new.versions; pace = c.args.self.now.pace }) c.line_judged.ensures.same
     (out.state ∙ ap (λ (gss : List (List (List Stmt))). last_state gss state) good)
     (out.versions ∙ ap (λ (gss : List (List (List Stmt))). map state_of c.args.self.now.versions ++ line_states gss state) good)
