@@ -10,7 +10,7 @@ use crate::serial::{Serial, one_after_another};
 use crate::splitting::LONG;
 use crate::texts::{Pairs, programs, programs_over, stocked};
 use lt_base::Database;
-use lt_batch::{Folded, Outcome, fold_batch, run_batch};
+use lt_batch::{Folded, Outcome, Pace, fold_batch, run_batch};
 use lt_delta::Marks;
 use lt_edges::OpenGate;
 use lt_face::items::RowList;
@@ -25,17 +25,17 @@ use std::thread::Threads;
 
 /// How e is declared, the rows that there are, and the programs, which come round again.
 #[derive(Clone, Copy)]
-struct Batch<'a> {
-    pairs: Pairs,
-    stock: &'a str,
-    texts: &'a [&'a str],
+pub(crate) struct Batch<'a> {
+    pub pairs: Pairs,
+    pub stock: &'a str,
+    pub texts: &'a [&'a str],
 }
 
 /// Takes one.
 const TAKING: &str = "require some r(n), n > 0; replace r(n) by r(m) where r(n), m = n - 1;";
 
 /// Programs that read and write the rows of one relation.
-const MIXED: Batch<'static> = Batch {
+pub(crate) const MIXED: Batch<'static> = Batch {
     pairs: Pairs::Plain,
     stock: "",
     texts: &[
@@ -55,7 +55,7 @@ const MIXED: Batch<'static> = Batch {
 };
 
 /// Dear programs over all pairs of twelve. The first ones read nothing that those before them write, of the others some do.
-const DEAR: Batch<'static> = Batch {
+pub(crate) const DEAR: Batch<'static> = Batch {
     pairs: Pairs::Plain,
     stock: "insert r(1); insert r(2); insert r(3); insert r(4); insert r(5); insert r(6); insert r(7); insert r(8); insert r(9); insert r(10); insert r(11); insert r(12); insert e(x, y) where r(x), r(y);",
     texts: &[
@@ -71,7 +71,7 @@ const DEAR: Batch<'static> = Batch {
 };
 
 /// Programs that give keys values, also where a key has two rows.
-const KEYED: Batch<'static> = Batch {
+pub(crate) const KEYED: Batch<'static> = Batch {
     pairs: Pairs::Keyed,
     stock: "insert r(1); insert r(4); insert e(2, 3); insert e(2, 4);",
     texts: &[
@@ -85,7 +85,7 @@ const KEYED: Batch<'static> = Batch {
 };
 
 /// Programs that are refused behind statements that wrote, and others between them.
-const REFUSED: Batch<'static> = Batch {
+pub(crate) const REFUSED: Batch<'static> = Batch {
     pairs: Pairs::Keyed,
     stock: "insert r(1); insert r(4); insert e(2, 3); insert e(4, 4);",
     texts: &[
@@ -163,7 +163,16 @@ fn folded<R: Threads + Wait + Sync>(
     requires fit { AllByRecursion FitsBoth (map arc_value progs.now) }
 {
     let db = stocked(rt, alloc, stock)?;
-    let out = fold_batch(rt, alloc, &db, progs, true, workers, &OpenGate)?;
+    let out = fold_batch(
+        rt,
+        alloc,
+        &db,
+        progs,
+        true,
+        workers,
+        &OpenGate,
+        &mut Pace::start(),
+    )?;
     Ok(out)
 }
 

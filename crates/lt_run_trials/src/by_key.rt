@@ -1,219 +1,95 @@
-//! What a statement is kept by, key by key of its body's first variable: root gaps and slices, and these mended.
+//! What a print is kept by, key by key of its body's first variable: the rows that it hangs on, and its own; and these mended.
 use crate::agree::holds_at;
-use crate::joins::are_bounds;
 use crate::restatement::restated_by;
-use crate::texts::ZERO;
-use lt_face::key::{END, Key};
 use lt_face::memory::NoMemory;
 use lt_face::row::Row;
-use lt_join::{SharedSlice, Slice};
+use lt_join::{Slices, rows_of_slices};
 use lt_program::{Part, Tally};
-use lt_sense::{Hit, KeptGap, Sense};
+use lt_values::cell_of_int;
 use std::alloc::Global;
 use std::thread::Threads;
 
-/// A gap as it is wanted: below which cells, from where, and where it ends.
-#[derive(Clone, Copy)]
-struct Span<'a> {
-    under: &'a [Key],
-    lo: Key,
-    hi: Key,
-}
+/// The relations by their numbers: r of one column and e of two.
+const ONES: u32 = 0;
 
-/// A slice as it is wanted.
+const PAIRS: u32 = 1;
+
+/// What a print is kept by: of the rows of a relation whose ints are from 0 to 7 it hangs on just those that begin with one of these
+/// ints, and these are its own.
 #[derive(Clone, Copy)]
 struct Want<'a> {
-    key: Key,
-    rows: &'a [&'a [Key]],
-    gaps: &'a [Span<'a>],
-    hits: &'a [&'a [Key]],
+    relation: u32,
+    firsts: &'a [i64],
+    rows: &'a [&'a [i64]],
 }
 
-fn are_gaps(gaps: &[KeptGap], want: &[Span]) -> bool {
-    if gaps.len() != want.len() {
-        return false;
+/// The row of these ints, of which there are two at most.
+fn row_of(alloc: Global, ints: &[i64]) -> Row {
+    match ints {
+        [x] => Row::from_cells(alloc, &[cell_of_int(*x)]),
+        [x, y, ..] => Row::from_cells(alloc, &[cell_of_int(*x), cell_of_int(*y)]),
+        [] => Row::from_cells(alloc, &[]),
     }
-    for (i, span) in want.iter().enumerate() {
-        if gaps[i].prefix.cells() != span.under || gaps[i].lo != span.lo || gaps[i].hi != span.hi {
+}
+
+/// Whether the part hangs on the row of the relation that begins so and, where it has two cells, ends so.
+fn hangs_on(alloc: Global, part: &Part, relation: u32, x: i64, y: i64) -> bool {
+    if relation == ONES {
+        return part.covers(ONES, &row_of(alloc, &[x]));
+    }
+    part.covers(PAIRS, &row_of(alloc, &[x, y]))
+}
+
+/// Whether the part hangs on all rows that begin with this int, or else on none, as is said.
+fn hangs_on_all(alloc: Global, part: &Part, relation: u32, x: i64, does: bool) -> bool {
+    for y in 0..8 {
+        if hangs_on(alloc, part, relation, x, y) != does {
             return false;
         }
     }
     true
 }
 
-fn are_hits(hits: &[Hit], want: &[&[Key]]) -> bool {
-    if hits.len() != want.len() {
-        return false;
-    }
-    for (i, cells) in want.iter().enumerate() {
-        if hits[i].row.cells() != *cells {
+/// Whether it hangs on just the rows that begin with one of these ints.
+fn hangs_on_just(alloc: Global, part: &Part, relation: u32, firsts: &[i64]) -> bool {
+    for x in 0..8 {
+        if !hangs_on_all(alloc, part, relation, x, firsts.contains(&x)) {
             return false;
         }
     }
     true
 }
 
-fn are_rows(rows: &[Row], want: &[&[Key]]) -> bool {
+/// Whether these are the rows of the ints.
+fn are_rows(alloc: Global, rows: &[Row], want: &[&[i64]]) -> bool {
     if rows.len() != want.len() {
         return false;
     }
-    for (i, cells) in want.iter().enumerate() {
-        if rows[i].cells() != *cells {
+    for (i, ints) in want.iter().enumerate() {
+        if rows[i] != row_of(alloc, ints) {
             return false;
         }
     }
     true
 }
 
-/// Whether a sense has these gaps and these hits.
-fn is_sense(sense: &Sense, gaps: &[Span], hits: &[&[Key]]) -> Result<bool, NoMemory> {
-    let kept_gaps = sense.kept_gaps()?;
-    let kept_hits = sense.kept_hits()?;
-    Ok(are_gaps(kept_gaps.as_slice(), gaps) && are_hits(kept_hits.as_slice(), hits))
-}
-
-fn is_slice(slice: &Slice, want: &Want) -> Result<bool, NoMemory> {
-    let sensed = is_sense(&slice.sense, want.gaps, want.hits)?;
-    Ok(sensed && slice.key == want.key && are_rows(slice.rows.as_slice(), want.rows))
-}
-
-fn are_slices(slices: &[SharedSlice], want: &[Want]) -> Result<bool, NoMemory> {
-    if slices.len() != want.len() {
+/// Whether these are the rows of all slices.
+fn have_rows(alloc: Global, slices: Option<&Slices>, want: &[&[i64]]) -> Result<bool, NoMemory> {
+    let Some(slices) = slices else {
         return Ok(false);
-    }
-    for (i, one) in want.iter().enumerate() {
-        if !is_slice(slices[i].slice(), one)? {
-            return Ok(false);
-        }
-    }
-    Ok(true)
+    };
+    let rows = rows_of_slices(alloc, slices)?;
+    Ok(are_rows(alloc, rows.as_slice(), want))
 }
 
-const ONE: Key = ZERO + 1;
-
-const TWO: Key = ZERO + 2;
-
-const THREE: Key = ZERO + 3;
-
-const FOUR: Key = ZERO + 4;
-
-const FIVE: Key = ZERO + 5;
-
-const SIX: Key = ZERO + 6;
-
-/// Slices of keys with one row of two cells. The last is joined with its variable pinned: the first move goes to the least key, 1,
-/// the second to the pin's.
-const PAIRS: [Want<'static>; 3] = [
-    Want {
-        key: ONE,
-        rows: &[&[ONE, TWO]],
-        gaps: &[
-            Span {
-                under: &[ONE],
-                lo: 0,
-                hi: TWO,
-            },
-            Span {
-                under: &[ONE],
-                lo: TWO + 1,
-                hi: END,
-            },
-        ],
-        hits: &[&[ONE, TWO]],
-    },
-    Want {
-        key: THREE,
-        rows: &[&[THREE, FOUR]],
-        gaps: &[
-            Span {
-                under: &[THREE],
-                lo: 0,
-                hi: FOUR,
-            },
-            Span {
-                under: &[THREE],
-                lo: FOUR + 1,
-                hi: END,
-            },
-        ],
-        hits: &[&[THREE, FOUR]],
-    },
-    Want {
-        key: FIVE,
-        rows: &[&[FIVE, SIX]],
-        gaps: &[
-            Span {
-                under: &[],
-                lo: 0,
-                hi: ONE,
-            },
-            Span {
-                under: &[FIVE],
-                lo: 0,
-                hi: SIX,
-            },
-            Span {
-                under: &[FIVE],
-                lo: SIX + 1,
-                hi: END,
-            },
-        ],
-        hits: &[&[FIVE, SIX]],
-    },
-];
-
-/// Where all atoms end at the first level a slice has hits alone, also that of a key without a row.
-const HITS: [Want<'static>; 2] = [
-    Want {
-        key: ONE,
-        rows: &[],
-        gaps: &[],
-        hits: &[&[ONE]],
-    },
-    Want {
-        key: THREE,
-        rows: &[&[THREE]],
-        gaps: &[],
-        hits: &[&[THREE]],
-    },
-];
-
-/// A pin ends the first level with its find. What was passed without a look isn't kept: the pin forbids it.
-const PINNED: [Want<'static>; 1] = [Want {
-    key: THREE,
-    rows: &[&[FOUR]],
-    gaps: &[
-        Span {
-            under: &[THREE],
-            lo: 0,
-            hi: FOUR,
-        },
-        Span {
-            under: &[THREE],
-            lo: FOUR + 1,
-            hi: END,
-        },
-    ],
-    hits: &[&[THREE, FOUR]],
-}];
-
-/// The root gaps beside the keys 1 and 3; where 5 came, too; and before 1 alone.
-const BEFORE: [(Key, Key); 3] = [(0, ONE), (TWO, THREE), (FOUR, END)];
-
-const AFTER: [(Key, Key); 4] = [(0, ONE), (TWO, THREE), (FOUR, FIVE), (SIX, END)];
-
-const FRONT: [(Key, Key); 1] = [(0, ONE)];
-
-/// Whether the first statement is kept by these root gaps, without hits beside them, and these slices.
-fn is_kept_by(tally: &Tally, gaps: &[(Key, Key)], want: &[Want]) -> Result<bool, NoMemory> {
+/// Whether the first statement is kept so.
+fn is_kept_by(alloc: Global, tally: &Tally, want: &Want) -> Result<bool, NoMemory> {
     let Some(shared) = tally.parts().get(0) else {
         return Ok(false);
     };
     let part: &Part = shared.part();
-    let kept = part.sense.kept_gaps()?;
-    let rooted = are_bounds(kept.as_slice(), gaps) && part.sense.hit_count() == 0;
-    let each = are_slices(part.slices.as_slice(), want)?;
-    Ok(rooted && each)
+    let own = have_rows(alloc, part.slices(), want.rows)?;
+    Ok(own && hangs_on_just(alloc, part, want.relation, want.firsts))
 }
 
 /// Whether a print on the rows that other statements left is kept so once more is inserted.
@@ -223,53 +99,101 @@ fn keeps<R: Threads + Sync>(
     stock: &str,
     print: &str,
     inserts: &str,
-    gaps: &[(Key, Key)],
-    want: &[Want],
+    want: &Want,
 ) -> Result<bool, NoMemory> {
     let out = restated_by(rt, alloc, stock, print, "", inserts)?;
-    let is_so = is_kept_by(&out.new, gaps, want);
+    let is_so = is_kept_by(alloc, &out.new, want);
     drop(out);
     is_so
 }
 
 const EDGES: &str = "insert e(1, 2); insert e(3, 4);";
 
-const PRINT: &str = "print (x, y) where e(x, y);";
+/// Where the first variable may be any int, a print hangs on all rows.
+const ALL: [i64; 8] = [0, 1, 2, 3, 4, 5, 6, 7];
 
-/// A row that comes into a root gap has its slice afterwards, the root gap is cut at its key, and the other slices stay.
+/// A key that came, one that went, a level that ends at hits, a pin that ends the first level with its find and forbids what was passed
+/// without a look, and a range.
+const TABLE: [(&str, &str, &str, Want<'static>); 7] = [
+    (
+        EDGES,
+        "print (x, y) where e(x, y);",
+        "",
+        Want {
+            relation: PAIRS,
+            firsts: &ALL,
+            rows: &[&[1, 2], &[3, 4]],
+        },
+    ),
+    (
+        EDGES,
+        "print (x, y) where e(x, y);",
+        "insert e(5, 6);",
+        Want {
+            relation: PAIRS,
+            firsts: &ALL,
+            rows: &[&[1, 2], &[3, 4], &[5, 6]],
+        },
+    ),
+    (
+        EDGES,
+        "print (x, y) where e(x, y);",
+        "delete e(1, 2);",
+        Want {
+            relation: PAIRS,
+            firsts: &ALL,
+            rows: &[&[3, 4]],
+        },
+    ),
+    (
+        "insert r(1); insert r(3);",
+        "print (x) where r(x), x > 1;",
+        "",
+        Want {
+            relation: ONES,
+            firsts: &ALL,
+            rows: &[&[3]],
+        },
+    ),
+    (
+        "insert e(1, 2); insert e(3, 4); insert e(5, 6);",
+        "print (y) where e(x, y), x = 3;",
+        "",
+        Want {
+            relation: PAIRS,
+            firsts: &[0, 3],
+            rows: &[&[4]],
+        },
+    ),
+    (
+        "insert e(1, 2); insert e(3, 4); insert e(5, 6);",
+        "print (y) where e(x, y), x = 3;",
+        "insert e(3, 1); insert e(4, 4);",
+        Want {
+            relation: PAIRS,
+            firsts: &[0, 3],
+            rows: &[&[1], &[4]],
+        },
+    ),
+    (
+        "insert e(1, 2); insert e(3, 4); insert e(5, 6);",
+        "print (x) where e(x, y), x <= 3;",
+        "insert e(2, 2);",
+        Want {
+            relation: PAIRS,
+            firsts: &[0, 1, 2, 3, 4],
+            rows: &[&[1], &[2], &[3]],
+        },
+    ),
+];
+
 #[test]
-fn each_key_has_its_slice(rt: HostRuntime) -> Result<(), NoMemory> {
-    for (row, stock, print, inserts, gaps, want) in [
-        ("edges", EDGES, PRINT, "", BEFORE.as_slice(), &PAIRS[..2]),
-        (
-            "a key that came",
-            EDGES,
-            PRINT,
-            "insert e(5, 6);",
-            AFTER.as_slice(),
-            PAIRS.as_slice(),
-        ),
-        (
-            "hits alone",
-            "insert r(1); insert r(3);",
-            "print (x) where r(x), x > 1;",
-            "",
-            BEFORE.as_slice(),
-            HITS.as_slice(),
-        ),
-        (
-            "a pin",
-            "insert e(1, 2); insert e(3, 4); insert e(5, 6);",
-            "print (y) where e(x, y), x = 3;",
-            "",
-            FRONT.as_slice(),
-            PINNED.as_slice(),
-        ),
-    ] {
+fn each_key_has_its_rows(rt: HostRuntime) -> Result<(), NoMemory> {
+    for (stock, print, inserts, want) in TABLE {
         holds_at(
             &rt,
-            keeps(&rt, rt.alloc(), stock, print, inserts, gaps, want)?,
-            row,
+            keeps(&rt, rt.alloc(), stock, print, inserts, &want)?,
+            print,
         );
     }
     Ok(())

@@ -76,7 +76,7 @@ fn end<W: LeafWork>(
                 return true;
             }
             let mut moves: Moves<()> = Moves::new();
-            match job.work(false, &mut moves) {
+            match job.work(&mut moves) {
                 Ok(output) => {
                     circuit.finish(worker, output);
                     true

@@ -21,14 +21,7 @@ use std::alloc::Global;
 use std::sync::Arc;
 use std::thread::Threads;
 
-fn is_bare(tally: &LeafTally) -> bool {
-    match tally {
-        LeafTally::Bare(_) => true,
-        LeafTally::Kept(_) => false,
-    }
-}
-
-/// Whether this run of the second program, of which the reply and the effect alone were kept, is taken behind this effect.
+/// Whether this run of the second program is taken as it is behind this effect: then no move is made.
 fn is_taken(work: &BatchWork, second: &LeafTally, effect: &Marks) -> Result<bool, NoMemory>
     requires leaf { IsLeaf work.now 1 }
     requires effect { FitsBatch work.now effect.now }
@@ -36,9 +29,8 @@ fn is_taken(work: &BatchWork, second: &LeafTally, effect: &Marks) -> Result<bool
 {
     let mut moves: Moves<()> = Moves::new();
     let again = work.work(1, Some(second), effect, &mut moves)?;
-    let is_so = is_bare(&again);
     drop(again);
-    Ok(is_so)
+    Ok(moves.ticks() == 0)
 }
 
 /// Whether the second program's run on the snapshot is taken behind this run of the first.
@@ -48,7 +40,7 @@ fn is_taken_behind(work: &BatchWork, none: &Marks, first: &LeafTally) -> Result<
     requires first { StandsFor work.now first.now 0 none.now }
 {
     let mut moves: Moves<()> = Moves::new();
-    let second = work.work_last(1, none, &mut moves)?;
+    let second = work.work(1, None, none, &mut moves)?;
     let is_so = is_taken(work, &second, work.effect(first));
     drop(second);
     is_so
@@ -60,7 +52,7 @@ fn goes_free(work: &BatchWork, none: &Marks) -> Result<(bool, bool), NoMemory>
     requires none { FitsBatch work.now none.now }
 {
     let mut moves: Moves<()> = Moves::new();
-    let first = work.work_last(0, none, &mut moves)?;
+    let first = work.work(0, None, none, &mut moves)?;
     let taken = is_taken_behind(work, none, &first);
     drop(first);
     Ok((work.is_free(1), taken?))

@@ -10,10 +10,9 @@ ghost use Rattle.lt_program.specs.Tally.{HasIndexesOf};
 
 use crate::agree::holds_at;
 use crate::comparing::{are_int_rows, int_row};
-use crate::texts::{ZERO, program, routed, stocked};
+use crate::texts::{program, routed, stocked};
 use lt_base::Database;
 use lt_face::items::{Items, RowList};
-use lt_face::key::{END, Key};
 use lt_face::memory::NoMemory;
 use lt_face::moves::Moves;
 use lt_join::{answers, answers_alone, some, some_alone};
@@ -21,7 +20,7 @@ use lt_model::normal::{Body, Stmt, TermList};
 use lt_program::indexed;
 use lt_query::laws::plans_of_bodies;
 use lt_query::{Plan, plan};
-use lt_sense::{Hit, KeptGap, Sense};
+use lt_sense::Sense;
 use std::alloc::Global;
 use std::thread::Threads;
 
@@ -59,7 +58,8 @@ fn answered(
 {
     let plan = planned(body)?;
     let mut moves = Moves::<()>::new();
-    let (rows, sense) = answers(alloc, body, &plan, terms, db, &mut moves)?;
+    let (rows, gathered) = answers(alloc, body, &plan, terms, db, &mut moves)?;
+    let sense = gathered.seal()?;
     let alone = answers_alone(alloc, body, &plan, terms, db, &mut moves)?;
     let any = rows.len() > 0;
     Ok(Finding {
@@ -78,7 +78,8 @@ fn asked(alloc: Global, db: &Database, body: &Body) -> Result<Finding, NoMemory>
 {
     let plan = planned(body)?;
     let mut moves = Moves::<()>::new();
-    let (any, sense) = some(alloc, body, &plan, db, &mut moves)?;
+    let (any, gathered) = some(alloc, body, &plan, db, &mut moves)?;
+    let sense = gathered.seal()?;
     let told = some_alone(alloc, body, &plan, db, &mut moves)?;
     if told != any {
         return Err(NoMemory);
@@ -122,53 +123,33 @@ fn found<R: Threads + Sync>(
     }
 }
 
-/// Whether these are the rows of the hits, in the order in which they were met.
-fn are_hits(alloc: Global, hits: &[Hit], ints: &[i64]) -> bool {
-    if hits.len() != ints.len() {
-        return false;
-    }
-    for (i, n) in ints.iter().enumerate() {
-        if hits[i].row != int_row(alloc, *n) {
-            return false;
-        }
-    }
-    true
-}
-
-/// Whether these are the lower and upper bounds of the gaps, in the order in which they were met.
-pub(crate) fn are_bounds(gaps: &[KeptGap], bounds: &[(Key, Key)]) -> bool {
-    if gaps.len() != bounds.len() {
-        return false;
-    }
-    for (i, bound) in bounds.iter().enumerate() {
-        if gaps[i].lo != bound.0 || gaps[i].hi != bound.1 {
-            return false;
-        }
-    }
-    true
-}
-
-/// What a print answers, also where nothing is kept, or whether a requirement's body has an answer; and what that is sensitive to: gaps
-/// and hits, and whether these cover 4, and 20.
+/// What a print answers, also where nothing is kept, or whether a requirement's body has an answer; and the ints of r, from the first of
+/// each pair to the last, on whose rows that hangs: of those from -2 to 22 just these.
 #[derive(Clone, Copy)]
 struct Want<'a> {
     rows: &'a [i64],
     any: bool,
-    gaps: &'a [(Key, Key)],
-    hits: &'a [i64],
-    covers: (bool, bool),
+    covers: &'a [(i64, i64)],
 }
 
-/// Whether a sense is this one.
-fn is_sense(alloc: Global, sense: &Sense, want: &Want) -> Result<bool, NoMemory> {
-    let gaps = sense.kept_gaps()?;
-    let hits = sense.kept_hits()?;
-    Ok(
-        are_bounds(gaps.as_slice(), want.gaps)
-            && are_hits(alloc, hits.as_slice(), want.hits)
-            && sense.covers(0, &int_row(alloc, 4)) == want.covers.0
-            && sense.covers(0, &int_row(alloc, 20)) == want.covers.1,
-    )
+/// Whether the int lies in one of the ranges.
+fn lies_in(ranges: &[(i64, i64)], n: i64) -> bool {
+    for (first, last) in ranges {
+        if *first <= n && n <= *last {
+            return true;
+        }
+    }
+    false
+}
+
+/// Whether the sense covers just these ints of r, of those from -2 to 22.
+fn covers_just(alloc: Global, sense: &Sense, ranges: &[(i64, i64)]) -> bool {
+    for n in -2..23 {
+        if sense.covers(0, &int_row(alloc, n)) != lies_in(ranges, n) {
+            return false;
+        }
+    }
+    true
 }
 
 /// Whether a statement finds this on the rows that others have left.
@@ -180,17 +161,13 @@ fn finds<R: Threads + Sync>(
     want: &Want,
 ) -> Result<bool, NoMemory> {
     let found = found(rt, alloc, stock, statement)?;
-    let sensed = is_sense(alloc, &found.sense, want);
     let is_so = found.any == want.any
         && are_int_rows(alloc, found.rows.as_slice(), want.rows)
-        && are_int_rows(alloc, found.alone.as_slice(), want.rows);
+        && are_int_rows(alloc, found.alone.as_slice(), want.rows)
+        && covers_just(alloc, &found.sense, want.covers);
     drop(found);
-    Ok(is_so && sensed?)
+    Ok(is_so)
 }
-
-const ONE: Key = ZERO + 1;
-
-const NINE: Key = ZERO + 9;
 
 const TWO_ROWS: &str = "insert r(1); insert r(9);";
 
@@ -203,9 +180,7 @@ const TABLE: [(&str, &str, Want<'static>); 8] = [
         Want {
             rows: &[9],
             any: true,
-            gaps: &[(0, ONE), (ONE + 1, NINE), (NINE + 1, END)],
-            hits: &[1, 9],
-            covers: (true, true),
+            covers: &[(-2, 22)],
         },
     ),
     // a pin ends its level with its find
@@ -215,9 +190,7 @@ const TABLE: [(&str, &str, Want<'static>); 8] = [
         Want {
             rows: &[1],
             any: true,
-            gaps: &[(0, ONE)],
-            hits: &[1],
-            covers: (false, false),
+            covers: &[(-2, 1)],
         },
     ),
     // a requirement stops at its first answer
@@ -227,21 +200,17 @@ const TABLE: [(&str, &str, Want<'static>); 8] = [
         Want {
             rows: &[],
             any: true,
-            gaps: &[(0, ONE), (ONE + 1, NINE)],
-            hits: &[1, 9],
-            covers: (true, false),
+            covers: &[(-2, 9)],
         },
     ),
-    // one without an answer passes all of the range
+    // one without an answer passes all of the range, and seeks past what is below it
     (
         "insert r(1); insert r(2); insert r(3);",
         "require some r(x), x > 3;",
         Want {
             rows: &[],
             any: false,
-            gaps: &[(0, ONE), (ONE + 3, END)],
-            hits: &[1],
-            covers: (true, true),
+            covers: &[(-2, 1), (4, 22)],
         },
     ),
     // a range ends at its upper bound
@@ -251,21 +220,17 @@ const TABLE: [(&str, &str, Want<'static>); 8] = [
         Want {
             rows: &[1],
             any: true,
-            gaps: &[(0, ONE), (ONE + 1, NINE)],
-            hits: &[1],
-            covers: (true, false),
+            covers: &[(-2, 8)],
         },
     ),
-    // a requirement that is met by an absent row keeps its gap, and what it met before, each row once
+    // a requirement that is met by an absent row keeps its gap, and what it met before
     (
         "insert r(1); insert r(2); insert r(9);",
         "require some r(x), not r(y), y = x + 1;",
         Want {
             rows: &[],
             any: true,
-            gaps: &[(0, ONE), (ONE + 2, ONE + 3)],
-            hits: &[1, 2],
-            covers: (false, false),
+            covers: &[(-2, 3)],
         },
     ),
     // an absent row alone, and a row that is there in its place
@@ -275,9 +240,7 @@ const TABLE: [(&str, &str, Want<'static>); 8] = [
         Want {
             rows: &[],
             any: true,
-            gaps: &[(ONE + 3, ONE + 4)],
-            hits: &[],
-            covers: (true, false),
+            covers: &[(4, 4)],
         },
     ),
     (
@@ -286,15 +249,13 @@ const TABLE: [(&str, &str, Want<'static>); 8] = [
         Want {
             rows: &[],
             any: false,
-            gaps: &[],
-            hits: &[1],
-            covers: (false, false),
+            covers: &[(1, 1)],
         },
     ),
 ];
 
 #[test]
-fn evaluations_leave_their_gaps_and_hits(rt: HostRuntime) -> Result<(), NoMemory> {
+fn evaluations_hang_on_what_they_met(rt: HostRuntime) -> Result<(), NoMemory> {
     for (stock, statement, want) in TABLE {
         holds_at(
             &rt,

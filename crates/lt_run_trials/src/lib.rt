@@ -1,8 +1,8 @@
 //! Joins, programs, circuits and batches, run as the database runs them, by hand, and by plain loops.
 //!
 //! `texts` has programs as text and their databases, `sampled` draws them, `serial` runs them by plain loops, `comparing` and `agree`
-//! compare. `floor` has two workers at a circuit, `sample` leaves for it. `batches` are the large tests, `meeting` shows workers that
-//! work at the same time, `boards` readers.
+//! compare. `floor` has two workers at a circuit, `sample` leaves for it. `batches` are the large tests, `meeting` shows
+//! workers that work at the same time, `boards` readers.
 #![tactic(auto)]
 
 #[cfg(test)]

@@ -192,15 +192,6 @@ impl LeafWork for Meeting {
         Ok(marks)
     }
 
-    fn work_last<L>(
-        &self,
-        leaf: u32,
-        correction: &Marks,
-        moves: &mut Moves<L>,
-    ) -> Result<Marks, NoMemory> {
-        self.work(leaf, None, correction, moves)
-    }
-
     fn effect<'a>(&self, tally: &'a Marks) -> &'a Marks {
         tally
     }

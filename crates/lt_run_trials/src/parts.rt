@@ -15,9 +15,11 @@ use lt_edges::{Gate, MeetGate, OpenGate};
 use lt_face::items::RowList;
 use lt_face::memory::NoMemory;
 use lt_face::moves::Moves;
+use lt_face::row::Row;
 use lt_join::{answers_split, answers_split_alone, rows_of_slices, slices_split};
 use lt_model::normal::{Body, Stmt, TermList};
 use lt_program::indexed;
+use lt_values::cell_of_int;
 use std::alloc::Global;
 use std::sync::Wait;
 use std::thread::Threads;
@@ -59,7 +61,7 @@ fn joined<R: Threads + Wait + Sync, G: Gate>(
     if let Way::ByKey = way {
         if plan.levels.len() > 0 {
             let found = slices_split(rt, alloc, body, &plan, terms, db, parts, gate, &mut moves)?;
-            return rows_of_slices(alloc, found.1.as_slice());
+            return rows_of_slices(alloc, &found);
         }
     }
     let rows = answers_split_alone(rt, alloc, body, &plan, terms, db, parts, gate, &mut moves)?;
@@ -156,6 +158,26 @@ fn parts_have_the_answers_of_the_whole(rt: HostRuntime) -> Result<(), NoMemory> 
     for (stock, statement, ints) in TABLE {
         let is_so = finds_by_parts(&rt, rt.alloc(), stock, statement, ints)?;
         holds_at(&rt, is_so, statement);
+    }
+    Ok(())
+}
+
+/// Whether these rows are the one triangle of three edges.
+fn is_triangle(alloc: Global, rows: &[Row]) -> bool {
+    let cells = [cell_of_int(1), cell_of_int(2), cell_of_int(3)];
+    match rows {
+        [row] => *row == Row::from_cells(alloc, &cells),
+        _ => false,
+    }
+}
+
+#[test]
+fn two_parts_find_the_triangle(rt: HostRuntime) -> Result<(), NoMemory> {
+    let stock = "insert e(1, 2); insert e(2, 3); insert e(1, 3);";
+    let statement = "print (a, b, c) where e(a, b), e(b, c), e(a, c);";
+    for way in [Way::WithSense, Way::Alone, Way::ByKey] {
+        let rows = found(&rt, rt.alloc(), stock, statement, 2, way, &OpenGate)?;
+        holds(&rt, is_triangle(rt.alloc(), rows.as_slice()));
     }
     Ok(())
 }

@@ -4,18 +4,17 @@ use crate::comparing::int_row;
 use crate::restatement::restated_by;
 use lt_face::memory::NoMemory;
 use lt_face::row::Row;
-use lt_restate::Touch;
-use lt_sense::Spot;
+use lt_restate::{Spot, Touch};
 use lt_values::cell_of_int;
 use std::alloc::Global;
 use std::thread::Threads;
 
-/// Whether the one touch is of statement 1 by 5, in the gap from 2 to below 9.
+/// Whether the one touch is of statement 1 by 5, which wasn't there.
 fn are_by_five(alloc: Global, touches: &[Touch]) -> bool {
     let spot = Spot::Gap {
         prefix: Row::from_cells(alloc, &[]),
-        lo: cell_of_int(2),
-        hi: cell_of_int(9),
+        lo: cell_of_int(5),
+        hi: cell_of_int(6),
     };
     match touches {
         [touch] => {

@@ -7,12 +7,12 @@ ghost use Rattle.lt_program.specs.Tally.{HasIndexes};
 ghost use Rattle.lt_run_trials.specs.Fitting.{AreBoth};
 
 use crate::agree::holds_at;
-use crate::texts::{Pairs, is_same_ran, joined_on, program_over, routed, stocked};
+use crate::texts::{Pairs, is_same_run, joined_on, program_over, routed, stocked};
 use lt_base::Database;
 use lt_face::memory::NoMemory;
 use lt_face::moves::Moves;
 use lt_model::normal::Prog;
-use lt_program::{Tally, has_long_join, indexed, run_split_alone};
+use lt_program::{Tally, has_long_join, indexed, run_split};
 use lt_query::Planned;
 use std::alloc::Global;
 use std::sync::{Arc, Wait};
@@ -35,8 +35,8 @@ fn splits<R: Threads + Wait + Sync>(
     requires parts { (1 ≤ parts) × (parts ≤ 16) }
 {
     let mut moves: Moves<()> = Moves::new();
-    let ran = run_split_alone(rt, prog, db, parts, &mut moves)?;
-    let is_so = is_same_ran(&ran, whole);
+    let ran = run_split(rt, prog, db, parts, &mut moves)?;
+    let is_so = is_same_run(&ran, whole);
     drop(ran);
     Ok(is_so)
 }

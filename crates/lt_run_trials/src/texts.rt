@@ -13,7 +13,6 @@ use lt_base::Database;
 use lt_check::check::{CheckFault, check};
 use lt_check::schema::{DeclareFault, Schema};
 use lt_delta::Marks;
-use lt_face::key::Key;
 use lt_face::memory::NoMemory;
 use lt_face::moves::Moves;
 use lt_model::kind::{Kind, KindList};
@@ -26,9 +25,6 @@ use lt_script::{Item, ProgramList, Reader, Step};
 use std::alloc::Global;
 use std::sync::Arc;
 use std::thread::Threads;
-
-/// The cell of the int 0.
-pub(crate) const ZERO: Key = 9_223_372_036_854_775_809;
 
 /// How e is declared.
 #[derive(Clone, Copy)]
@@ -195,6 +191,11 @@ pub(crate) fn routed(alloc: Global, base: &Database, prog: Prog) -> Result<Arc<P
 /// Whether the run of which the reply and the marks alone are kept answers and writes what the other did.
 pub(crate) fn is_same_ran(ran: &Ran, tally: &Tally) -> bool {
     is_same_reply(&ran.reply, tally.reply()) && Marks::equal(&ran.marks, tally.marks())
+}
+
+/// Whether two tallies have the same reply and the same marks.
+pub(crate) fn is_same_run(one: &Tally, other: &Tally) -> bool {
+    is_same_reply(one.reply(), other.reply()) && Marks::equal(one.marks(), other.marks())
 }
 
 /// Whether the whole run of which the reply and the marks alone are kept answers and writes what this one did.

@@ -63,7 +63,17 @@ fn two_batches_meet(rt: HostRuntime) -> Result<(), Fail> {
     Ok(())
 }
 
-// Whether the one line stands before the other among the entries of the first trace.
+// Whether each entry is of worker 0 or of worker 1. The first line has how many entries there are.
+fn are_of_two(entries: &str) -> bool {
+    for entry in entries.lines().skip(1) {
+        if !entry.starts_with("0 ") && !entry.starts_with("1 ") {
+            return false;
+        }
+    }
+    true
+}
+
+// Whether all entries of the first trace are of two workers, and the one line stands before the other among them.
 fn stand_in_order(written: &[u8], first: &str, second: &str) -> bool {
     let Ok(text) = std::str::from_utf8(written) else {
         return false;
@@ -72,7 +82,7 @@ fn stand_in_order(written: &[u8], first: &str, second: &str) -> bool {
         return false;
     };
     match (entries.find(first), entries.find(second)) {
-        (Some(one), Some(other)) => one < other,
+        (Some(one), Some(other)) => one < other && are_of_two(entries),
         _ => false,
     }
 }

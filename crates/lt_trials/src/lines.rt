@@ -8,7 +8,7 @@ ghost use Rattle.lt_trials.specs.LineHands.{IsInHand};
 
 use crate::agree::holds;
 use crate::parity::Parity;
-use lt_circuit::{Line, LineEntry, LineJob, This};
+use lt_circuit::{Job, Line, LineEntry, This};
 use lt_face::{Moves, NoMemory};
 use std::alloc::Global;
 use std::sync::Arc;
@@ -26,7 +26,7 @@ fn opening(alloc: Global, leaves: &[u32]) -> Result<Line<Parity>, NoMemory>
 }
 
 /// The end of the worker's claim, if it has one. It tells whether what it held was done.
-fn end(line: &mut Line<Parity>, hand: &mut Option<LineJob<Parity>>, worker: u32) -> bool
+fn end(line: &mut Line<Parity>, hand: &mut Option<Job<Parity>>, worker: u32) -> bool
     requires worker { worker < 16 }
     requires hand { IsInHand line.old worker hand.old }
     ensures hand { IsInHand line.new worker hand.new }
@@ -39,7 +39,7 @@ fn end(line: &mut Line<Parity>, hand: &mut Option<LineJob<Parity>>, worker: u32)
         None => false,
         Some(job) => {
             let mut moves: Moves<()> = Moves::new();
-            match job.work(false, &mut moves) {
+            match job.work(&mut moves) {
                 Ok(output) => {
                     line.finish(worker, output);
                     true
@@ -54,12 +54,7 @@ fn end(line: &mut Line<Parity>, hand: &mut Option<LineJob<Parity>>, worker: u32)
 }
 
 /// A claim of this job. It tells whether the job was given.
-fn begin(
-    line: &mut Line<Parity>,
-    hand: &mut Option<LineJob<Parity>>,
-    worker: u32,
-    code: u32,
-) -> bool
+fn begin(line: &mut Line<Parity>, hand: &mut Option<Job<Parity>>, worker: u32, code: u32) -> bool
     requires worker { worker < 16 }
     requires hand { IsInHand line.old worker hand.old }
     ensures hand { IsInHand line.new worker hand.new }

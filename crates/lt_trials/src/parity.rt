@@ -63,15 +63,6 @@ impl LeafWork for Parity {
         Ok(marks)
     }
 
-    fn work_last<L>(
-        &self,
-        leaf: u32,
-        correction: &Marks,
-        moves: &mut Moves<L>,
-    ) -> Result<Marks, NoMemory> {
-        self.work(leaf, None, correction, moves)
-    }
-
     fn effect<'a>(&self, tally: &'a Marks) -> &'a Marks {
         tally
     }

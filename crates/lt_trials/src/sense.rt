@@ -1,9 +1,9 @@
-//! The first of changed rows that a sense covers, and how few gaps are left once it is sealed.
+//! The first of changed rows that a sense covers, and how few ranges are left once it is sealed.
 ghost use Rattle.std.specs.Prelude.{◌≤◌, length, IfOk};
 
 use crate::agree::{holds, same};
 use lt_face::{END, Items, Key, NoMemory, Perm, Row};
-use lt_sense::{Changes, Sense, Spot};
+use lt_sense::{Changes, Gathering, Sense};
 use std::alloc::Global;
 
 /// The row of these cells.
@@ -25,7 +25,7 @@ fn columns(alloc: Global, columns: &[u32]) -> Result<Perm, NoMemory>
 /// Adds gaps of a relation, below a prefix in an order of columns.
 fn add_gaps(
     alloc: Global,
-    sense: &mut Sense,
+    sense: &mut Gathering,
     relation: u32,
     order: &[u32],
     prefix: &[Key],
@@ -35,15 +35,14 @@ fn add_gaps(
     requires prefix { length prefix.now ≤ 8 }
 {
     let order = columns(alloc, order)?;
-    let prefix = row(alloc, prefix);
     for (lo, hi) in gaps {
-        sense.add_gap(relation, &order, &prefix, *lo, *hi)?;
+        sense.add_gap(relation, &order, prefix, *lo, *hi)?;
     }
     Ok(())
 }
 
 /// Adds hits of relation 3.
-fn add_hits(alloc: Global, sense: &mut Sense, cells: &[Key]) -> Result<(), NoMemory> {
+fn add_hits(alloc: Global, sense: &mut Gathering, cells: &[Key]) -> Result<(), NoMemory> {
     for cell in cells {
         sense.add_hit(3, &row(alloc, &[*cell]))?;
     }
@@ -52,11 +51,11 @@ fn add_hits(alloc: Global, sense: &mut Sense, cells: &[Key]) -> Result<(), NoMem
 
 /// What the search for rows (x) of relation 3 above 3 met where it has 1 and 9.
 fn ones_and_nines(alloc: Global) -> Result<Sense, NoMemory> {
-    let mut sense = Sense::new(alloc);
+    let mut sense = Gathering::new(alloc);
     let gaps = [(0, 1), (2, 9), (10, END), (9, 9)];
     add_gaps(alloc, &mut sense, 3, &[0], &[], &gaps)?;
     add_hits(alloc, &mut sense, &[1, 9])?;
-    Ok(sense)
+    sense.seal()
 }
 
 /// Rows of one cell, each with its relation.
@@ -68,8 +67,8 @@ fn changes(alloc: Global, table: &[(u32, Key)]) -> Result<Changes, NoMemory> {
     Ok(changes)
 }
 
-/// The place of the first of these changes that is covered, and what covers it.
-fn first_covered(alloc: Global, table: &[(u32, Key)]) -> Result<Option<(usize, Spot)>, NoMemory> {
+/// The place of the first of these changes that is covered.
+fn first_covered(alloc: Global, table: &[(u32, Key)]) -> Result<Option<usize>, NoMemory> {
     let sense = ones_and_nines(alloc)?;
     let changes = changes(alloc, table)?;
     Ok(sense.first_covered(&changes))
@@ -78,23 +77,18 @@ fn first_covered(alloc: Global, table: &[(u32, Key)]) -> Result<Option<(usize, S
 #[test]
 fn the_first_changed_row_that_is_covered_is_found(rt: HostRuntime) -> Result<(), NoMemory> {
     let alloc = rt.alloc();
-    let gap = Spot::Gap {
-        prefix: row(alloc, &[]),
-        lo: 2,
-        hi: 9,
-    };
     let in_a_gap = first_covered(alloc, &[(2, 5), (3, 5), (3, 1)])?;
-    same(&rt, in_a_gap, Some((1, gap)));
+    same(&rt, in_a_gap, Some(1));
     let at_a_hit = first_covered(alloc, &[(2, 9), (3, 9)])?;
-    same(&rt, at_a_hit, Some((1, Spot::Hit)));
+    same(&rt, at_a_hit, Some(1));
     let elsewhere = first_covered(alloc, &[(2, 5), (4, 9)])?;
     holds(&rt, elsewhere.is_none());
     Ok(())
 }
 
-/// A sense whose gaps and hits stand in no order; some gaps overlap or adjoin, and a hit comes twice.
+/// Gaps and hits in no order; some gaps overlap or adjoin, and a hit comes twice.
 fn unordered(alloc: Global) -> Result<Sense, NoMemory> {
-    let mut sense = Sense::new(alloc);
+    let mut sense = Gathering::new(alloc);
     let first = [(7, 9), (2, 5), (20, END), (4, 6), (6, 7)];
     add_gaps(alloc, &mut sense, 3, &[0], &[], &first)?;
     add_gaps(alloc, &mut sense, 1, &[1, 0], &[4], &[(3, 5), (0, 3)])?;
@@ -102,18 +96,21 @@ fn unordered(alloc: Global) -> Result<Sense, NoMemory> {
     add_gaps(alloc, &mut sense, 1, &[1, 0], &[], &[(8, 9)])?;
     sense.add_hit(1, &row(alloc, &[4, 7]))?;
     add_hits(alloc, &mut sense, &[9, 1, 9])?;
-    Ok(sense)
-}
-
-/// How many gaps and hits are left once the sense is sealed, and whether it is in order.
-fn sealed(alloc: Global) -> Result<(usize, usize, bool), NoMemory> {
-    let mut sense = unordered(alloc)?;
-    sense.seal()?;
-    Ok((sense.gap_count(), sense.hit_count(), sense.is_sealed()))
+    sense.seal()
 }
 
 #[test]
-fn a_sealed_sense_has_fewer_gaps(rt: HostRuntime) -> Result<(), NoMemory> {
-    same(&rt, sealed(rt.alloc())?, (5, 3, true));
+fn a_sealed_sense_has_few_ranges(rt: HostRuntime) -> Result<(), NoMemory> {
+    let alloc = rt.alloc();
+    let sense = unordered(alloc)?;
+    same(&rt, sense.weight(), 6);
+    let covered: [&[Key]; 5] = [&[4, 7], &[4, 9], &[4, 4], &[5, 8], &[0, 4]];
+    for cells in covered {
+        holds(&rt, sense.covers(1, &row(alloc, cells)));
+    }
+    let others: [&[Key]; 4] = [&[4, 6], &[5, 4], &[5, 7], &[7, 4]];
+    for cells in others {
+        holds(&rt, !sense.covers(1, &row(alloc, cells)));
+    }
     Ok(())
 }

@@ -5,6 +5,7 @@ use Rattle.lt_model.specs.Marks.{laid}
 use Rattle.lt_base.specs.Tables.{state_of}
 use Rattle.lt_program.specs.Tally.{HasIndexes}
 use Rattle.lt_batch.proofs.Runs.{agree_laid, marked_or_agree}
+use Rattle.lt_restate.proofs.Asking.{laid_relations}
 use Rattle.lt_run_trials.proofs.restatement.again.Goals as goal
 
 pub restate_marks-requires-clause-fits : goal.restate_marks-requires-clause-fits
@@ -12,6 +13,9 @@ restate_marks-requires-clause-fits c = subst (Fits (state_of c.in_ok-next.next))
 
 pub restate_marks-requires-clause-indexes : goal.restate_marks-requires-clause-indexes
 restate_marks-requires-clause-indexes c = subst (HasIndexes c.in_ok-next.next) (sym c.requires.program) c.in_ok-next.ensures.indexes
+
+pub restate_marks-requires-clause-relations : goal.restate_marks-requires-clause-relations
+restate_marks-requires-clause-relations c = laid_relations (state_of c.args.db.now) (state_of c.args.old.now.base) (state_of c.in_ok-next.next) c.args.first.now c.args.second.now c.requires.base c.in_ok-next.ensures.state
 
 pub restate_marks-requires-clause-marked : goal.restate_marks-requires-clause-marked
 restate_marks-requires-clause-marked c =

@@ -9,6 +9,7 @@ use Rattle.lt_base.specs.Tables.{Table, state_of}
 use Rattle.lt_query.proofs.Distinct.{IsIn-filter}
 use Rattle.lt_program.specs.Tally.{HasIndexes}
 use Rattle.lt_batch.proofs.Runs.{agree_laid, marked_or_agree}
+use Rattle.lt_restate.proofs.Asking.{laid_relations}
 use Rattle.lt_run_trials.proofs.restatement.again_by_name.Goals as goal
 
 pub restate-requires-clause-fits : goal.restate-requires-clause-fits
@@ -16,6 +17,9 @@ restate-requires-clause-fits c = subst (Fits (state_of c.in_ok-next.next)) (sym 
 
 pub restate-requires-clause-indexes : goal.restate-requires-clause-indexes
 restate-requires-clause-indexes c = subst (HasIndexes c.in_ok-next.next) (sym c.requires.program) c.in_ok-next.ensures.indexes
+
+pub restate-requires-clause-relations : goal.restate-requires-clause-relations
+restate-requires-clause-relations c = laid_relations (state_of c.args.db.now) (state_of c.args.old.now.base) (state_of c.in_ok-next.next) c.args.first.now c.args.second.now c.requires.base c.in_ok-next.ensures.state
 
 pub restate-requires-clause-named : goal.restate-requires-clause-named
 restate-requires-clause-named c = λ relation row.

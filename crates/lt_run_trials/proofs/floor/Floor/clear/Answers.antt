@@ -13,7 +13,7 @@ returns-clause-free g c =
 -- a worker keeps what it has in hand where its claim stands
 keeps_hand : {W T : Type 0} (a b : CircuitView W T) (w : ℕ) (hand : Option (JobView W T)) → b.work ≡ a.work → (state b).claim w ≡ (state a).claim w → IsInHand a w hand → IsInHand b w hand
 keeps_hand a b w None work same is = same ∙ is
-keeps_hand a b w (Some job) work same is = (is.0 ∙ sym work, same ∙ is.1)
+keeps_hand a b w (Some job) work same is = (is.0 ∙ sym work, same ∙ is.1, is.2)
 
 pub end-requires-2-clause-hand : goal.end-requires-2-clause-hand
 end-requires-2-clause-hand g c =
