@@ -1,21 +1,22 @@
--- Lists in order: one more is put to one, and two are merged.
-use Rattle.std.proofs.Common.{◌≡◌, ℕ, zero, suc, ◌+◌, ◌-◌, ◌<◌, ◌≤◌, Bool, true, false, ◌||◌, List, [], ◌∷◌, ◌++◌, map, not, get_or, length, take, Some, refl, sym, ap, ◌∙◌, subst, arith, inl, inr, length-append}
+-- Lists in order: one more is put to one, and a sorted list is put in order by that.
+use Rattle.std.proofs.Common.{◌≡◌, ℕ, zero, suc, ◌+◌, ◌-◌, ◌<◌, ◌≤◌, Bool, true, false, ◌||◌, List, [], ◌∷◌, ◌++◌, map, get_or, length, take, Some, refl, sym, ap, ◌∙◌, subst, arith, length-append}
 use mathlib.Core.Bool.{true≢false}
 use Rattle.std.specs.Prelude.{slice_get}
 use Rattle.std.specs.List.{list_any}
-use Rattle.std.specs.Ordering.{is_gt, ordering_reverse}
+use Rattle.std.specs.List.Sorted.{IsSorted}
+use Rattle.std.specs.Ordering.{is_gt, is_lt, ordering_reverse}
 use Rattle.std.specs.declared.cmp.Ordering.{Ordering}
 use Rattle.std.specs.declared.cmp.Ordering.TheVariants.{Less, Equal, Greater}
 use Rattle.std.specs.Cmp.{IsTotalOrder}
-use Rattle.std.proofs.lemmas.Cmp.{upto}
-use Rattle.std.proofs.lemmas.Bool.{cases_lt}
+use Rattle.std.proofs.lemmas.List.Sorted.{ranks_by, sorted_far}
+use Rattle.std.proofs.lemmas.Option.{slice_get_within, get_or_from_slice_get}
 use Rattle.std.proofs.lemmas.List.Folds.{list_any-append}
 use Rattle.std.proofs.lemmas.List.{map_push}
 use Rattle.lt_face.specs.State.{Row}
 use Rattle.lt_face.specs.Lists.{AreInOrder}
-use Rattle.lt_sense.specs.Ordered.{AreUpTo, IsPut}
-use Rattle.lt_sense.proofs.Sorted.{all_push, in_order_next, in_order_at}
-use Rattle.lt_sense.proofs.Lies.{get_own, take_next}
+use Rattle.lt_sense.specs.Ordered.{AreUpTo, IsPut, IsSealedOf}
+use Rattle.lt_sense.proofs.Sorted.{all_push, in_order_next}
+use Rattle.lt_sense.proofs.Lies.{get_own, take_next, take_whole}
 
 -- ---- one more
 
@@ -36,20 +37,19 @@ put_next cmp before covers trans xs l x h lx = record {
   few = (let e = length-append (xs ++ l ∷ []) (x ∷ []) in omega arith);
 }
 
--- ---- two lists as one
+-- ---- one after another
 
-pub record IsMerging {X : Type 0} (cmp : X → X → Ordering) (before : X → X → Type 0) (covers : X → ℕ → Row → Bool) (one other out : List X) (i j : ℕ) : Type 0 where
+-- what the first of them have become
+pub record IsUniting {X : Type 0} (cmp : X → X → Ordering) (before : X → X → Type 0) (covers : X → ℕ → Row → Bool) (all out : List X) (i : ℕ) : Type 0 where
   pub ordered : AreInOrder before out
-  pub below_one : (p : ℕ) (x : X) → slice_get one p ≡ Some x → i ≤ p → AreUpTo cmp out x
-  pub below_other : (p : ℕ) (x : X) → slice_get other p ≡ Some x → j ≤ p → AreUpTo cmp out x
-  pub covered : (relation : ℕ) (row : Row) → list_any (λ y. covers y relation row) out ≡ (list_any (λ y. covers y relation row) (take i one) || list_any (λ y. covers y relation row) (take j other))
-  pub few : length out ≤ i + j
+  pub below : (p : ℕ) (x : X) → slice_get all p ≡ Some x → i ≤ p → AreUpTo cmp out x
+  pub covered : (relation : ℕ) (row : Row) → list_any (λ y. covers y relation row) out ≡ list_any (λ y. covers y relation row) (take i all)
+  pub few : length out ≤ i
 
-pub merge_begun : {X : Type 0} (cmp : X → X → Ordering) (before : X → X → Type 0) (covers : X → ℕ → Row → Bool) (one other : List X) → IsMerging cmp before covers one other [] 0 0
-merge_begun cmp before covers one other = record {
+pub unite_begun : {X : Type 0} (cmp : X → X → Ordering) (before : X → X → Type 0) (covers : X → ℕ → Row → Bool) (all : List X) → IsUniting cmp before covers all [] 0
+unite_begun cmp before covers all = record {
   ordered = tt;
-  below_one = λ p x at le. tt;
-  below_other = λ p x at le. tt;
+  below = λ p x at le. tt;
   covered = λ relation row. refl;
   few = omega arith;
 }
@@ -67,77 +67,42 @@ any_next p (y ∷ xs) (suc i) x h = (let n : suc i + 1 ≡ suc (i + 1) = omega a
     regroup true b c = refl
     regroup false b c = refl
 
-module _ {X : Type 0} (cmp : X → X → Ordering) (before : X → X → Type 0) (covers : X → ℕ → Row → Bool) (total : IsTotalOrder cmp) (upward : (a b : X) → before a b → is_gt (cmp a b) ≡ false) where
-  -- one that comes to all that are left is up to them
-  up_in : (xs : List X) (i : ℕ) (a : X) → AreInOrder before xs → ((b : X) → slice_get xs i ≡ Some b → is_gt (cmp a b) ≡ false) → (p : ℕ) (x : X) → slice_get xs p ≡ Some x → i ≤ p → is_gt (cmp a x) ≡ false
-  up_in xs i a h first p x at le = elim (cases_lt i p) [
-    | inl lt ↦ (let b = there_before xs p x at i lt in upto total a b.0 x (first b.0 b.1) (upward b.0 x (in_order_at before xs i p b.0 x h b.1 at lt)))
-    | inr ge ↦ (let e : p ≡ i = omega arith in first x (ap (slice_get xs) (sym e) ∙ at))
-  ]
-    where
-      there_before : (xs : List X) (p : ℕ) (x : X) → slice_get xs p ≡ Some x → (i : ℕ) → i < p → (b : X) × (slice_get xs i ≡ Some b)
-      there_before [] p x h i lt = absurd cc
-      there_before (y ∷ xs) p x h zero lt = (y, refl)
-      there_before (y ∷ xs) zero x h (suc i) lt = absurd (omega arith)
-      there_before (y ∷ xs) (suc p) x h (suc i) lt = there_before xs p x h i (omega arith)
+pub unite_next : {X : Type 0} (cmp : X → X → Ordering) (before : X → X → Type 0) (covers : X → ℕ → Row → Bool) (all out new : List X) (i : ℕ) (a : X) → slice_get all i ≡ Some a → ((p : ℕ) (x : X) → slice_get all p ≡ Some x → i ≤ p → is_gt (cmp a x) ≡ false)
+    → IsUniting cmp before covers all out i → IsPut cmp before covers out new a → IsUniting cmp before covers all new (i + 1)
+unite_next cmp before covers all out new i a at first m put = record {
+  ordered = put.ordered;
+  below = λ p x here le. put.up_to x (m.below p x here (omega (arith, le))) (first p x here (omega (arith, le)));
+  covered = λ relation row. put.covered relation row ∙ ap (λ b. b || covers a relation row) (m.covered relation row) ∙ sym (any_next (λ y. covers y relation row) all i a at);
+  few = (let x = put.few in let y = m.few in omega (arith, x, y));
+}
 
-  pub merge_one : (one other out new : List X) (i j : ℕ) (a : X) → AreInOrder before one → AreInOrder before other → slice_get one i ≡ Some a → ((b : X) → slice_get other j ≡ Some b → is_gt (cmp a b) ≡ false)
-      → IsMerging cmp before covers one other out i j → IsPut cmp before covers out new a → IsMerging cmp before covers one other new (i + 1) j
-  merge_one one other out new i j a h k at first m put = record {
-    ordered = put.ordered;
-    below_one = λ p x here le. put.up_to x (m.below_one p x here (omega arith)) (upward a x (in_order_at before one i p a x h at here (omega arith)));
-    below_other = λ p x here le. put.up_to x (m.below_other p x here le) (up_in other j a k first p x here le);
-    covered = λ relation row.
-        put.covered relation row ∙ ap (λ b. b || covers a relation row) (m.covered relation row)
-        ∙ swap (list_any (λ y. covers y relation row) (take i one)) (list_any (λ y. covers y relation row) (take j other)) (covers a relation row)
-        ∙ ap (λ b. b || list_any (λ y. covers y relation row) (take j other)) (sym (any_next (λ y. covers y relation row) one i a at));
-    few = (let x = put.few in let y = m.few in omega arith);
-  }
-    where
-      swap : (a b c : Bool) → ((a || b) || c) ≡ ((a || c) || b)
-      swap true b c = refl
-      swap false true true = refl
-      swap false true false = refl
-      swap false false true = refl
-      swap false false false = refl
+pub unite_done : {X : Type 0} (cmp : X → X → Ordering) (before : X → X → Type 0) (covers : X → ℕ → Row → Bool) (all out : List X) (i : ℕ) → i ≡ length all → IsUniting cmp before covers all out i → IsSealedOf before covers all out
+unite_done cmp before covers all out i e m = record {
+  ordered = m.ordered;
+  alike = λ relation row. m.covered relation row ∙ ap (λ xs. list_any (λ y. covers y relation row) xs) (take_whole all i (omega (arith, e)));
+  few = (let y = m.few in omega (arith, y, e));
+}
 
-  flip : (one other out : List X) (i j : ℕ) → IsMerging cmp before covers one other out i j → IsMerging cmp before covers other one out j i
-  flip one other out i j m = record {
-    ordered = m.ordered;
-    below_one = m.below_other;
-    below_other = m.below_one;
-    covered = λ relation row. m.covered relation row ∙ turn (list_any (λ y. covers y relation row) (take i one)) (list_any (λ y. covers y relation row) (take j other));
-    few = (let x = m.few in omega arith);
-  }
-    where
-      turn : (a b : Bool) → (a || b) ≡ (b || a)
-      turn true true = refl
-      turn true false = refl
-      turn false true = refl
-      turn false false = refl
+-- in a sorted list none begins behind a later one
+not_less_back : (o : Ordering) → is_lt o ≡ false → is_gt (ordering_reverse o) ≡ false
+not_less_back Less h = absurd (true≢false h)
+not_less_back Equal h = refl
+not_less_back Greater h = refl
 
-  pub merge_other : (one other out new : List X) (i j : ℕ) (b : X) → AreInOrder before one → AreInOrder before other → slice_get other j ≡ Some b → ((a : X) → slice_get one i ≡ Some a → is_gt (cmp b a) ≡ false)
-      → IsMerging cmp before covers one other out i j → IsPut cmp before covers out new b → IsMerging cmp before covers one other new i (j + 1)
-  merge_other one other out new i j b h k at first m put = flip other one new (j + 1) i (merge_one other one out new j i b k h at first (flip one other out i j m) put)
-
-pub not_above : {X : Type 0} (cmp : X → X → Ordering) (x y a b : X) (o : Ordering) (r : Bool) → o ≡ cmp x y → r ≡ is_gt o → x ≡ a → y ≡ b → not r ≡ true → is_gt (cmp a b) ≡ false
-not_above cmp x y a b o r e f ea eb h = by r (f ∙ ap is_gt (e ∙ ap (λ z. cmp z y) ea ∙ ap (cmp a) eb)) h
+pub sorted_up : {X Y : Type 0} (cmp : Y → Y → Ordering) → IsTotalOrder cmp → (f : X → Y) (xs : List X) (i : ℕ) (a : X) → IsSorted (λ x y. cmp (f x) (f y)) xs → slice_get xs i ≡ Some a
+    → (p : ℕ) (y : Y) → slice_get (map f xs) p ≡ Some y → i ≤ p → is_gt (cmp (f a) y) ≡ false
+sorted_up cmp total f xs i a up at p y there le =
+    let b = image_back f xs p y there in
+    let lt = slice_get_within xs p b.0 b.1 in
+    let far : is_lt (cmp (f (get_or xs p a)) (f (get_or xs i a))) ≡ false = sorted_far (λ x y. is_lt (cmp (f x) (f y))) (ranks_by total f) xs up i p a le lt in
+    let e : cmp (f b.0) (f a) ≡ cmp (f (get_or xs p a)) (f (get_or xs i a)) = ap (λ x. cmp (f x) (f a)) (sym (get_or_from_slice_get xs p b.0 a b.1)) ∙ ap (λ x. cmp (f (get_or xs p a)) (f x)) (sym (get_or_from_slice_get xs i a a at)) in
+    subst (λ z. is_gt (cmp (f a) z) ≡ false) b.2
+    (ap is_gt (total.antisymm (f a) (f b.0)) ∙ not_less_back (cmp (f b.0) (f a)) (ap is_lt e ∙ far))
   where
-    by : (r : Bool) → r ≡ is_gt (cmp a b) → not r ≡ true → is_gt (cmp a b) ≡ false
-    by true e h = absurd (true≢false (sym h))
-    by false e h = sym e
-
-pub turned_below : {X : Type 0} (cmp : X → X → Ordering) → IsTotalOrder cmp → (x y a b : X) (o : Ordering) (r : Bool) → o ≡ cmp x y → r ≡ is_gt o → x ≡ a → y ≡ b → not r ≡ false → is_gt (cmp b a) ≡ false
-turned_below cmp total x y a b o r e f ea eb h = ap is_gt (total.antisymm b a) ∙ back (cmp a b) (sym (f ∙ ap is_gt (e ∙ ap (λ z. cmp z y) ea ∙ ap (cmp a) eb)) ∙ by r h)
-  where
-    by : (r : Bool) → not r ≡ false → r ≡ true
-    by true h = refl
-    by false h = absurd (true≢false h)
-
-    back : (o : Ordering) → is_gt o ≡ true → is_gt (ordering_reverse o) ≡ false
-    back Less h = absurd (true≢false (sym h))
-    back Equal h = refl
-    back Greater h = refl
+    image_back : {X Y : Type 0} (f : X → Y) (xs : List X) (p : ℕ) (y : Y) → slice_get (map f xs) p ≡ Some y → (x : X) × (slice_get xs p ≡ Some x) × (f x ≡ y)
+    image_back f [] p y h = absurd cc
+    image_back f (x ∷ xs) zero y h = (x, refl, cc)
+    image_back f (x ∷ xs) (suc p) y h = image_back f xs p y h
 
 pub ordered_next : {X Y : Type 0} (B : Y → Y → Type 0) → ((a b c : Y) → B a b → B b c → B a c) → (f : X → Y) (xs : List X) (i : ℕ) (d : X) → 1 ≤ i → i < length xs → AreInOrder B (map f (take i xs)) → B (f (get_or xs (i - 1) d)) (f (get_or xs i d)) → AreInOrder B (map f (take (i + 1) xs))
 ordered_next B trans f xs zero d le lt h b = absurd (omega (arith, le))

@@ -1,5 +1,5 @@
 -- Ranges that become one, and lists of ranges that one more is put to.
-use Rattle.std.proofs.Common.{◌≡◌, ℕ, zero, suc, ◌+◌, ◌<◌, ◌≤◌, Bool, true, false, ◌&&◌, ◌||◌, List, [], ◌∷◌, ◌++◌, map, length, drop, get_or, slice_get, slice_index, Some, refl, sym, ap, ◌∙◌, subst, arith, inl, inr, length-append}
+use Rattle.std.proofs.Common.{◌≡◌, ℕ, zero, suc, ◌+◌, ◌<◌, ◌≤◌, Bool, true, false, ◌&&◌, ◌||◌, List, [], ◌∷◌, ◌++◌, length, drop, get_or, slice_get, slice_index, Some, refl, sym, ap, ◌∙◌, subst, arith, inl, inr, length-append}
 use mathlib.Core.Bool.{true≢false}
 use Rattle.std.specs.Prelude.{◌⊎◌, ◌==◌}
 use Rattle.std.specs.List.{list_any, AllByRecursion}
@@ -22,7 +22,7 @@ use Rattle.lt_sense.specs.Apart.{first_of, end_of, range_cmp, AreUnited, IsApart
 use Rattle.lt_sense.specs.Ordered.{AreUpTo, IsPut}
 use Rattle.lt_sense.proofs.Lies.{drop_next, drop_done}
 use Rattle.lt_sense.proofs.Joined.{put_next}
-use Rattle.lt_sense.proofs.Sorted.{less_up, up_number, some_is, got_in, all_in, image_at, all_push, all_init, in_order_push, in_order_init, each_then}
+use Rattle.lt_sense.proofs.Sorted.{less_up, up_number, some_is, got_in, all_in, all_push, all_init, in_order_push, in_order_init, each_then}
 use Rattle.lt_sense.proofs.Spanned.{lies_joined, lies_within, range_in, have_next}
 use Rattle.lt_sense.proofs.Stands.{meets_beside, meets_within, apart_chain}
 
@@ -102,9 +102,6 @@ got_or (y ∷ ys) (suc i) x d there = got_or ys i x d there
 
 pub kept_at : {X : Type 0} (P : X → Type 0) (xs : List X) (i : ℕ) (x : X) → AllByRecursion P xs → slice_get xs i ≡ Some x → P x
 kept_at P xs i x all there = all_in P xs x all (got_in xs i x there)
-
-pub image_got : {X Y : Type 0} (f : X → Y) (xs : List X) (i : ℕ) (x : X) (y : Y) → slice_get xs i ≡ Some x → slice_get (map f xs) i ≡ Some y → f x ≡ y
-image_got f xs i x y there image = some_is (f x) y (sym (image_at f xs i x there) ∙ image)
 
 -- ---- a range that ends before another begins
 

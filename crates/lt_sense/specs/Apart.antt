@@ -47,3 +47,7 @@ stills_in s spans = map (still_in s) spans
 -- its run is there
 abbrev pub IsKeptSpan : Spans → Span → Type 0
 IsKeptSpan s span = span.run < length s.runs.items
+
+-- how two of them begin
+abbrev pub span_cmp : Spans → Span → Span → Ordering
+span_cmp s one other = range_cmp (still_in s one) (still_in s other)

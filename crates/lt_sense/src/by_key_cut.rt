@@ -9,8 +9,8 @@ ghost use Rattle.lt_sense.specs.Done.{IsDone};
 ghost use Rattle.lt_sense.specs.Gathered.{ranges_in};
 ghost use Rattle.lt_sense.specs.Spans.{IsOfSame, IsSpans, ranges_of, stills, under};
 
+use crate::adding::take_range;
 use crate::by_key_rest::KeyLists;
-use crate::by_key_spans::take_range;
 use crate::pieces::cells_of;
 use crate::spans::Spans;
 use lt_face::key::Key;

@@ -7,7 +7,7 @@ ghost use Rattle.lt_sense.specs.declared.covering.KeptGap.{KeptGap as GapView};
 ghost use Rattle.lt_sense.specs.Gathered.{ranges_in};
 ghost use Rattle.lt_sense.specs.Spans.{growing, ranges_of, stills, IsSpans};
 
-use crate::by_key_lists::{add_whole, add_wholes};
+use crate::adding::{add_list, add_lists};
 use crate::by_key_rest::{KeyLists, add_rest};
 use crate::pieces::cells_of;
 use crate::spans::Spans;
@@ -87,7 +87,7 @@ fn take_list(
     ensures taken { OnOk result (DivideIn (ranges_in lists.old.items) (ranges_in others.old.items) (ranges_in lists.new.items) (ranges_in others.new.items) key (ranges_of list)) }
 {
     if is_list_under(key, &list) {
-        return add_whole(alloc, lists, &list);
+        return add_list(alloc, lists, &list);
     }
     others.push(list)?;
     Ok(())
@@ -151,6 +151,6 @@ pub(crate) fn take_both(
     ensures sound { AllByRecursion IsSpans lists.new.items }
     ensures taken { OnOk result (TellBoth lists.old.items rest.old.items lists.new.items rest.new.items other_lists.now.items other_rest.now.items) }
 {
-    add_wholes(alloc, lists, other_lists)?;
+    add_lists(alloc, lists, other_lists)?;
     add_rest(rest, other_rest)
 }

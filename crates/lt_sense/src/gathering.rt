@@ -3,6 +3,7 @@ ghost use Rattle.std.specs.Prelude.{◌≡◌, ◌≢◌, ◌<◌, ◌≤◌, �
 ghost use Rattle.std.specs.List.{AllByRecursion};
 ghost use Rattle.lt_face.specs.Limits.{most_columns};
 ghost use Rattle.lt_face.specs.Lists.{IsIn};
+ghost use Rattle.lt_sense.specs.ByKeyTold.{TellSame};
 ghost use Rattle.lt_sense.specs.Gathered.{ranges_in, IsOrder, IsListOf};
 ghost use Rattle.lt_sense.specs.Held.{held_in, index_of, indexes, MoreIndexes};
 ghost use Rattle.lt_sense.specs.Spans.{HaveSameRows, HaveAlso, IsSpans};
@@ -56,6 +57,7 @@ pub(crate) fn place_for(
     requires narrow { length perm.now ≤ most_columns }
     ensures sound { AllByRecursion IsSpans lists.new.items }
     ensures rows { HaveSameRows (ranges_in lists.new.items) (ranges_in lists.old.items) }
+    ensures told { TellSame (ranges_in lists.new.items) (ranges_in lists.old.items) }
     ensures place { IfOk result (IsListOf lists.new.items relation perm.now) }
     ensures indexes { OnOk result (MoreIndexes (indexes lists.old.items) (indexes lists.new.items) (relation, perm.now)) }
     ensures few { held_in lists.new.items ≤ held_in lists.old.items }

@@ -22,7 +22,7 @@ pub trait KeysAt {
 }
 
 /// The row that has, in each column, the key of the level that its place says.
-pub(crate) fn row_of<K: KeysAt>(alloc: Global, places: &[usize], keys: &K) -> Row
+pub fn row_of<K: KeysAt>(alloc: Global, places: &[usize], keys: &K) -> Row
     requires narrow { length places.now ≤ most_columns }
     requires there { AllByRecursion (λ l. l < K.count keys.now) places.now }
     ensures { result ≡ map (K.key keys.now) places.now }

@@ -7,6 +7,10 @@
 //! that were met among them, `adding` those of another gathering. `specs/Gathered`: they have just the rows that are covered.
 //! `Gathering::seal` makes a `Sense` (`sense`): the ranges of an index stand in the order of rows (`specs/Apart`; mostly they were
 //! gathered so, else `sorting` puts them so), and `halves` looks a row up among them. `specs/Held` says how many ranges there are.
+//! `GatheringByKey` (`by_key`) and `SenseByKey` (`by_key_sense`) are the same of an evaluation key by key of its first variable (`specs/ByKey`):
+//! an index whose columns begin with that variable has one list for all keys (`by_key_lists`), in which a row's first cell is its key;
+//! the other ranges of a key's part stand by the key (`by_key_rest`; `by_key_taking` tells which, `specs/ByKeyTold` what they say together).
+//! `by_key_cut` leaves keys out, and `by_key_seen` is what clauses see, without bytes.
 #![tactic(auto)]
 
 mod adding;
@@ -16,7 +20,6 @@ mod by_key_lists;
 mod by_key_rest;
 mod by_key_seen;
 mod by_key_sense;
-mod by_key_spans;
 mod by_key_taking;
 mod covering;
 mod gathering;
@@ -34,7 +37,7 @@ pub use by_key::GatheringByKey;
 pub use by_key_sense::SenseByKey;
 pub use covering::{Hit, KeptGap};
 pub use gathering::Gathering;
-pub use keys_at::KeysAt;
+pub use keys_at::{KeysAt, row_of};
 pub use lt_face::items::Changes;
 pub use no_sense::NoSense;
 pub use sense::Sense;

@@ -1,11 +1,11 @@
-//! Ranges of an index put in order: parts that are in order are merged, and ranges that meet become one.
+//! Ranges of an index put in order: they are sorted by how they begin, and ranges that meet become one.
 ghost use Rattle.std.specs.Prelude.{◌≡◌, ◌<◌, ◌≤◌, ◌∷◌, ◌++◌, [], true, false, length, slice_get, Some, IfOk, OnOk};
 ghost use Rattle.std.specs.List.{AllByRecursion};
+ghost use Rattle.std.specs.List.Sorted.{IsPermutation, IsSorted};
 ghost use Rattle.std.specs.Ordering.{is_gt, is_lt};
 ghost use Rattle.lt_face.specs.Lists.{AreInOrder};
 ghost use Rattle.lt_face.specs.Rows.{row_cmp};
-ghost use Rattle.lt_sense.specs.declared.covering.KeptGap.{KeptGap};
-ghost use Rattle.lt_sense.specs.Apart.{end_of, first_of, range_cmp, still_in, stills_in, AreUnited, IsApart, IsKeptSpan};
+ghost use Rattle.lt_sense.specs.Apart.{end_of, first_of, range_cmp, span_cmp, still_in, stills_in, AreUnited, IsApart, IsKeptSpan};
 ghost use Rattle.lt_sense.specs.Ordered.{AreUpTo, IsPut, IsSealedOf};
 ghost use Rattle.lt_sense.specs.Sense.{gap_covers};
 ghost use Rattle.lt_sense.specs.Spans.{stills, HaveSameRows, GrowAlike, IsSpans};
@@ -63,20 +63,20 @@ fn greater(a: Key, b: Key) -> Key
 impl Spans {
     /// The prefix of a range.
     fn prefix_of(&self, span: Span) -> &[Key]
-        requires sound { IsSpans self.now }
-        requires there { IsKeptSpan self.now span }
+        requires { IsSpans self.now }
         ensures { result.now ≡ (still_in self.now span).prefix }
     {
+        if span.run >= self.runs.len() {
+            return &[];
+        }
         let run = self.runs[span.run];
         cells_of(&self.cells, run)
     }
 
     /// How two ranges begin.
     fn compare_spans(&self, one: Span, other: Span) -> Ordering
-        requires sound { IsSpans self.now }
-        requires one { IsKeptSpan self.now one }
-        requires other { IsKeptSpan self.now other }
-        ensures { result ≡ range_cmp (still_in self.now one) (still_in self.now other) }
+        requires { IsSpans self.now }
+        ensures { result ≡ span_cmp self.now one other }
     {
         compare_ends(self.prefix_of(one), one.lo, self.prefix_of(other), other.lo)
     }
@@ -167,71 +167,31 @@ impl Spans {
         }
     }
 
-    /// Whether the next of one list comes before that of the other, or the other has none.
-    fn takes_first(&self, one: &[Span], i: usize, other: &[Span], j: usize) -> bool
+    /// Those that don't grow, sorted by how they begin.
+    fn sorted(&self) -> Result<Vec<Span>, NoMemory>
         requires sound { IsSpans self.now }
-        requires one { AllByRecursion (IsKeptSpan self.now) one.now }
-        requires other { AllByRecursion (IsKeptSpan self.now) other.now }
-        requires more { length other.now ≤ j → i < length one.now }
-        ensures first { result ≡ true → i < length one.now }
-        ensures second { result ≡ false → j < length other.now }
-        ensures below { result ≡ true → (a b : KeptGap) → slice_get (stills_in self.now one.now) i ≡ Some a → slice_get (stills_in self.now other.now) j ≡ Some b → is_gt (range_cmp a b) ≡ false }
-        ensures above { result ≡ false → (a b : KeptGap) → slice_get (stills_in self.now one.now) i ≡ Some a → slice_get (stills_in self.now other.now) j ≡ Some b → is_gt (range_cmp b a) ≡ false }
+        ensures same { IfOk result (λ all. IsPermutation self.now.ranges.items all.items) }
+        ensures sorted { IfOk result (λ all. IsSorted (span_cmp self.now) all.items) }
     {
-        if j >= other.len() {
-            return true;
-        }
-        if i >= one.len() {
-            return false;
-        }
-        let next = span_at(one, i);
-        let rival = span_at(other, j);
-        !self.compare_spans(next, rival).is_gt()
+        let mut all = Vec::new(*self.cells.allocator());
+        all.extend_from_slice(&self.ranges)?;
+        all.sort_by(|one, other| self.compare_spans(*one, *other))?;
+        Ok(all)
     }
 
-    /// Two lists in order as one.
-    fn merged(&self, one: &[Span], other: &[Span]) -> Result<Vec<Span>, NoMemory>
-        requires sound { IsSpans self.now }
-        requires one { AllByRecursion (IsKeptSpan self.now) one.now }
-        requires other { AllByRecursion (IsKeptSpan self.now) other.now }
-        requires one_ordered { AreInOrder IsApart (stills_in self.now one.now) }
-        requires other_ordered { AreInOrder IsApart (stills_in self.now other.now) }
-        ensures kept { IfOk result (λ out. AllByRecursion (IsKeptSpan self.now) out.items) }
-        ensures merged { IfOk result (λ out. IsSealedOf IsApart gap_covers (stills_in self.now one.now ++ stills_in self.now other.now) (stills_in self.now out.items)) }
-    {
-        let mut out = Vec::new(*self.cells.allocator());
-        let mut i = 0;
-        let mut j = 0;
-        'both: while i < one.len() || j < other.len() {
-            if self.takes_first(one, i, other, j) {
-                let next = span_at(one, i);
-                self.put(&mut out, next)?;
-                i += 1;
-            } else {
-                let rival = span_at(other, j);
-                self.put(&mut out, rival)?;
-                j += 1;
-            }
-        }
-        Ok(out)
-    }
-
-    /// The same in order.
-    fn in_order(&self, all: &[Span]) -> Result<Vec<Span>, NoMemory>
+    /// Sorted ranges, of which those that meet become one.
+    fn united(&self, all: &[Span]) -> Result<Vec<Span>, NoMemory>
         requires sound { IsSpans self.now }
         requires kept { AllByRecursion (IsKeptSpan self.now) all.now }
+        requires sorted { IsSorted (span_cmp self.now) all.now }
         ensures kept { IfOk result (λ out. AllByRecursion (IsKeptSpan self.now) out.items) }
         ensures same { IfOk result (λ out. IsSealedOf IsApart gap_covers (stills_in self.now all.now) (stills_in self.now out.items)) }
     {
-        if self.are_apart(all) {
-            let mut out = Vec::new(*self.cells.allocator());
-            out.extend_from_slice(all)?;
-            return Ok(out);
+        let mut out = Vec::new(*self.cells.allocator());
+        for at in 0..all.len() {
+            let next = span_at(all, at);
+            self.put(&mut out, next)?;
         }
-        let (left, right) = all.split_at(all.len() / 2);
-        let one = self.in_order(left)?;
-        let other = self.in_order(right)?;
-        let out = self.merged(&one, &other)?;
         Ok(out)
     }
 
@@ -247,7 +207,8 @@ impl Spans {
         if self.are_apart(&self.ranges) {
             return Ok(());
         }
-        let ranges = self.in_order(&self.ranges)?;
+        let all = self.sorted()?;
+        let ranges = self.united(&all)?;
         self.ranges = ranges;
         Ok(())
     }

@@ -1,8 +1,12 @@
 use Rattle.std.proofs.Common.{◌≡◌, ◌++◌, ◌∷◌, [], length, slice_get, ap, ◌∙◌, arith, inr}
 use Rattle.lt_sense.specs.Held.{held_in, indexes}
+use Rattle.lt_sense.proofs.ByKeyAdded.{tell_empty}
 use Rattle.lt_sense.proofs.Costs.{held_next, indexes_next}
 use Rattle.lt_sense.proofs.Growth.{get_next}
 use Rattle.lt_sense.proofs.gathering.place_for.Goals as goal
+
+pub returns-clause-told : goal.returns-clause-told
+returns-clause-told c = tell_empty c.new.result c.args.lists.now.items c.push.new.self.items c.new.ensures.none c.in_ok-push.ensures.items
 
 pub returns-clause-place : goal.returns-clause-place
 returns-clause-place c =

@@ -1,9 +1,10 @@
-use Rattle.std.proofs.Common.{refl}
+use Rattle.std.proofs.Common.{refl, arith}
 use Rattle.lt_sense.specs.Spans.{ranges_of}
 use Rattle.lt_sense.proofs.ByKeyAdded.{also_of}
+use Rattle.lt_sense.proofs.Costs.{count_some}
 use Rattle.lt_sense.proofs.Spanned.{none_kept}
 use Rattle.lt_sense.proofs.Stepped.{ok_map}
-use Rattle.lt_sense.proofs.by_key_spans.take_range.Goals as goal
+use Rattle.lt_sense.proofs.adding.take_range.Goals as goal
 
 pub returns-then-hi-lo-clause-added : goal.returns-then-hi-lo-clause-added
 returns-then-hi-lo-clause-added c =
@@ -12,3 +13,6 @@ returns-then-hi-lo-clause-added c =
 
 pub returns-clause-added : goal.returns-clause-added
 returns-clause-added c = ok_map c.add.result (also_of c.args.list.now c.args.other.now (ranges_of c.args.list.now) (ranges_of c.add.new.self) c.args.prefix.now c.args.lo c.args.hi c.requires.index) c.add.ensures.added
+
+pub returns-clause-few : goal.returns-clause-few
+returns-clause-few c = (let e = count_some c.args.lo c.args.hi (omega (arith, c.if-hi-lo.false)) in ok_map c.add.result (λ f. omega (arith, e, f)) c.add.ensures.few)
