@@ -34,6 +34,9 @@ pub mod TouchedBy
 pub mod Handed
 pub mod HandedKeys
 pub mod NotedGaps
+pub mod PartsAtKey
+pub mod KeySlices
+pub mod KeyFound
 pub mod JoinedIn
 pub mod JoinedKeys
 mod MendSamples

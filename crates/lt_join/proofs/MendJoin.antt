@@ -1,5 +1,5 @@
 -- Slices of touched keys, joined anew.
-use Rattle.std.specs.Prelude.{◌≡◌, ℕ, zero, suc, ◌+◌, ◌^◌, ◌<◌, ◌≤◌, nat_lt, true, ◌==◌, if◌then◌else◌, List, [], ◌∷◌, ◌++◌, length, take, slice_get, Some}
+use Rattle.std.specs.Prelude.{◌≡◌, Bool, ℕ, zero, suc, ◌+◌, ◌^◌, ◌<◌, ◌≤◌, nat_lt, true, ◌==◌, if◌then◌else◌, List, [], ◌∷◌, ◌++◌, length, take, slice_get, Some}
 use Rattle.std.specs.List.{AllByRecursion, list_all, sum_by}
 use Rattle.std.proofs.Common.{refl, sym, ap, ◌∙◌, subst, inl, inr, arith, get_or}
 use Rattle.std.proofs.lemmas.Bool.{and_parts, and_from, eq-eqb, ltb-true, lt-ltb, true≢false}
@@ -21,15 +21,16 @@ use Rattle.lt_query.specs.Runnable.{IsRunnable}
 use Rattle.lt_sense.specs.Kept.{Sense}
 use Rattle.lt_sense.specs.Sense.{IsTight}
 use Rattle.lt_join.specs.Slices.{Slice}
-use Rattle.lt_join.specs.Certify.{Certifies}
+use Rattle.lt_join.specs.Asked.{AreAnswerable, CanJoin}
 use Rattle.lt_join.specs.Cost.{bound}
 use Rattle.lt_join.specs.Holders.{IsPrepared}
+use Rattle.lt_join.specs.Parts.{IsJoinable}
 use Rattle.lt_join.specs.MendedPlan.{pinned_plan, MayPin, IsForbidden, first_admits, slice_cost, mending_cost}
 use Rattle.lt_join.specs.Sliced.{pinned, IsSliceOf}
 use Rattle.lt_join.proofs.Lists.{take_more}
 use Rattle.lt_join.proofs.Hopeless.{pins_fit}
-use Rattle.lt_join.proofs.Pinned.{holds_pinned}
-use Rattle.lt_join.proofs.PinnedPlan.{IsRunnable-pinned, variables_pinned}
+use Rattle.lt_join.proofs.Pinned.{are_bound_pinned, holds_pinned, term_in, tests_pinned}
+use Rattle.lt_join.proofs.PinnedPlan.{IsPlanOf-pinned, IsRunnable-pinned, length_same, variables_pinned}
 use Rattle.lt_join.proofs.Prepared.{IsPrepared-from}
 use Rattle.lt_join.proofs.Repair.{All_at}
 use Rattle.lt_join.proofs.SliceLaws.{first_is}
@@ -50,7 +51,7 @@ may_of key levels level (Cell c) h are = All_at (λ pin. pin ≡ key) level.pins
 may_of key levels level (Var v) h are = tt
 
 -- where each pin of the first level is the key, its term may be pinned to it
-pub may_pin : (key : ℕ) (body : Body) (plan : Plan) (level : Level) → IsPlanOf body plan → slice_get plan.levels 0 ≡ Some level → AllByRecursion (λ pin. pin ≡ key) level.pins → MayPin (term_at plan.levels 0) key
+may_pin : (key : ℕ) (body : Body) (plan : Plan) (level : Level) → IsPlanOf body plan → slice_get plan.levels 0 ≡ Some level → AllByRecursion (λ pin. pin ≡ key) level.pins → MayPin (term_at plan.levels 0) key
 may_pin key body plan level of_body e are = subst (λ t. MayPin t key) (term_first plan.levels level e) (may_of key plan.levels level level.term (level_first body plan level of_body e).determined are)
 
 -- ---- where the key is forbidden
@@ -75,7 +76,7 @@ none_at key body plan level of_body e other a held =
       | inr pin ↦ all_any (λ pin. pin ≡ key) level.pins (pins_fit body a both.0 level.term level.pins key cell (level_first body plan level of_body e).pins) pin
     ]
 
-no_rows : (rows : List Row) → ((row : Row) → IsIn row rows → ⊥) → [] ≡ rows
+pub no_rows : (rows : List Row) → ((row : Row) → IsIn row rows → ⊥) → [] ≡ rows
 no_rows [] h = refl
 no_rows (row ∷ rows) h = absurd (h row (inl refl))
 
@@ -93,7 +94,7 @@ empty_slice terms body plan state level slice of_body e other rows sense =
 
 -- ---- the pinned body and plan
 
-pub IsPrepared-pinned : (state : State) (key : ℕ) (body : Body) (plan : Plan) (terms : List Term) (level : Level) → IsCell key → IsBodyOf state body → IsPlanOf body plan → IsRunnable body plan → length terms ≤ 8 → slice_get plan.levels 0 ≡ Some level → IsPrepared (pinned (term_at plan.levels 0) key body) (pinned_plan key plan) terms
+IsPrepared-pinned : (state : State) (key : ℕ) (body : Body) (plan : Plan) (terms : List Term) (level : Level) → IsCell key → IsBodyOf state body → IsPlanOf body plan → IsRunnable body plan → length terms ≤ 8 → slice_get plan.levels 0 ≡ Some level → IsPrepared (pinned (term_at plan.levels 0) key body) (pinned_plan key plan) terms
 IsPrepared-pinned state key body plan terms level cell fits of_body runnable narrow e =
     let before = IsPrepared-from state body plan terms fits runnable narrow in
     let first : IsTermOf 16 level.term = All_at (λ (l : Level). IsTermOf 16 l.term) plan.levels level before.variables (get_in plan.levels level e) in
@@ -107,6 +108,22 @@ IsPrepared-pinned state key body plan terms level cell fits of_body runnable nar
       get_in : (levels : List Level) (level : Level) → slice_get levels 0 ≡ Some level → IsIn level levels
       get_in [] level e = cc
       get_in (first ∷ levels) level e = inl (cc)
+
+-- they can be walked
+pub IsJoinable-pinned : (state : State) (has_index : ℕ → List ℕ → Bool) (key : ℕ) (body : Body) (plan : Plan) (terms : List Term) (level : Level) → CanJoin state has_index body plan → AreAnswerable body terms → 0 < length plan.levels → IsCell key → slice_get plan.levels 0 ≡ Some level → AllByRecursion (λ pin. pin ≡ key) level.pins
+    → IsJoinable state has_index (pinned (term_at plan.levels 0) key body) (pinned_plan key plan) terms
+IsJoinable-pinned state has_index key body plan terms level can answerable some cell e are =
+    let term : Term = term_at plan.levels 0 in
+    let there = term_in body plan can.of_body 0 some in
+    record {
+      of_body = IsPlanOf-pinned key body plan (may_pin key body plan level can.of_body e are) can.of_body;
+      prepared = IsPrepared-pinned state key body plan terms level cell can.fits can.of_body can.runnable answerable.narrow e;
+      has_indexes = can.has_indexes;
+      has_firsts = can.has_firsts;
+      tests = tests_pinned term key body there (can.fits.is_bound, can.fits.are_absents_bound);
+      heads = are_bound_pinned term key body there terms ∙ answerable.are_bound;
+      has_levels = subst (λ n. 0 < n) (sym (length_same key plan.levels)) some;
+    }
 
 -- a key that may stand is a cell
 pub cell_of_key : (key : ℕ) → is_cell key ≡ true → IsCell key
@@ -186,14 +203,3 @@ pub pin_differs : (key : ℕ) (pins : List ℕ) (i pin : ℕ) → i < length pin
 pin_differs key [] i pin lt is not_so = absurd (omega arith)
 pin_differs key (p ∷ pins) zero pin lt is not_so = inl (λ e. not_so (is ∙ e))
 pin_differs key (p ∷ pins) (suc i) pin lt is not_so = inr (pin_differs key pins i pin (omega arith) is not_so)
-
--- ---- a slice that was joined
-
-pub joined_slice : (terms : List Term) (body at_key : Body) (term other : Term) (state : State) (key : ℕ) (rows : List Row) (sense : Sense) → at_key ≡ pinned other key body → other ≡ term → rows ≡ answers terms at_key state → Certifies sense at_key state → IsTight sense state → IsSliceOf terms body term state (record { key = key; rows = rows; sense = sense })
-joined_slice terms body at_key term other state key rows sense is same are certified tight =
-    let e : at_key ≡ pinned term key body = is ∙ ap (λ t. pinned t key body) same in
-    record {
-      rows = are ∙ ap (λ b. answers terms b state) e;
-      certified = subst (λ b. Certifies sense b state) e certified;
-      tight = tight;
-    }

@@ -89,7 +89,7 @@ lies_wider (p ∷ ps) lo hi low high (x ∷ xs) from to h =
     and_from (p == x) (lies_in ps low high xs) both.0 (lies_wider ps lo hi low high xs from to both.1)
 
 -- what lies in a part of a gap lies in the gap
-lies_in_whole : (gap part : KeptGap) (row : Row) → IsPartOf gap part → lies_in part.prefix part.lo part.hi (permuted part.columns row) ≡ true → lies_in gap.prefix gap.lo gap.hi (permuted gap.columns row) ≡ true
+pub lies_in_whole : (gap part : KeptGap) (row : Row) → IsPartOf gap part → lies_in part.prefix part.lo part.hi (permuted part.columns row) ≡ true → lies_in gap.prefix gap.lo gap.hi (permuted gap.columns row) ≡ true
 lies_in_whole gap part row is_part h =
     subst (λ columns. lies_in gap.prefix gap.lo gap.hi (permuted columns row) ≡ true) (sym is_part.columns)
     (subst (λ prefix. lies_in prefix gap.lo gap.hi (permuted part.columns row) ≡ true) (sym is_part.prefix)

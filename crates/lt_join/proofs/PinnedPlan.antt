@@ -23,12 +23,12 @@ use Rattle.lt_join.specs.MendedPlan.{pinned_levels, pinned_plan, MayPin}
 
 -- ---- the terms stay
 
-term_same : (key : ℕ) (levels : List Level) (l : ℕ) → term_at (pinned_levels key levels) l ≡ term_at levels l
+pub term_same : (key : ℕ) (levels : List Level) (l : ℕ) → term_at (pinned_levels key levels) l ≡ term_at levels l
 term_same key [] l = refl
 term_same key (level ∷ levels) zero = refl
 term_same key (level ∷ levels) (suc l) = refl
 
-length_same : (key : ℕ) (levels : List Level) → length (pinned_levels key levels) ≡ length levels
+pub length_same : (key : ℕ) (levels : List Level) → length (pinned_levels key levels) ≡ length levels
 length_same key [] = refl
 length_same key (level ∷ levels) = refl
 

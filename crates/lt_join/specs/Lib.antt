@@ -7,6 +7,7 @@ pub mod Mended
 pub mod MendedKeys
 pub mod MendedPlan
 pub mod MendedRows
+pub mod OfKey
 pub mod Noted
 pub mod Parts
 pub mod Sliced

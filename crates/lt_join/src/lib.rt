@@ -15,8 +15,8 @@
 //! other. `Parts` has what a part is. `slicing` answers a body key by key of its first variable (`noting` takes the gaps of the first
 //! level), `sliced` keeps that: one sense for all keys, and the rows of each key (`key_rows`). `mending` says what slices stay on
 //! another state (read `specs/Sliced`, then `specs/Mended`). `mending_touched` finds the touched keys, `mending_join` joins their slices
-//! by a body and a plan that `mending_copy` pins to the key, and puts them in their places. `values` and `conditions` are public: the
-//! nested loops of `lt_reference` use them.
+//! by a body and a plan that `mending_copy` pins to the key, and puts them in their places; `key_slice` is one such join, and of the first
+//! level its sense has the key alone (`specs/OfKey`). `values` and `conditions` are public: the nested loops of `lt_reference` use them.
 //! Of its specs read `Certify` (when a sense stands for the answers), `Cost` (the bound), `Explored` (what a walk has established),
 //! `Level` (a level that is open), `Way` (what a walk leaves), `Sliced` (a body with a term pinned, its slices).
 #![tactic(auto)]
@@ -28,6 +28,7 @@ pub mod conditions;
 mod covering;
 mod hints;
 mod key_rows;
+mod key_slice;
 mod leaf;
 mod level;
 mod looking_up;

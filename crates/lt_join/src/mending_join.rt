@@ -10,13 +10,14 @@ ghost use Rattle.lt_query.specs.Plan.{term_at};
 ghost use Rattle.lt_sense.specs.Cut.{cut};
 ghost use Rattle.lt_join.specs.Asked.{CanJoin, AreAnswerable};
 ghost use Rattle.lt_join.specs.Mended.{AreSlicesOn, HaveTouched, AreMended};
-ghost use Rattle.lt_join.specs.MendedPlan.{IsForbidden, slice_cost, mending_cost};
+ghost use Rattle.lt_join.specs.MendedPlan.{IsForbidden, pinned_plan, slice_cost, mending_cost};
 ghost use Rattle.lt_join.specs.MendedRows.{AreJoinedIn};
+ghost use Rattle.lt_join.specs.OfKey.{AreOfOwnKeys, IsOfKey, IsOwnSliceOf};
 ghost use Rattle.lt_join.specs.Sliced.{IsSliceOf};
 ghost use Rattle.lt_join.specs.Slices.{row_keys, sense_keys};
 
-use crate::answer::answers_prepared;
 use crate::key_rows::{KeyRows, put_rows, share_from};
+use crate::key_slice::slice_of_key;
 use crate::mending_copy::{pin_body, pin_plan};
 use crate::sliced::{Gathered, Slices};
 use lt_face::indexes::Indexes;
@@ -52,8 +53,9 @@ fn may_be(level: &Level, key: Key) -> bool
     true
 }
 
-/// The rows of a key's slice and what they were sensitive to, joined with the first level pinned to the key. Where the key is no cell,
-/// or a pin of that level forbids it, nothing is joined.
+/// The rows of a key's slice and what they were sensitive to, joined with the first level pinned to the key. Of that level the sense has
+/// the key alone: rows with another key there don't touch the slice. Where the key is no cell, or a pin of that level forbids it, nothing
+/// is joined.
 fn join_slice<I: Indexes, L>(
     alloc: Global,
     body: &Body,
@@ -67,6 +69,7 @@ fn join_slice<I: Indexes, L>(
     requires answerable { AreAnswerable body.now terms.now }
     requires has_levels { 0 < length plan.now.levels }
     ensures slice { IfOk result (λ found. IsSliceOf terms.now body.now (term_at plan.now.levels 0) (I.state indexes.now) (record { key = key; rows = found.0; sense = found.1 })) }
+    ensures of_key { IfOk result (λ found. IsOfKey key body.now (pinned_plan key plan.now) (I.state indexes.now) found.1) }
     // also where memory is refused
     ensures cost { moves.new ≤ moves.old + slice_cost key body.now plan.now (I.state indexes.now) }
     ensures moves { moves.old ≤ moves.new }
@@ -79,8 +82,7 @@ fn join_slice<I: Indexes, L>(
     }
     let at_key = pin_body(alloc, body, level.term, key)?;
     let way = pin_plan(alloc, plan, key)?;
-    let (rows, sense) = answers_prepared(alloc, &at_key, &way, terms, indexes, moves)?;
-    Ok((rows, sense))
+    slice_of_key(alloc, &at_key, &way, terms, indexes, key, moves)
 }
 
 /// Puts the slices of the keys, joined anew, among others, which have no slice of these keys; of the rows those of these keys are left
@@ -104,7 +106,7 @@ fn put_joined<I: Indexes, L>(
     requires keys { IsRising keys.now }
     requires others { AllByRecursion (λ k. IsIn k keys.now → ⊥) (sense_keys sense.slices) }
     ensures root { IfOk result (λ found. found.sense.root ≡ sense.root) }
-    ensures joined { IfOk result (λ found. AreJoinedIn (IsSliceOf terms.now body.now (term_at plan.now.levels 0) (I.state indexes.now)) keys.now sense.slices old.now found.sense.slices found.rows.items) }
+    ensures joined { IfOk result (λ found. AreJoinedIn (IsOwnSliceOf terms.now body.now plan.now (I.state indexes.now)) keys.now sense.slices old.now found.sense.slices found.rows.items) }
     // also where memory is refused
     ensures cost { moves.new ≤ moves.old + mending_cost keys.now body.now plan.now (I.state indexes.now) }
     ensures moves { moves.old ≤ moves.new }
@@ -128,6 +130,7 @@ impl Slices {
     ghost use Rattle.lt_join.specs.Asked.{CanJoin, AreAnswerable};
     ghost use Rattle.lt_join.specs.Mended.{AreSlicesOn, HaveTouched, AreMended};
     ghost use Rattle.lt_join.specs.MendedPlan.{mending_cost};
+    ghost use Rattle.lt_join.specs.OfKey.{AreOfOwnKeys};
     ghost use Rattle.lt_join.specs.Sliced.{slice_keys};
 
     /// As `mend`.
@@ -147,6 +150,7 @@ impl Slices {
         requires keys { IsRising keys.now }
         ensures root { IfOk result (λ mended. mended.root ≡ cut keys.now self.now.root) }
         ensures slices { IfOk result (λ mended. AreMended keys.now self.now.slices mended.slices) }
+        ensures own { IfOk result (λ mended. AreOfOwnKeys keys.now body.now plan.now (I.state indexes.now) mended.slices) }
         ensures right { IfOk result (λ mended. (s : State) → AreSlicesOn terms.now body.now plan.now s self.now.root self.now.slices → HaveTouched keys.now self.now.root self.now.slices s (I.state indexes.now) → AreSlicesOn terms.now body.now plan.now (I.state indexes.now) mended.root mended.slices) }
         // also where memory is refused
         ensures cost { moves.new ≤ moves.old + mending_cost keys.now body.now plan.now (I.state indexes.now) }
@@ -161,8 +165,8 @@ impl Slices {
 }
 
 /// Slices of a body, mended where rows changed: the keys, which ascend, are all that are touched, or more. Their slices are joined anew
-/// on the indexes' state, each with the first level pinned to its key; all others stay as they were, and the root gaps are cut at the
-/// keys.
+/// on the indexes' state, each with the first level pinned to its key, and of that level the slice is sensitive to its key alone; all
+/// others stay as they were, and the root gaps are cut at the keys.
 pub fn mend<I: Indexes, L>(
     alloc: Global,
     body: &Body,
@@ -179,6 +183,7 @@ pub fn mend<I: Indexes, L>(
     requires keys { IsRising keys.now }
     ensures root { IfOk result (λ mended. mended.root ≡ cut keys.now old.now.root) }
     ensures slices { IfOk result (λ mended. AreMended keys.now old.now.slices mended.slices) }
+    ensures own { IfOk result (λ mended. AreOfOwnKeys keys.now body.now plan.now (I.state indexes.now) mended.slices) }
     ensures right { IfOk result (λ mended. (s : State) → AreSlicesOn terms.now body.now plan.now s old.now.root old.now.slices → HaveTouched keys.now old.now.root old.now.slices s (I.state indexes.now) → AreSlicesOn terms.now body.now plan.now (I.state indexes.now) mended.root mended.slices) }
     // also where memory is refused
     ensures cost { moves.new ≤ moves.old + mending_cost keys.now body.now plan.now (I.state indexes.now) }

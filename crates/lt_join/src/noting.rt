@@ -1,15 +1,16 @@
 //! The gaps of one step of the first level, on their way to what is gathered key by key.
-ghost use Rattle.std.specs.Prelude.{◌≡◌, ◌≤◌, ◌<◌, ◌++◌, ◌∷◌, [], length, map, true, IfOk, OnOk, OnErr};
+ghost use Rattle.std.specs.Prelude.{◌≡◌, ◌≤◌, ◌<◌, ◌^◌, ◌++◌, ◌∷◌, [], length, map, true, IfOk, OnOk, OnErr};
 ghost use Rattle.std.specs.List.{AllByRecursion};
 ghost use Rattle.lt_face.specs.Limits.{most_columns};
 ghost use Rattle.lt_join.specs.Noted.{AreNoted, IsIndexAt, MoreIndexes, noted_gaps};
+ghost use Rattle.lt_join.specs.OfKey.{part_at, parts_at};
 ghost use Rattle.lt_join.specs.Sliced.{AreRootGaps};
 
 use lt_face::items::{Items, Perm};
 use lt_face::key::Key;
 use lt_face::memory::NoMemory;
 use lt_face::row::Row;
-use lt_sense::{GatheringByKey, Hit, KeysAt, Sensed, Senses};
+use lt_sense::{Gathering, GatheringByKey, Hit, KeysAt, Sensed, Senses};
 use std::alloc::Global;
 use std::marker::Model;
 
@@ -134,6 +135,49 @@ fn give(
     Ok(())
 }
 
+/// Adds what a gap of the first level has at the key.
+fn add_part(
+    index: &NotedIndex,
+    gap: &NotedGap,
+    key: Key,
+    sense: &mut Gathering,
+) -> Result<(), NoMemory>
+    requires narrow { length index.now.columns ≤ most_columns }
+    requires first { gap.now.prefix ≡ [] }
+    requires bound { key < 2 ^ 120 }
+    ensures gaps { OnOk result (sense.new.gaps ≡ sense.old.gaps ++ part_at key (record { relation = index.now.relation; columns = index.now.columns; prefix = gap.now.prefix; lo = gap.now.lo; hi = gap.now.hi })) }
+    ensures hits { sense.new.hits ≡ sense.old.hits }
+{
+    if key < gap.lo {
+        return Ok(());
+    }
+    if gap.hi <= key {
+        return Ok(());
+    }
+    sense.add_gap(index.relation, &index.columns, &[], key, key + 1)
+}
+
+/// Adds what gaps of the first level have at the key.
+fn add_parts(
+    indexes: &Vec<NotedIndex>,
+    gaps: &Vec<NotedGap>,
+    key: Key,
+    sense: &mut Gathering,
+) -> Result<(), NoMemory>
+    requires noted { AreNoted indexes.now.items gaps.now.items }
+    requires first { AllByRecursion (λ gap. gap.prefix ≡ []) gaps.now.items }
+    requires bound { key < 2 ^ 120 }
+    ensures gaps { OnOk result (sense.new.gaps ≡ sense.old.gaps ++ parts_at key (noted_gaps indexes.now.items gaps.now.items)) }
+    ensures hits { OnOk result (sense.new.hits ≡ sense.old.hits) }
+{
+    for at in 0..gaps.len() {
+        let gap = &gaps[at];
+        let index = &indexes[gap.index];
+        add_part(index, gap, key, sense)?;
+    }
+    Ok(())
+}
+
 /// The row that has, in each column, the key of the level that its place says.
 fn row_at<K: KeysAt>(alloc: Global, places: &[usize], keys: &K) -> Row
     requires narrow { length places.now ≤ most_columns }
@@ -203,6 +247,22 @@ impl Noted {
             gaps,
             hits,
         })
+    }
+
+    /// What the gaps have at the key.
+    fn at_key(self, key: Key) -> Result<Gathering, NoMemory>
+        requires root { AreRootGaps self }
+        requires bound { key < 2 ^ 120 }
+        ensures { IfOk result (λ sense. sense ≡ record { gaps = parts_at key self.gaps; hits = [] }) }
+    {
+        let Noted {
+            indexes,
+            gaps,
+            hits: _,
+        } = self;
+        let mut sense = Gathering::new(*gaps.allocator());
+        add_parts(&indexes, &gaps, key, &mut sense)?;
+        Ok(sense)
     }
 }
 
@@ -293,4 +353,14 @@ pub(crate) fn hand_over(
     let noted = noted.into_senses();
     let left = noted.handed_over(sense)?;
     Ok(Sensed::of(left))
+}
+
+/// What gaps of the first level have at the key.
+pub(crate) fn noted_at_key(noted: Sensed<Noted>, key: Key) -> Result<Gathering, NoMemory>
+    requires root { AreRootGaps noted }
+    requires bound { key < 2 ^ 120 }
+    ensures { IfOk result (λ sense. sense ≡ record { gaps = parts_at key noted.gaps; hits = [] }) }
+{
+    let noted = noted.into_senses();
+    noted.at_key(key)
 }

@@ -57,7 +57,7 @@ pub fn slices_make_the_whole()
 {}
 
 /// The slice of the key at which the first level stands: its rows, and what they were sensitive to.
-fn slice_at<'a, I: Indexes, L>(
+pub(crate) fn slice_at<'a, I: Indexes, L>(
     way: &Way<'a, I>,
     iters: &mut [AtomIter<'a, I::Rows>],
     keys: &mut Path,

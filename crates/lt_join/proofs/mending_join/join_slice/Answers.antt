@@ -1,20 +1,14 @@
-use Rattle.std.proofs.Common.{◌≡◌, ◌+◌, ◌≤◌, true, length, slice_get, Some, sym, ap, ◌∙◌, subst}
-use Rattle.std.specs.List.{AllByRecursion}
-use Rattle.lt_model.specs.declared.normal.Atom.{Atom}
-use Rattle.lt_query.specs.Lists.{below}
-use Rattle.lt_join.specs.MendedPlan.{pinned_plan}
-use Rattle.std.specs.Prelude.{IsTrue}
+use Rattle.std.proofs.Common.{◌≡◌, ◌+◌, ◌≤◌, slice_get, Some, sym, ap, ◌∙◌, subst}
+use Rattle.std.proofs.lemmas.Result.{IfOk-weaker}
 use Rattle.lt_model.specs.declared.normal.Body.{Body}
-use Rattle.lt_model.specs.Bound.{are_bound}
-use Rattle.lt_query.specs.Answering.{AreTestsBound}
-use Rattle.lt_query.specs.Plan.{term_at, IsPlanOf}
+use Rattle.lt_query.specs.Plan.{term_at}
 use Rattle.lt_query.specs.declared.plans.Plan.{Plan}
 use Rattle.lt_join.specs.Cost.{bound}
-use Rattle.lt_join.specs.Holders.{IsPrepared}
+use Rattle.lt_join.specs.MendedPlan.{pinned_plan}
+use Rattle.lt_join.specs.Parts.{IsJoinable}
 use Rattle.lt_join.specs.Sliced.{pinned}
-use Rattle.lt_join.proofs.MendJoin.{cost_admitted, term_first, may_pin, empty_slice, IsPrepared-pinned}
-use Rattle.lt_join.proofs.Pinned.{tests_pinned, are_bound_pinned, term_in}
-use Rattle.lt_join.proofs.PinnedPlan.{IsPlanOf-pinned}
+use Rattle.lt_join.proofs.KeySlices.{empty_of_key, of_key_pinned, slice_pinned}
+use Rattle.lt_join.proofs.MendJoin.{IsJoinable-pinned, cost_admitted, empty_slice, term_first}
 use Rattle.lt_join.proofs.Steps.{slice_get_is}
 use Rattle.lt_join.proofs.mending_join.join_slice.Goals as goal
 
@@ -25,44 +19,42 @@ returns-then-not-may_be-clause-slice g c =
     let here : slice_get plan.levels 0 ≡ Some level = slice_get_is plan.levels 0 level c.requires.has_levels (rw c.as_slice.ensures at c.index-as_slice-0.is) in
     empty_slice c.args.terms.now c.args.body.now plan (g.I.Indexes.state c.args.indexes.now) level _ c.requires.can_join.of_body here (c.may_be.ensures.not_so c.if-not-may_be.true) c.new-rows.ensures c.new-sense.ensures
 
-pub answers_prepared-requires-clause-of_body : goal.answers_prepared-requires-clause-of_body
-answers_prepared-requires-clause-of_body g c =
-    let plan = c.args.plan.now in
-    let level = c.index-as_slice-0.result in
-    let here : slice_get plan.levels 0 ≡ Some level = slice_get_is plan.levels 0 level c.requires.has_levels (rw c.as_slice.ensures at c.index-as_slice-0.is) in
-    let may = may_pin c.args.key c.args.body.now plan level c.requires.can_join.of_body here (c.may_be.ensures.pins c.if-not-may_be.false) in
-    let is : c.in_ok-at_key.at_key ≡ pinned (term_at plan.levels 0) c.args.key c.args.body.now = c.in_ok-at_key.ensures ∙ ap (λ t. pinned t c.args.key c.args.body.now) (term_first plan.levels level here) in
-    subst (λ (b : Body). IsPlanOf b c.in_ok-way.way) (sym is) (subst (λ (p : Plan). IsPlanOf (pinned (term_at plan.levels 0) c.args.key c.args.body.now) p) (sym c.in_ok-way.ensures) (IsPlanOf-pinned c.args.key c.args.body.now plan may c.requires.can_join.of_body))
+pub returns-then-not-may_be-clause-of_key : goal.returns-then-not-may_be-clause-of_key
+returns-then-not-may_be-clause-of_key g c = empty_of_key c.args.key c.args.body.now (pinned_plan c.args.key c.args.plan.now) (g.I.Indexes.state c.args.indexes.now) c.new-sense.result c.new-sense.ensures
 
-pub answers_prepared-requires-clause-prepared : goal.answers_prepared-requires-clause-prepared
-answers_prepared-requires-clause-prepared g c =
+pub slice_of_key-requires-clause-ready : goal.slice_of_key-requires-clause-ready
+slice_of_key-requires-clause-ready g c =
     let plan = c.args.plan.now in
-    let level = c.index-as_slice-0.result in
-    let here : slice_get plan.levels 0 ≡ Some level = slice_get_is plan.levels 0 level c.requires.has_levels (rw c.as_slice.ensures at c.index-as_slice-0.is) in
-    let cell = c.may_be.ensures.cell c.if-not-may_be.false in
-    let is : c.in_ok-at_key.at_key ≡ pinned (term_at plan.levels 0) c.args.key c.args.body.now = c.in_ok-at_key.ensures ∙ ap (λ t. pinned t c.args.key c.args.body.now) (term_first plan.levels level here) in
-    subst (λ (b : Body). IsPrepared b c.in_ok-way.way c.args.terms.now) (sym is) (subst (λ (p : Plan). IsPrepared (pinned (term_at plan.levels 0) c.args.key c.args.body.now) p c.args.terms.now) (sym c.in_ok-way.ensures)
-    (IsPrepared-pinned (g.I.Indexes.state c.args.indexes.now) c.args.key c.args.body.now plan c.args.terms.now level cell c.requires.can_join.fits c.requires.can_join.of_body c.requires.can_join.runnable c.requires.answerable.narrow here))
-
-pub answers_prepared-requires-clause-tests : goal.answers_prepared-requires-clause-tests
-answers_prepared-requires-clause-tests g c =
-    let plan = c.args.plan.now in
+    let state = g.I.Indexes.state c.args.indexes.now in
+    let has_index = g.I.Indexes.has_index c.args.indexes.now in
     let level = c.index-as_slice-0.result in
     let here : slice_get plan.levels 0 ≡ Some level = slice_get_is plan.levels 0 level c.requires.has_levels (rw c.as_slice.ensures at c.index-as_slice-0.is) in
     let is : c.in_ok-at_key.at_key ≡ pinned (term_at plan.levels 0) c.args.key c.args.body.now = c.in_ok-at_key.ensures ∙ ap (λ t. pinned t c.args.key c.args.body.now) (term_first plan.levels level here) in
-    subst AreTestsBound (sym is) (tests_pinned (term_at plan.levels 0) c.args.key c.args.body.now (term_in c.args.body.now plan c.requires.can_join.of_body 0 c.requires.has_levels) (c.requires.can_join.fits.is_bound, c.requires.can_join.fits.are_absents_bound))
+    subst (λ (b : Body). IsJoinable state has_index b c.in_ok-way.way c.args.terms.now) (sym is)
+    (subst (λ (p : Plan). IsJoinable state has_index (pinned (term_at plan.levels 0) c.args.key c.args.body.now) p c.args.terms.now) (sym c.in_ok-way.ensures)
+    (IsJoinable-pinned state has_index c.args.key c.args.body.now plan c.args.terms.now level c.requires.can_join c.requires.answerable c.requires.has_levels (c.may_be.ensures.cell c.if-not-may_be.false) here (c.may_be.ensures.pins c.if-not-may_be.false)))
 
-pub answers_prepared-requires-clause-are_bound : goal.answers_prepared-requires-clause-are_bound
-answers_prepared-requires-clause-are_bound g c =
+pub slice_of_key-requires-clause-bound : goal.slice_of_key-requires-clause-bound
+slice_of_key-requires-clause-bound g c = (c.may_be.ensures.cell c.if-not-may_be.false).1
+
+pub returns-clause-slice : goal.returns-clause-slice
+returns-clause-slice g c =
+    let plan = c.args.plan.now in
+    let can = c.requires.can_join in
+    let level = c.index-as_slice-0.result in
+    let here : slice_get plan.levels 0 ≡ Some level = slice_get_is plan.levels 0 level c.requires.has_levels (rw c.as_slice.ensures at c.index-as_slice-0.is) in
+    let is : c.in_ok-at_key.at_key ≡ pinned (term_at plan.levels 0) c.args.key c.args.body.now = c.in_ok-at_key.ensures ∙ ap (λ t. pinned t c.args.key c.args.body.now) (term_first plan.levels level here) in
+    IfOk-weaker c.slice_of_key.result _ _ (λ found so.
+    slice_pinned c.args.terms.now c.args.body.now plan (g.I.Indexes.state c.args.indexes.now) c.args.key c.in_ok-at_key.at_key c.in_ok-way.way is c.in_ok-way.ensures can.of_body c.requires.has_levels (can.fits.is_bound, can.fits.are_absents_bound) c.requires.answerable.are_bound found.0 found.1 so) c.slice_of_key.ensures.slice
+
+pub returns-clause-of_key : goal.returns-clause-of_key
+returns-clause-of_key g c =
     let plan = c.args.plan.now in
     let level = c.index-as_slice-0.result in
     let here : slice_get plan.levels 0 ≡ Some level = slice_get_is plan.levels 0 level c.requires.has_levels (rw c.as_slice.ensures at c.index-as_slice-0.is) in
     let is : c.in_ok-at_key.at_key ≡ pinned (term_at plan.levels 0) c.args.key c.args.body.now = c.in_ok-at_key.ensures ∙ ap (λ t. pinned t c.args.key c.args.body.now) (term_first plan.levels level here) in
-    subst (λ (b : Body). IsTrue (are_bound b c.args.terms.now)) (sym is) (subst IsTrue (sym (are_bound_pinned (term_at plan.levels 0) c.args.key c.args.body.now (term_in c.args.body.now plan c.requires.can_join.of_body 0 c.requires.has_levels) c.args.terms.now)) c.requires.answerable.are_bound)
-
-pub answers_prepared-requires-clause-has_firsts : goal.answers_prepared-requires-clause-has_firsts
-answers_prepared-requires-clause-has_firsts g c =
-    subst (λ (b : Body). AllByRecursion (λ (atom : Atom). g.I.Indexes.has_index c.args.indexes.now atom.relation (below (length atom.terms)) ≡ true) b.absents) (sym c.in_ok-at_key.ensures) c.requires.can_join.has_firsts
+    IfOk-weaker c.slice_of_key.result _ _ (λ found so.
+    of_key_pinned c.args.terms.now c.args.body.now plan (g.I.Indexes.state c.args.indexes.now) c.args.key c.in_ok-at_key.at_key c.in_ok-way.way is c.in_ok-way.ensures found.1 so) c.slice_of_key.ensures.of_key
 
 pub returns-clause-cost : goal.returns-clause-cost
 returns-clause-cost g c =
@@ -70,18 +62,7 @@ returns-clause-cost g c =
     let state = g.I.Indexes.state c.args.indexes.now in
     let level = c.index-as_slice-0.result in
     let here : slice_get plan.levels 0 ≡ Some level = slice_get_is plan.levels 0 level c.requires.has_levels (rw c.as_slice.ensures at c.index-as_slice-0.is) in
-    let within : c.answers_prepared.new.moves ≤ c.args.moves.now + bound c.args.body.now (pinned_plan c.args.key plan) state =
-    subst (λ (b : Body). c.answers_prepared.new.moves ≤ c.args.moves.now + bound b (pinned_plan c.args.key plan) state) c.in_ok-at_key.ensures
-    (subst (λ (p : Plan). c.answers_prepared.new.moves ≤ c.args.moves.now + bound c.in_ok-at_key.at_key p state) c.in_ok-way.ensures c.answers_prepared.ensures.cost) in
-    subst (λ n. c.answers_prepared.new.moves ≤ c.args.moves.now + n) (cost_admitted c.args.key c.args.body.now plan state level here (c.may_be.ensures.cell c.if-not-may_be.false) (c.may_be.ensures.pins c.if-not-may_be.false)) within
-
-pub returns-in_err-rows-clause-cost : goal.returns-in_err-rows-clause-cost
-returns-in_err-rows-clause-cost g c =
-    let plan = c.args.plan.now in
-    let state = g.I.Indexes.state c.args.indexes.now in
-    let level = c.index-as_slice-0.result in
-    let here : slice_get plan.levels 0 ≡ Some level = slice_get_is plan.levels 0 level c.requires.has_levels (rw c.as_slice.ensures at c.index-as_slice-0.is) in
-    let within : c.answers_prepared.new.moves ≤ c.args.moves.now + bound c.args.body.now (pinned_plan c.args.key plan) state =
-    subst (λ (b : Body). c.answers_prepared.new.moves ≤ c.args.moves.now + bound b (pinned_plan c.args.key plan) state) c.in_ok-at_key.ensures
-    (subst (λ (p : Plan). c.answers_prepared.new.moves ≤ c.args.moves.now + bound c.in_ok-at_key.at_key p state) c.in_ok-way.ensures c.answers_prepared.ensures.cost) in
-    subst (λ n. c.answers_prepared.new.moves ≤ c.args.moves.now + n) (cost_admitted c.args.key c.args.body.now plan state level here (c.may_be.ensures.cell c.if-not-may_be.false) (c.may_be.ensures.pins c.if-not-may_be.false)) within
+    let within : c.slice_of_key.new.moves ≤ c.args.moves.now + bound c.args.body.now (pinned_plan c.args.key plan) state =
+    subst (λ (b : Body). c.slice_of_key.new.moves ≤ c.args.moves.now + bound b (pinned_plan c.args.key plan) state) c.in_ok-at_key.ensures
+    (subst (λ (p : Plan). c.slice_of_key.new.moves ≤ c.args.moves.now + bound c.in_ok-at_key.at_key p state) c.in_ok-way.ensures c.slice_of_key.ensures.cost) in
+    subst (λ n. c.slice_of_key.new.moves ≤ c.args.moves.now + n) (cost_admitted c.args.key c.args.body.now plan state level here (c.may_be.ensures.cell c.if-not-may_be.false) (c.may_be.ensures.pins c.if-not-may_be.false)) within

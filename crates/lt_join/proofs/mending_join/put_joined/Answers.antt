@@ -1,7 +1,6 @@
 use Rattle.std.proofs.Common.{ℕ, ◌+◌, ◌++◌, [], List, take, drop, get_or, refl, sym, ap, ◌∙◌, subst, arith}
-use Rattle.lt_query.specs.Plan.{term_at}
 use Rattle.lt_join.specs.MendedRows.{AreJoinedIn}
-use Rattle.lt_join.specs.Sliced.{IsSliceOf}
+use Rattle.lt_join.specs.OfKey.{IsOwnSliceOf}
 use Rattle.lt_join.specs.Slices.{AreBelow, KeyRows, sense_keys}
 use Rattle.lt_face.specs.Lists.{IsIn}
 use Rattle.lt_join.proofs.JoinedKeys.{joined_begun, joined_more, low_begun, low_more, next_of, not_before}
@@ -13,7 +12,7 @@ use Rattle.lt_join.proofs.mending_join.put_joined.Goals as goal
 pub loop-key-init : goal.loop-key-init
 loop-key-init g c =
     let state = g.I.Indexes.state c.args.indexes.now in
-    let IsNew = IsSliceOf c.args.terms.now c.args.body.now (term_at c.args.plan.now.levels 0) state in
+    let IsNew = IsOwnSliceOf c.args.terms.now c.args.body.now c.args.plan.now state in
     record {
       root = refl;
       joined = joined_begun IsNew c.args.sense.slices c.args.old.now [] c.args.sense.slices (c.new-rows.result.items ++ c.args.old.now) refl refl (ap (λ (xs : List KeyRows). xs ++ c.args.old.now) c.new-rows.ensures.items) c.requires.senses c.requires.rows;
@@ -30,7 +29,7 @@ put_rows-requires-clause-below g c =
 pub loop-key-preserved : goal.loop-key-preserved
 loop-key-preserved g c =
     let state = g.I.Indexes.state c.args.indexes.now in
-    let IsNew = IsSliceOf c.args.terms.now c.args.body.now (term_at c.args.plan.now.levels 0) state in
+    let IsNew = IsOwnSliceOf c.args.terms.now c.args.body.now c.args.plan.now state in
     let keys = c.args.keys.now in
     let i = c.loop-key.key-index in
     let key = (get_or c.args.keys.now c.loop-key.key-index 0) in
@@ -41,7 +40,7 @@ loop-key-preserved g c =
     record {
       root = c.in_ok-add_slice.ensures.root ∙ inv.root;
       joined = joined_more IsNew c.args.sense.slices c.args.old.now (take i keys) (take (i + 1) keys) key c.in_ok-found.found c.in_ok-found.part c.loop-key.sense.slices c.add_slice.new.self.slices (c.loop-key.rows.items ++ drop c.loop-key.place c.args.old.now) (c.put_rows.new.out.items ++ drop c.in_ok-place.place c.args.old.now)
-          (take_more keys i key lt is) c.in_ok-add_slice.ensures.slices c.in_ok-place.ensures.put (not_before keys i key c.requires.keys lt is) out c.in_ok-found.ensures.slice inv.joined;
+          (take_more keys i key lt is) c.in_ok-add_slice.ensures.slices c.in_ok-place.ensures.put (not_before keys i key c.requires.keys lt is) out (c.in_ok-found.ensures.slice, c.in_ok-found.ensures.of_key) inv.joined;
       within = c.in_ok-place.ensures.within;
       low = low_more keys i key c.in_ok-found.found c.loop-key.rows.items c.put_rows.new.out.items (drop c.loop-key.place c.args.old.now) c.requires.keys lt is c.in_ok-place.ensures.out inv.low;
       cost = cost_more keys i key c.args.body.now c.args.plan.now state c.args.moves.now c.loop-key.moves c.join_slice.new.moves lt is c.join_slice.ensures.cost inv.cost;
@@ -53,7 +52,7 @@ returns-clause-root g c = c.loop-key.invariant.root
 
 pub returns-clause-joined : goal.returns-clause-joined
 returns-clause-joined g c =
-    let IsNew = IsSliceOf c.args.terms.now c.args.body.now (term_at c.args.plan.now.levels 0) (g.I.Indexes.state c.args.indexes.now) in
+    let IsNew = IsOwnSliceOf c.args.terms.now c.args.body.now c.args.plan.now (g.I.Indexes.state c.args.indexes.now) in
     subst (λ (rows : List KeyRows). AreJoinedIn IsNew c.args.keys.now c.args.sense.slices c.args.old.now c.loop-key.sense.slices rows) (sym c.in_ok-share_from.ensures)
     (subst (λ (ks : List ℕ). AreJoinedIn IsNew ks c.args.sense.slices c.args.old.now c.loop-key.sense.slices (c.loop-key.rows.items ++ drop c.loop-key.place c.args.old.now)) (take_all c.args.keys.now c.loop-key.key-index (omega (arith, c.loop-key-test.false))) c.loop-key.invariant.joined)
 

@@ -4,13 +4,13 @@ use Rattle.std.proofs.lemmas.Result.{IfOk-weaker}
 use Rattle.lt_face.specs.Lists.{IsIn}
 use Rattle.lt_face.specs.State.{State}
 use Rattle.lt_query.specs.Lists.{IsRising}
-use Rattle.lt_query.specs.Plan.{term_at}
 use Rattle.lt_sense.specs.Kept.{Sense}
 use Rattle.lt_sense.specs.ByKey.{KeySense}
 use Rattle.lt_sense.specs.Cut.{cut}
 use Rattle.lt_join.specs.Mended.{AreMended, AreSlicesOn, HaveTouched}
 use Rattle.lt_join.specs.MendedRows.{AreJoinedIn}
-use Rattle.lt_join.specs.Sliced.{AreRootGaps, IsSliceOf}
+use Rattle.lt_join.specs.OfKey.{AreOfOwnKeys, IsOwnSliceOf}
+use Rattle.lt_join.specs.Sliced.{AreRootGaps}
 use Rattle.lt_join.specs.Slices.{KeyRows, SlicesView, row_keys, sense_keys, slices_of}
 use Rattle.lt_join.proofs.JoinedIn.{others_out, others_rise}
 use Rattle.lt_join.proofs.JoinedKeys.{in_order, joined_keyed, joined_mends, joined_new, joined_rise}
@@ -36,7 +36,7 @@ of-requires-clause-keyed g c =
     let s = c.self.inside in
     let found = c.in_ok-found.found in
     let keys = c.args.keys.now in
-    let IsNew = IsSliceOf c.args.terms.now c.args.body.now (term_at c.args.plan.now.levels 0) (g.I.Indexes.state c.args.indexes.now) in
+    let IsNew = IsOwnSliceOf c.args.terms.now c.args.body.now c.args.plan.now (g.I.Indexes.state c.args.indexes.now) in
     let joined : AreJoinedIn IsNew keys c.in_ok-sense.sense.slices s.rows.items found.sense.slices found.rows.items =
     subst (λ (old : List KeyRows). AreJoinedIn IsNew keys c.in_ok-sense.sense.slices old found.sense.slices found.rows.items) c.deref.ensures.value c.in_ok-found.ensures.joined in
     joined_keyed IsNew keys s.sense.slices found.sense.slices s.rows.items found.rows.items c.in_ok-sense.sense.slices c.in_ok-sense.ensures.slices joined c.self.invariant.0
@@ -54,19 +54,32 @@ returns-clause-slices g c =
     let s = c.self.inside in
     let found = c.in_ok-found.found in
     let keys = c.args.keys.now in
-    let IsNew = IsSliceOf c.args.terms.now c.args.body.now (term_at c.args.plan.now.levels 0) (g.I.Indexes.state c.args.indexes.now) in
+    let IsNew = IsOwnSliceOf c.args.terms.now c.args.body.now c.args.plan.now (g.I.Indexes.state c.args.indexes.now) in
     let joined : AreJoinedIn IsNew keys c.in_ok-sense.sense.slices s.rows.items found.sense.slices found.rows.items =
     subst (λ (old : List KeyRows). AreJoinedIn IsNew keys c.in_ok-sense.sense.slices old found.sense.slices found.rows.items) c.deref.ensures.value c.in_ok-found.ensures.joined in
     IfOk-weaker c.of.result _ _ (λ made is.
     subst (λ (v : SlicesView). AreMended keys v.slices made.slices) c.self.view_is
     (subst (λ (w : SlicesView). AreMended keys (slices_of s.rows.items s.sense.slices) w.slices) (sym is) (joined_mends IsNew keys s.sense.slices found.sense.slices s.rows.items found.rows.items c.in_ok-sense.sense.slices c.in_ok-sense.ensures.slices joined))) c.of.ensures
 
+pub returns-clause-own : goal.returns-clause-own
+returns-clause-own g c =
+    let s = c.self.inside in
+    let found = c.in_ok-found.found in
+    let keys = c.args.keys.now in
+    let after = g.I.Indexes.state c.args.indexes.now in
+    let IsNew = IsOwnSliceOf c.args.terms.now c.args.body.now c.args.plan.now after in
+    let joined : AreJoinedIn IsNew keys c.in_ok-sense.sense.slices s.rows.items found.sense.slices found.rows.items =
+    subst (λ (old : List KeyRows). AreJoinedIn IsNew keys c.in_ok-sense.sense.slices old found.sense.slices found.rows.items) c.deref.ensures.value c.in_ok-found.ensures.joined in
+    IfOk-weaker c.of.result _ _ (λ made is.
+    subst (λ (w : SlicesView). AreOfOwnKeys keys c.args.body.now c.args.plan.now after w.slices) (sym is)
+    (λ slice there at. (joined_new IsNew keys s.sense.slices found.sense.slices s.rows.items found.rows.items c.in_ok-sense.sense.slices c.in_ok-sense.ensures.slices joined slice there at).1)) c.of.ensures
+
 pub returns-clause-right : goal.returns-clause-right
 returns-clause-right g c =
     let s = c.self.inside in
     let found = c.in_ok-found.found in
     let keys = c.args.keys.now in
-    let IsNew = IsSliceOf c.args.terms.now c.args.body.now (term_at c.args.plan.now.levels 0) (g.I.Indexes.state c.args.indexes.now) in
+    let IsNew = IsOwnSliceOf c.args.terms.now c.args.body.now c.args.plan.now (g.I.Indexes.state c.args.indexes.now) in
     let joined : AreJoinedIn IsNew keys c.in_ok-sense.sense.slices s.rows.items found.sense.slices found.rows.items =
     subst (λ (old : List KeyRows). AreJoinedIn IsNew keys c.in_ok-sense.sense.slices old found.sense.slices found.rows.items) c.deref.ensures.value c.in_ok-found.ensures.joined in
     let terms = c.args.terms.now in
@@ -79,4 +92,4 @@ returns-clause-right g c =
     (λ t were touched.
     subst (λ (w : SlicesView). AreSlicesOn terms body plan after w.root w.slices) (sym is)
     (subst (λ (r : Sense). AreSlicesOn terms body plan after r (slices_of found.rows.items found.sense.slices)) (sym (c.in_ok-found.ensures.root ∙ c.in_ok-sense.ensures.root))
-    (mended_are_slices keys terms body plan t after s.sense.root old (slices_of found.rows.items found.sense.slices) were touched (joined_mends IsNew keys s.sense.slices found.sense.slices s.rows.items found.rows.items c.in_ok-sense.sense.slices c.in_ok-sense.ensures.slices joined) (joined_rise IsNew keys s.sense.slices found.sense.slices s.rows.items found.rows.items c.in_ok-sense.sense.slices c.in_ok-sense.ensures.slices joined) (joined_new IsNew keys s.sense.slices found.sense.slices s.rows.items found.rows.items c.in_ok-sense.sense.slices c.in_ok-sense.ensures.slices joined))))) c.of.ensures
+    (mended_are_slices keys terms body plan t after s.sense.root old (slices_of found.rows.items found.sense.slices) were touched (joined_mends IsNew keys s.sense.slices found.sense.slices s.rows.items found.rows.items c.in_ok-sense.sense.slices c.in_ok-sense.ensures.slices joined) (joined_rise IsNew keys s.sense.slices found.sense.slices s.rows.items found.rows.items c.in_ok-sense.sense.slices c.in_ok-sense.ensures.slices joined) (λ slice there at. (joined_new IsNew keys s.sense.slices found.sense.slices s.rows.items found.rows.items c.in_ok-sense.sense.slices c.in_ok-sense.ensures.slices joined slice there at).0))))) c.of.ensures
