@@ -2,6 +2,8 @@
 use Rattle.std.proofs.Common.{◌≡◌, ◌≢◌, ℕ, ◌+◌, ◌<◌, ◌≤◌, inl, inr, true, false, List, [], ◌∷◌, ◌++◌, Option, Some, None, map, length, get_or, set, refl, sym, ap, ◌∙◌, subst, arith, length-set}
 use Rattle.std.specs.Option.{option_map}
 use Rattle.std.proofs.lemmas.List.{map-append}
+use Rattle.std.specs.List.{AllByRecursion}
+use Rattle.lt_face.specs.Limits.{most_workers}
 use Rattle.lt_model.specs.declared.mark.Mark.{Mark}
 use Rattle.lt_model.specs.Marks.{and_then}
 use Rattle.lt_net.specs.declared.job.JobState.TheVariants.{Clean, Pending}
@@ -29,7 +31,7 @@ use Rattle.lt_circuit.specs.declared.task.Done.{Done}
 use Rattle.lt_circuit.specs.declared.task.Done.TheVariants.{Leaf as LeafDone, Merge as MergeDone, Correct as CorrectDone, Pass as PassDone}
 use Rattle.lt_circuit.specs.declared.entry.Event.TheVariants.{Claim as ClaimEvent, Finish as FinishEvent, Abandon as AbandonEvent}
 use Rattle.lt_circuit.specs.Entry.{event_of}
-use Rattle.lt_circuit.specs.Circuit.{IsReplay, IsCircuit, AreTallies, leaf_code}
+use Rattle.lt_circuit.specs.Circuit.{IsReplay, IsCircuit, AreOfWorkers, AreTallies, leaf_code}
 use Rattle.lt_circuit.specs.Job.{task_name, task_inputs, task_prior, prior_correction, tallies_left, tallies_back, tallies_done, done_name, done_inputs, done_prior, IsTask, IsPrior, IsOutput}
 use Rattle.lt_circuit.proofs.Tallies.{tree_codes, claim_tallies, abandon_tallies, finish_tallies}
 
@@ -74,6 +76,10 @@ done_long tallies (MergeDone node left right effect) = refl
 done_long tallies (CorrectDone node correction left to_right) = refl
 done_long tallies (PassDone segment correction effect next) = refl
 
+all_and_one : (P : Entry → Type 0) (journal : List Entry) (e : Entry) → AllByRecursion P journal → P e → AllByRecursion P (journal ++ e ∷ [])
+all_and_one P [] e all one = (one, tt)
+all_and_one P (x ∷ journal) e all one = (all.0, all_and_one P journal e all.1 one)
+
 module _ {T : Type 0} (does : ℕ → List Mark → List Mark) (stands_for : T → ℕ → List Mark → Type 0) (fits : List Mark → Type 0) (has : ℕ → Type 0)
     (board : BoardView) (journal : List Entry) (tallies : List (Option (Prior T))) (used capacity : ℕ)
     (h : IsCircuit does stands_for fits has board journal tallies used capacity) where
@@ -89,6 +95,7 @@ module _ {T : Type 0} (does : ℕ → List Mark → List Mark) (stands_for : T �
   pub roomier : (more : ℕ) → capacity ≤ more → IsCircuit does stands_for fits has board journal tallies used more
   roomier more le = record {
     replayed = h.replayed;
+    workers = h.workers;
     few = h.few;
     leaves_there = h.leaves_there;
     tallies_long = h.tallies_long;
@@ -102,6 +109,10 @@ module _ {T : Type 0} (does : ℕ → List Mark → List Mark) (stands_for : T �
       let all : replay net (Some (opening net)) (map event_of (journal ++ e ∷ [])) ≡ Some (state_of board') =
       ap (replay net (Some (opening net))) es ∙ replay_more net (map event_of journal) (opening net) (state_of board) (event_of e) h.replayed ∙ replay_end net (step net (state_of board) (event_of e)) (state_of board') stepped in
       subst (λ n. replay (circuit_net does (tree_of n)) (Some (opening (circuit_net does (tree_of n)))) (map event_of (journal ++ e ∷ [])) ≡ Some (state_of board')) (sym same) all
+
+  -- the journal with one event more, of a worker that there may be
+  pub one_worker : (e : Entry) → e.worker < most_workers → AreOfWorkers (journal ++ e ∷ [])
+  one_worker e there = all_and_one (λ (x : Entry). x.worker < most_workers) journal e h.workers there
 
   -- ---- jobs that aren't Clean are jobs of the tree
 
@@ -144,12 +155,13 @@ module _ {T : Type 0} (does : ℕ → List Mark → List Mark) (stands_for : T �
     pending_busy e = let a : Pending ≡ Clean = sym pending ∙ e in cc
 
     pub claim_circuit : (board' : BoardView) (held : Held) (more : ℕ) → board'.leaves ≡ board.leaves → state_of board' ≡ claimed (circuit_net does (tree_of board.leaves)) (state_of board) w (code_of name)
-        → board'.claims ≡ set board.claims w (Some held) → used + standing board.claims + 2 ≤ more
+        → board'.claims ≡ set board.claims w (Some held) → used + standing board.claims + 2 ≤ more → w < most_workers
         → IsCircuit does stands_for fits has board' (journal ++ record { worker = w; job = name; event = ClaimEvent } ∷ []) (tallies_left name tallies) (used + 1) more
-    claim_circuit board' held more same st claims le =
+    claim_circuit board' held more same st claims le there =
         let stepped : step net (state_of board) (event_of (record { worker = w; job = name; event = ClaimEvent })) ≡ Some (state_of board') = rw (free, pending) (ap Some (sym st)) in
         record {
           replayed = one_event board' (record { worker = w; job = name; event = ClaimEvent }) same stepped;
+          workers = one_worker (record { worker = w; job = name; event = ClaimEvent }) there;
           few = omega (arith, same, h.few);
           leaves_there = λ i lt. h.leaves_there i (omega (arith, same));
           tallies_long = left_long tallies name ∙ h.tallies_long ∙ sym same;
@@ -181,13 +193,14 @@ module _ {T : Type 0} (does : ℕ → List Mark → List Mark) (stands_for : T �
   done_busy w did cl = held_busy w (claim_of_done did) cl
 
   pub abandon_circuit : (w : ℕ) (task : Task T) (board' : BoardView) → (state_of board).claim w ≡ Some (claim_of_task task) → board'.leaves ≡ board.leaves
-      → state_of board' ≡ abandoned (state_of board) w (claim_of_task task) → board'.claims ≡ set board.claims w None → IsTask stands_for fits has task
+      → state_of board' ≡ abandoned (state_of board) w (claim_of_task task) → board'.claims ≡ set board.claims w None → IsTask stands_for fits has task → w < most_workers
       → IsCircuit does stands_for fits has board' (journal ++ record { worker = w; job = task_name task; event = AbandonEvent } ∷ []) (tallies_back task tallies) (used + 1) capacity
-  abandon_circuit w task board' cl same st fewer ok =
+  abandon_circuit w task board' cl same st fewer ok there =
       let e : Entry = record { worker = w; job = task_name task; event = AbandonEvent } in
       let stepped : step net (state_of board) (event_of e) ≡ Some (state_of board') = rw (own_claim w (claim_of_task task) cl) (ap Some (sym st)) in
       record {
         replayed = one_event board' e same stepped;
+        workers = one_worker e there;
         few = omega (arith, same, h.few);
         leaves_there = λ i lt. h.leaves_there i (omega (arith, same));
         tallies_long = back_long tallies task ∙ h.tallies_long ∙ sym same;
@@ -203,14 +216,15 @@ module _ {T : Type 0} (does : ℕ → List Mark → List Mark) (stands_for : T �
       ap (λ n. net.is_leaf (code_of n)) e ∙ (rw (job_of-code (Leaf l) tt) (lt_true l (leaves_in (tree_of board.leaves)) inside))
 
   pub finish_circuit : (w : ℕ) (did : Done T) (board' : BoardView) → (state_of board).claim w ≡ Some (claim_of_done did) → board'.leaves ≡ board.leaves
-      → state_of board' ≡ finished (circuit_net does (tree_of board.leaves)) (state_of board) w (claim_of_done did) → board'.claims ≡ set board.claims w None → IsOutput does stands_for fits did
+      → state_of board' ≡ finished (circuit_net does (tree_of board.leaves)) (state_of board) w (claim_of_done did) → board'.claims ≡ set board.claims w None → IsOutput does stands_for fits did → w < most_workers
       → IsCircuit does stands_for fits has board' (journal ++ record { worker = w; job = done_name did; event = FinishEvent } ∷ []) (tallies_done did tallies) (used + 1) capacity
-  finish_circuit w did board' cl same st fewer ok =
+  finish_circuit w did board' cl same st fewer ok there =
       let e : Entry = record { worker = w; job = done_name did; event = FinishEvent } in
       let stepped : step net (state_of board) (event_of e) ≡ Some (state_of board') = rw (own_claim w (claim_of_done did) cl) (ap Some (sym st)) in
       let busy = done_busy w did cl in
       record {
         replayed = one_event board' e same stepped;
+        workers = one_worker e there;
         few = omega (arith, same, h.few);
         leaves_there = λ i lt. h.leaves_there i (omega (arith, same));
         tallies_long = done_long tallies did ∙ h.tallies_long ∙ sym same;
@@ -228,6 +242,7 @@ pub start_circuit : {T : Type 0} (does : ℕ → List Mark → List Mark) (stand
     → IsCircuit does stands_for fits has board [] tallies used capacity
 start_circuit does stands_for fits has board tallies n used capacity same few there st none free unused = record {
   replayed = ap Some (ap (λ k. opening (circuit_net does (tree_of k))) same ∙ sym st);
+  workers = tt;
   few = omega arith;
   leaves_there = λ i lt. there i (omega arith);
   tallies_long = ap length none ∙ length-table (λ k. None) n ∙ sym same;

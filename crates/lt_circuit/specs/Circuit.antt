@@ -1,6 +1,7 @@
 -- What a contract sees of a circuit, and what holds of each.
 use Rattle.std.specs.Prelude.{◌≡◌, ℕ, ◌+◌, ◌≤◌, ◌<◌, false, List, map, Option, Some, None, length, slice_index_or}
-use Rattle.lt_face.specs.Limits.{most_programs}
+use Rattle.std.specs.List.{AllByRecursion}
+use Rattle.lt_face.specs.Limits.{most_programs, most_workers}
 use Rattle.lt_model.specs.declared.mark.Mark.{Mark}
 use Rattle.lt_net.specs.declared.job.JobName.TheVariants.{Leaf}
 use Rattle.lt_net.specs.Net.{State, is_held, replay, opening}
@@ -26,6 +27,10 @@ abbrev pub IsReplay : (ℕ → List Mark → List Mark) → BoardView → List E
 IsReplay does board journal =
     replay (circuit_net does (tree_of board.leaves)) (Some (opening (circuit_net does (tree_of board.leaves)))) (map event_of journal) ≡ Some (state_of board)
 
+-- each event is of a worker that there may be
+abbrev pub AreOfWorkers : List Entry → Type 0
+AreOfWorkers journal = AllByRecursion (λ (e : Entry). e.worker < most_workers) journal
+
 -- The tally at a place stands for the leaf on the correction that it last finished with. `code` is the code of a leaf's job.
 pub record IsTally {T : Type 0} (code : ℕ → ℕ) (stands_for : T → ℕ → List Mark → Type 0) (fits : List Mark → Type 0) (s : State) (leaf : ℕ) (p : Prior T) : Type 0 where
   pub last : s.done (code leaf) ≡ Some p.correction
@@ -45,6 +50,7 @@ leaf_code i = code_of (Leaf i)
 pub record IsCircuit {T : Type 0} (does : ℕ → List Mark → List Mark) (stands_for : T → ℕ → List Mark → Type 0) (fits : List Mark → Type 0) (has : ℕ → Type 0)
     (board : BoardView) (journal : List Entry) (tallies : List (Option (Prior T))) (used capacity : ℕ) : Type 0 where
   pub replayed : IsReplay does board journal
+  pub workers : AreOfWorkers journal
   pub few : board.leaves ≤ most_programs
   pub leaves_there : (i : ℕ) → i < board.leaves → has i
   pub tallies_long : length tallies ≡ board.leaves

@@ -8,7 +8,7 @@ ghost use Rattle.lt_net.specs.Net.{IsSettled, Effect};
 ghost use Rattle.lt_net.specs.Tree.{leaf_value, then_all};
 ghost use Rattle.lt_net.specs.Codes.{code_of};
 ghost use Rattle.lt_circuit.specs.declared.task.Prior.{Prior as PriorType};
-ghost use Rattle.lt_circuit.specs.Circuit.{state, IsReplay};
+ghost use Rattle.lt_circuit.specs.Circuit.{state, AreOfWorkers, IsReplay};
 
 use crate::circuit::Circuit;
 use crate::entry::Entry;
@@ -22,6 +22,7 @@ impl<W: LeafWork> Circuit<W> {
     pub fn journal(&self) -> &[Entry]
         ensures entries { result.now ≡ self.now.journal }
         ensures replay { IsReplay (W.does self.now.work) self.now.board self.now.journal }
+        ensures workers { AreOfWorkers self.now.journal }
     {
         &self.journal
     }
@@ -70,23 +71,24 @@ impl<W: LeafWork> Circuit<W> {
         self.board.has_pending()
     }
 
-    /// A Pending job for the worker, if any.
+    /// A Pending job for the worker, if any: one that is due, where there is one.
     pub(crate) fn next_pending(&mut self, worker: u32) -> Option<JobName>
         ensures same { self.new ≡ self.old }
         ensures some { IfSome result (λ job. (state self.old).status (code_of job) ≡ Pending) }
         ensures small { IfSome result (λ job. code_of job < 2 ^ 32) }
         ensures none { result ≡ None → (job : ℕ) → (state self.old).status job ≢ Pending }
     {
-        if worker > 0 {
-            if let Some(leaf) = self.free_leaf() {
-                return Some(JobName::Leaf(leaf));
-            }
+        if self.board.in_flight() == 0 {
+            return self.board.next_pending(0);
         }
-        self.board.next_pending(worker)
+        match self.due_job(worker) {
+            Some(job) => Some(job),
+            None => self.board.next_pending(worker),
+        }
     }
 
     // The lowest leaf that never ran, is Pending, and hangs on none before it.
-    fn free_leaf(&self) -> Option<u32>
+    pub(crate) fn free_leaf(&self) -> Option<u32>
         ensures some { IfSome result (λ leaf. (state self.now).status (code_of (Leaf leaf)) ≡ Pending) }
         ensures small { IfSome result (λ leaf. leaf < most_programs) }
     {

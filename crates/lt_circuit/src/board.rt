@@ -30,6 +30,7 @@ impl Model for Board {
 
 mod choose;
 mod finish;
+mod front;
 mod hold;
 mod inputs;
 mod look;

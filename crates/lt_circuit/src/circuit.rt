@@ -25,6 +25,8 @@ pub struct Circuit<W: LeafWork> {
     pub(crate) board: Board,
     pub(crate) tallies: Vec<Option<Prior<W::Tally>>>,
     pub(crate) journal: Vec<Entry>,
+    /// How many leaves behind the front are run ahead. No clause speaks of it.
+    pub(crate) ahead: u32,
 }
 
 impl<W: LeafWork> Model for Circuit<W> {
@@ -55,6 +57,7 @@ impl<W: LeafWork> Circuit<W> {
             board,
             tallies,
             journal,
+            ahead: 0,
         })
     }
 }

@@ -8,8 +8,10 @@ ghost use Rattle.lt_circuit.specs.Board.{one_if, standing, table};
 ghost use Rattle.lt_circuit.specs.Holders.{AreHolders};
 
 use crate::cells::Held;
+use crate::jobs::Jobs;
 use lt_face::NoMemory;
 use lt_face::limits::MOST_WORKERS;
+use lt_net::JobName;
 use std::alloc::Global;
 use std::marker::Model;
 use std::mem;
@@ -51,6 +53,16 @@ fn one_if<T>(place: &Option<T>) -> u32
     }
 }
 
+/// The code of a job of a tree, for any numbers. A Pass stands behind all jobs of its tree.
+fn wide_code(job: JobName) -> usize {
+    match job {
+        JobName::Leaf(leaf) => 3 * leaf as usize,
+        JobName::Merge(node) => 3 * node as usize + 1,
+        JobName::Correct(node) => 3 * node as usize + 2,
+        JobName::Pass(_segment) => usize::MAX,
+    }
+}
+
 impl Holders {
     /// No worker holds a job.
     pub fn none(alloc: Global) -> Result<Holders, NoMemory>
@@ -66,6 +78,25 @@ impl Holders {
         ensures few { result ≤ most_workers }
     {
         self.count
+    }
+
+    /// Whether worker 0 holds a job.
+    pub fn is_first_busy(&self) -> bool {
+        self.claims.len() > 0 && self.claims[0].is_some()
+    }
+
+    /// The first place of the order at which a job is held, or one behind all.
+    pub fn first_place(&self, jobs: &Jobs) -> usize {
+        let mut first = usize::MAX;
+        for worker in 0..self.claims.len() {
+            if let Some(held) = &self.claims[worker] {
+                let place = jobs.place(wide_code(held.job));
+                if place < first {
+                    first = place;
+                }
+            }
+        }
+        first
     }
 
     /// The worker holds the job.

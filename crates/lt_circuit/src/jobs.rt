@@ -10,6 +10,7 @@ ghost use Rattle.lt_circuit.specs.Board.{first_state, table};
 ghost use Rattle.lt_circuit.specs.Jobs.{AreJobs};
 
 use crate::order::{place_codes, walk};
+use lt_delta::Marks;
 use lt_face::NoMemory;
 use lt_net::{JobName, JobState, codes_over};
 use std::alloc::Global;
@@ -120,6 +121,37 @@ fn next_inner_code(states: &[JobState], order: &[u32], low: usize) -> Option<u32
     None
 }
 
+/// Whether a Pending job of this code may be done ahead: an inner node's, or a leaf's that never ran.
+fn is_first(done: &[Option<Marks>], code: u32) -> bool {
+    match JobName::of(code) {
+        JobName::Leaf(leaf) => (leaf as usize) < done.len() && done[leaf as usize].is_none(),
+        _inner => true,
+    }
+}
+
+/// The first code from the place `from` on whose job is Pending and may be done ahead. `left` leaves are passed at most, and counted.
+fn ahead_code(
+    states: &[JobState],
+    order: &[u32],
+    done: &[Option<Marks>],
+    from: usize,
+    left: &mut u32,
+) -> Option<u32> {
+    for place in from..order.len() {
+        let code = order[place];
+        if *left == 0 {
+            return None;
+        }
+        if is_pending_at(states, code) && is_first(done, code) {
+            return Some(code);
+        }
+        if !is_inner(code) {
+            *left = left.saturating_sub(1);
+        }
+    }
+    None
+}
+
 impl Jobs {
     /// The leaves' jobs are Pending, the others Clean. The order is the walk over the tree from the left.
     pub fn start(alloc: Global, leaves: u32) -> Result<Jobs, NoMemory>
@@ -189,6 +221,33 @@ impl Jobs {
             Some(code) => Some(JobName::of(code)),
             None => None,
         }
+    }
+
+    /// Where a code stands in the order: behind all others, if it isn't in the table.
+    pub fn place(&self, code: usize) -> usize {
+        if code < self.places.len() {
+            self.places[code]
+        } else {
+            usize::MAX
+        }
+    }
+
+    /// The code of the first job in the order that is Pending, where it stands before the place.
+    pub fn code_before(&self, end: usize) -> Option<u32> {
+        let place = next_place(&self.states, &self.order, self.low);
+        if place < end && place < self.order.len() {
+            Some(self.order[place])
+        } else {
+            None
+        }
+    }
+
+    /// The code of the first job that may be done ahead, from the place `held` on or from the first Pending one on. `left` leaves are
+    /// passed at most, and counted.
+    pub fn code_ahead(&self, done: &[Option<Marks>], held: usize, left: &mut u32) -> Option<u32> {
+        let place = next_place(&self.states, &self.order, self.low);
+        let from = if held < place { held } else { place };
+        ahead_code(&self.states, &self.order, done, from, left)
     }
 
     /// The first in the order that is Pending.

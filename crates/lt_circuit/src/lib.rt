@@ -7,8 +7,10 @@
 //!
 //! A line is a row of segments, each a board with the state of its Pass, and over it what a circuit has over its board: the work, the
 //! tallies and the journal, with calls of the same names (`line/claims`, `ends`, `alone`). Its jobs are those of the trees, by
-//! numbers over all segments (`number`: leaf 256 * s + i, node 512 * s + v), and the Passes. `claim` gives a job of the first segment
-//! that has one.
+//! numbers over all segments (`number`: leaf 256 * s + i, node 512 * s + v), and the Passes.
+//!
+//! `claim` gives the Pending job that is due for the worker (`due`), if any: the front's, or one that is run ahead of it. Else it gives some
+//! Pending job: in a line one of the first segment that has one.
 //!
 //! ```text
 //! Line: work, tallies, journal
@@ -30,6 +32,7 @@ pub mod cells;
 mod circuit;
 mod claim;
 mod claims;
+mod due;
 mod ends;
 mod entry;
 mod holders;

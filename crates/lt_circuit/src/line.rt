@@ -47,6 +47,8 @@ pub struct Line<W: LeafWork> {
     row: Row,
     tallies: Vec<Option<Prior<W::Tally>>>,
     journal: Vec<LineEntry>,
+    /// How many leaves behind the front are run ahead. No clause speaks of it.
+    ahead: u32,
 }
 
 impl<W: LeafWork> Model for Line<W> {
@@ -93,6 +95,7 @@ impl<W: LeafWork> Line<W> {
             row,
             tallies,
             journal,
+            ahead: 0,
         })
     }
 
@@ -143,5 +146,6 @@ impl<W: LeafWork> Line<W> {
 mod alone;
 mod below;
 mod claims;
+mod due;
 mod ends;
 mod free;

@@ -201,5 +201,6 @@ impl Row {
 }
 
 mod by_code;
+mod front;
 mod look;
 mod opening;

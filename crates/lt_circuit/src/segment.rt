@@ -250,4 +250,5 @@ impl Segment {
     }
 }
 
+mod front;
 mod look;

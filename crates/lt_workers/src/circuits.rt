@@ -48,6 +48,10 @@ impl<W: LeafWork> Machine for Circuit<W> {
         self.free_leaves()
     }
 
+    fn is_due(&mut self, worker: u32, ahead: u32) -> bool {
+        Circuit::is_due(self, worker, ahead)
+    }
+
     fn ask(&mut self, worker: u32) -> Claim<Job<W>> {
         let _before = self.journal();
         let answer = self.claim(worker);

@@ -8,7 +8,6 @@ ghost use denote.Param.Send.{IsSync};
 
 use crate::handed::Handed;
 use crate::machine::Machine;
-use crate::pace::Luck;
 use crate::shared::Shared;
 use lt_circuit::Claim;
 use lt_edges::Gate;
@@ -29,11 +28,15 @@ pub enum Ended {
     Spared,
 }
 
-// Whether the worker leaves a job to the first: where it isn't the first, and to run ahead what may be tied to others doesn't pay.
-fn is_left(worker: u32, luck: &Luck, is_free: bool) -> bool
+// Whether the worker gives a job back to go: an inner job, where it isn't the first and nothing that may be tied to others is run ahead.
+// No free leaf is left then.
+fn is_left(worker: u32, ahead: Option<u32>, is_leaf: bool) -> bool
     ensures { result ≡ true → 0 < worker }
 {
-    worker > 0 && !luck.is_good() && !is_free
+    match ahead {
+        Some(leaves) => worker > 0 && leaves == 0 && !is_leaf,
+        None => false,
+    }
 }
 
 impl<M: Machine + Send + Sync> Shared<M>
@@ -43,13 +46,12 @@ where
     M::Output: Send + Sync,
     M::Spent: Send + Sync,
 {
-    // Claims a job and does it. Where none is Pending it waits for others' entries.
+    // Claims a job and does it. Where none is due it waits for others' entries.
     pub(crate) fn go_on<R: Wait, G: Gate>(
         &self,
         rt: &R,
         seat: &mut Seat<Handed<M>>,
         gate: &G,
-        luck: &mut Luck,
     ) -> Option<Ended>
         requires turn { IsSeatOf self.now seat.old }
         requires idle { IsIdle (view seat.old) }
@@ -57,14 +59,15 @@ where
         ensures turn { IsSeatOf self.now seat.new }
         ensures goes { Goes M.net (view seat.old) (view seat.new) result }
     {
-        match self.claim(rt, seat) {
+        let ahead = self.ahead(gate.waits());
+        match self.claim_due(rt, seat, ahead) {
             Claim::Settled => Some(Ended::Settled),
             Claim::NoMemory => Some(Ended::NoMemory),
             Claim::Busy { in_flight: _ } => {
                 self.turn.wait_for_entries(rt, seat);
                 None
             }
-            Claim::Job(job) => self.take_up(rt, seat, job, gate, luck),
+            Claim::Job(job) => self.take_up(rt, seat, job, gate, ahead),
         }
     }
 
@@ -75,7 +78,7 @@ where
         seat: &mut Seat<Handed<M>>,
         job: M::Job,
         gate: &G,
-        luck: &mut Luck,
+        ahead: Option<u32>,
     ) -> Option<Ended>
         requires turn { IsSeatOf self.now seat.old }
         requires idle { IsIdle (view seat.old) }
@@ -86,11 +89,11 @@ where
         ensures turn { IsSeatOf self.now seat.new }
         ensures goes { Goes M.net (view seat.old) (view seat.new) result }
     {
-        if is_left(seat.first(), luck, M::is_free(&job)) {
+        if is_left(seat.first(), ahead, M::is_leaf(&job)) {
             self.abandon(rt, seat, job);
             return Some(Ended::Spared);
         }
-        self.work_on(rt, seat, job, gate, luck)
+        self.work_on(rt, seat, job, gate)
     }
 
     // Passes the gate, does the job outside the turn, and ends the claim.
@@ -100,7 +103,6 @@ where
         seat: &mut Seat<Handed<M>>,
         job: M::Job,
         gate: &G,
-        luck: &mut Luck,
     ) -> Option<Ended>
         requires turn { IsSeatOf self.now seat.old }
         requires idle { IsIdle (view seat.old) }
@@ -115,7 +117,7 @@ where
         let mut moves: Moves<()> = Moves::new();
         match M::work(job, &mut moves) {
             Ok(output) => {
-                luck.note::<M>(seat.first(), gate.waits(), &output);
+                self.luck.note::<M>(&output, moves.ticks());
                 self.finish(rt, seat, output);
                 None
             }
@@ -135,9 +137,8 @@ where
         ensures turn { IsSeatOf self.now seat.new }
         ensures drives { Drives M.net (view seat.old) (view seat.new) result }
     {
-        let mut luck = Luck::start(self.runs_ahead);
         for _ in rt.forever() {
-            if let Some(ended) = self.go_on(rt, seat, gate, &mut luck) {
+            if let Some(ended) = self.go_on(rt, seat, gate) {
                 return ended;
             }
         }

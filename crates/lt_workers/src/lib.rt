@@ -14,10 +14,16 @@
 //! leaf that it ran tells how dear it was (`LeafWork::weight`, for a program how much its senses keep). Where leaves are dear in the mean
 //! and enough of them is left (`pace`), the next leaf's job goes back, so that all inner jobs are done, and the others are called, no more
 //! than there are leaves. A leaf is *free* where no program before it in the batch writes a relation that it reads: what it does on the
-//! snapshot is final. Others than worker 0 take the lowest free leaf that never ran, then the first inner job, then the first leaf on the
-//! walk. A leaf that isn't free runs early at a risk. Two such leaves are looked at first, whether the senses of most of their run cover
-//! what their corrections mark (`LeafWork::is_tied`): where both are tied, free leaves alone are worth a call. Later a worker ends where
-//! more of its leaves ran again in vain than not (`Luck`). A gate that waits (`Gate::waits`) has all workers from the start.
+//! snapshot is final. Two leaves that aren't free are looked at first, whether the senses of most of their run cover what their corrections
+//! mark (`LeafWork::is_tied`): where both are tied, free leaves alone are worth a call.
+//!
+//! Then who asks is given what is *due* (`due` in `lt_circuit`): the job at the *front*, the first on the walk that is Pending or held, whose
+//! inputs are final; else the lowest free leaf that never ran; else the lowest leaf that never ran among the next ones, twice as many as
+//! workers, and before it the inner jobs that bring its correction. A leaf that ran is given again as the front's alone. So none is run more
+//! than twice: once ahead, on what stands then, and once on what is final. Where nothing is due for a worker it waits for an entry of
+//! another. Leaves that aren't free run ahead at a risk: once two more of them were run again in vain than were kept, counted for all workers
+//! together (`Luck`), none is any more. Then the others than worker 0 do what is free, give back the next inner job that they are given, and
+//! go. At a gate that waits (`Gate::waits`) all workers are there from the start, and take what is Pending, due or not.
 #![tactic(auto)]
 
 mod basis;

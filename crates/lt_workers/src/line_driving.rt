@@ -18,7 +18,6 @@ use crate::driving::{Ended, either};
 use crate::handed::Handed;
 use crate::machine::Machine;
 use crate::on_final::OnFinal;
-use crate::pace::Luck;
 use crate::shared::Shared;
 use lt_circuit::{LeafWork, Line};
 use lt_delta::Marks;
@@ -125,7 +124,6 @@ where
         rt: &R,
         seat: &mut Seat<Handed<Line<W>>>,
         gate: &G,
-        luck: &mut Luck,
         on: &mut O,
         count: &mut u32,
         end: u32,
@@ -140,7 +138,7 @@ where
         ensures base { (m : List Mark) → O.fits on.old m → O.fits on.new m }
     {
         match self.hand_on(rt, seat, on, count, end) {
-            Ok(()) => self.go_on(rt, seat, gate, luck),
+            Ok(()) => self.go_on(rt, seat, gate),
             Err(_refused) => Some(Ended::NoMemory),
         }
     }
@@ -164,9 +162,8 @@ where
         ensures given { GivesOn W.does (view seat.old) (view seat.new) (O.given on.old) (O.given on.new) count.old count.new }
         ensures base { (m : List Mark) → O.fits on.old m → O.fits on.new m }
     {
-        let mut luck = Luck::start(self.runs_ahead);
         for _ in rt.forever() {
-            if let Some(ended) = self.step_line(rt, seat, gate, &mut luck, on, count, end) {
+            if let Some(ended) = self.step_line(rt, seat, gate, on, count, end) {
                 return ended;
             }
         }

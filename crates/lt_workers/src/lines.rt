@@ -48,6 +48,10 @@ impl<W: LeafWork> Machine for Line<W> {
         self.free_leaves()
     }
 
+    fn is_due(&mut self, worker: u32, ahead: u32) -> bool {
+        Line::is_due(self, worker, ahead)
+    }
+
     fn ask(&mut self, worker: u32) -> Claim<Job<W>> {
         let _before = self.journal();
         let _segments = self.segment_count();

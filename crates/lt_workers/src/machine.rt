@@ -54,6 +54,11 @@ pub trait Machine: Drop {
     /// How many leaves never ran and hang on none before them.
     fn free_leaf_count(&self) -> u32;
 
+    /// Whether the worker had better ask than wait for an entry of another, where so many leaves behind the front are run ahead that may
+    /// be tied to others. Else some claim stands. Where none are, others than worker 0 ask for an inner job too, to give it back and go.
+    fn is_due(&mut self, worker: u32, ahead: u32) -> bool
+        ensures same { self.new ≡ self.old };
+
     /// The worker asks for a job.
     fn ask(&mut self, worker: u32) -> Claim<Self::Job>
         requires worker { worker < most_workers }

@@ -1,5 +1,6 @@
 //! How dear leaves are, and whether it pays to run them ahead. No clause speaks of it.
 use crate::machine::Machine;
+use std::sync::atomic::{AtomicU64, Ordering};
 
 /// Leaves below this weight in the mean aren't worth to be run ahead.
 const DEAR: usize = 128;
@@ -73,43 +74,41 @@ impl Pace {
     }
 }
 
-/// What came of leaves that a worker ran once more.
+/// What came of leaves that ran once more, for all workers together.
 #[derive(Drop)]
 pub(crate) struct Luck {
-    runs_ahead: bool,
-    kept: u32,
-    vain: u32,
+    kept: AtomicU64,
+    vain: AtomicU64,
 }
 
 impl Luck {
     /// Nothing ran yet.
-    pub(crate) fn start(runs_ahead: bool) -> Luck {
+    pub(crate) fn start() -> Luck {
         Luck {
-            runs_ahead,
-            kept: 0,
-            vain: 0,
+            kept: AtomicU64::new(0),
+            vain: AtomicU64::new(0),
         }
     }
 
-    /// A worker's job is done. Only a leaf's that had run before tells something, and only of another than the first worker, at a
-    /// gate that holds nobody.
-    pub(crate) fn note<M: Machine>(&mut self, worker: u32, waits: bool, output: &M::Output) {
-        if worker == 0 || waits || !M::is_again(output) {
+    /// A job is done, in so many moves. Only a leaf's that had run before tells something: its first run was in vain, where the second made
+    /// more moves than half of those that the leaf is dear.
+    pub(crate) fn note<M: Machine>(&self, output: &M::Output, moves: u64) {
+        if !M::is_again(output) {
             return;
         }
-        match M::is_tied(output) {
-            None => {}
-            Some(true) => {
-                self.vain = self.vain.saturating_add(1);
-            }
-            Some(false) => {
-                self.kept = self.kept.saturating_add(1);
-            }
+        let Some(weight) = M::weight(output) else {
+            return;
+        };
+        if moves > weight as u64 / 2 {
+            self.vain.fetch_add(1, Ordering::SeqCst);
+        } else {
+            self.kept.fetch_add(1, Ordering::SeqCst);
         }
     }
 
-    /// Whether leaves are run ahead that may be tied to others.
+    /// Whether leaves are run ahead that may be tied to others: until one more ran in vain than were kept, and one.
     pub(crate) fn is_good(&self) -> bool {
-        self.runs_ahead && self.vain <= self.kept
+        let kept = self.kept.load(Ordering::SeqCst);
+        self.vain.load(Ordering::SeqCst) <= kept.saturating_add(1)
     }
 }

@@ -1,5 +1,5 @@
 //! A machine that workers hand on from turn to turn.
-ghost use Rattle.std.specs.Prelude.{◌≡◌, ℕ, ◌<◌, ◌≤◌, ◌^◌, length, Option, Some, None, IfOk};
+ghost use Rattle.std.specs.Prelude.{◌≡◌, ℕ, ◌<◌, ◌≤◌, ◌^◌, ⊤, length, Option, Some, None, IfOk};
 ghost use Rattle.lt_face.specs.Limits.{most_workers};
 ghost use Rattle.lt_net.specs.Alone.{IsUnclaimed};
 ghost use Rattle.lt_net.specs.Net.{Claim as NetClaim};
@@ -7,12 +7,13 @@ ghost use Rattle.lt_turn.specs.Journal.{Extends};
 ghost use Rattle.lt_turn.specs.Rule.{holding, opening_view};
 ghost use Rattle.lt_turn.specs.Seats.{view, IsIdle, MayGive};
 ghost use Rattle.lt_workers.specs.Seats.{IsSeatOf};
-ghost use Rattle.lt_workers.specs.Seen.{AreFree, BeginsFree, Claims, IsOfBasis, IsStanding, Knows};
+ghost use Rattle.lt_workers.specs.Seen.{AreFree, BeginsFree, Claims, IsMove, IsOfBasis, IsStanding, Knows};
 ghost use Rattle.lt_workers.specs.Driven.{GaveBack};
-ghost use Rattle.lt_workers.specs.Visit.{Did, HasAnswer, IsSame, KeepsOthers};
+ghost use Rattle.lt_workers.specs.Visit.{Did, HasAnswer, IsGiven, IsSame, KeepsOthers};
 
 use crate::handed::Handed;
 use crate::machine::Machine;
+use crate::pace::Luck;
 use lt_circuit::Claim;
 use lt_face::NoMemory;
 use lt_turn::{Seat, Turn};
@@ -23,11 +24,57 @@ use std::sync::Wait;
 #[derive(Drop)]
 pub struct Shared<M: Machine> {
     pub(crate) turn: Turn<Handed<M>>,
-    /// Whether leaves are run ahead that may be tied to others. No clause speaks of it.
+    /// Whether leaves are run ahead that may be tied to others, how many behind the front, and what came of them. No clause speaks of it.
     pub(crate) runs_ahead: bool,
+    window: u32,
+    pub(crate) luck: Luck,
+}
+
+// How many leaves behind the front so many workers run ahead.
+fn window(workers: u32) -> u32 {
+    workers.saturating_mul(2)
+}
+
+// Whether a job is due for the worker, with so many leaves run ahead, or any is.
+fn is_due<M: Machine>(machine: &mut M, worker: u32, ahead: Option<u32>) -> bool
+    ensures { machine.new ≡ machine.old }
+{
+    match ahead {
+        Some(leaves) => machine.is_due(worker, leaves),
+        None => true,
+    }
+}
+
+// The worker asks for a job where one is due for it, with so many leaves run ahead, or in any case. Else it has a look alone, and is told to
+// be busy.
+fn asked<M: Machine>(machine: &mut M, worker: u32, ahead: Option<u32>) -> Claim<M::Job>
+    requires worker { worker < most_workers }
+    requires free { (M.stand machine.old).state.claim worker ≡ None }
+    ensures moved { IsMove M.net worker (M.stand machine.old) (M.stand machine.new) }
+    ensures short { length (M.stand machine.new).pairs < 2 ^ 62 }
+    ensures given { IsGiven M.claim_of M.is_job_of (M.stand machine.new) worker result }
+{
+    if is_due(machine, worker, ahead) {
+        return machine.ask(worker);
+    }
+    let _entries = machine.entries();
+    Claim::Busy { in_flight: 1 }
 }
 
 impl<M: Machine> Shared<M> {
+    // How many leaves behind the front are run ahead now. None where any Pending job is taken, as a gate may hold a worker until another
+    // comes.
+    pub(crate) fn ahead(&self, waits: bool) -> Option<u32> {
+        if waits {
+            return None;
+        }
+        if self.runs_ahead && self.luck.is_good() {
+            Some(self.window)
+        } else {
+            Some(0)
+        }
+    }
+
     /// The machine for so many workers, and the seat that has all their numbers.
     pub fn new(
         alloc: Global,
@@ -49,6 +96,8 @@ impl<M: Machine> Shared<M> {
                 Shared {
                     turn,
                     runs_ahead: true,
+                    window: window(workers),
+                    luck: Luck::start(),
                 },
                 seat,
             )),
@@ -105,6 +154,29 @@ impl<M: Machine> Shared<M> {
         answer
     }
 
+    // Asks for a job as the seat's first worker where one is due for it, with so many leaves run ahead, or in any case. Else it is told to be
+    // busy.
+    pub(crate) fn claim_due<R: Wait>(
+        &self,
+        rt: &R,
+        seat: &mut Seat<Handed<M>>,
+        ahead: Option<u32>,
+    ) -> Claim<M::Job>
+        requires turn { IsSeatOf self.now seat.old }
+        requires idle { IsIdle (view seat.old) }
+        requires free { Claims M.net (view seat.old) (view seat.old).first None }
+        ensures turn { IsSeatOf self.now seat.new }
+        ensures same { IsSame (view seat.old) (view seat.new) }
+        ensures answer { Did M.net M.stand (λ before after worker. ⊤) (view seat.old) (view seat.new) }
+        ensures has { HasAnswer M.net M.claim_of M.is_job_of (view seat.new) result }
+        ensures others { KeepsOthers M.net (view seat.old) (view seat.new) }
+    {
+        let mut handed = self.receive(rt, seat);
+        let answer = asked(&mut handed.machine, seat.first(), ahead);
+        self.give_back(seat, handed);
+        answer
+    }
+
     /// The job of the seat's first worker is done, and this is its output.
     pub fn finish<R: Wait>(&self, rt: &R, seat: &mut Seat<Handed<M>>, output: M::Output)
         requires turn { IsSeatOf self.now seat.old }
@@ -155,6 +227,8 @@ impl<M: Machine> Shared<M> {
         let Self {
             turn,
             runs_ahead: _,
+            window: _,
+            luck: _,
         } = self;
         let Handed { machine } = turn.close(seat);
         let _entries = machine.entries();

@@ -1,7 +1,7 @@
 //! Which Pending job a worker is given.
 //!
-//! Worker 0 takes the first on the walk, so that few jobs are done twice. The others run ahead of it: each takes the first inner
-//! job on the walk, which is cheap and brings leaves their corrections, and where none is Pending the lowest leaf.
+//! Worker 0 takes the first on the walk. The others take the first inner job on the walk, which is cheap and brings leaves their
+//! corrections, and where none is Pending the lowest leaf. So it is where no job is due (`front`).
 #![tactic(auto)]
 
 ghost use Rattle.std.specs.Prelude.{◌≡◌, ◌≢◌, ℕ, true, false, ◌<◌, ◌≤◌, ◌^◌, None, IfSome};

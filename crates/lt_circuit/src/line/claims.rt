@@ -51,23 +51,24 @@ impl<W: LeafWork> Line<W> {
         self.row.is_pending(code)
     }
 
-    // The code of a Pending job for the worker, if any: one of the first segment that has one, and there the Pass comes last. Others
-    // than worker 0 first take leaves of any segment that hang on none before them.
+    // The code of a Pending job for the worker, if any: one that is due, where there is one, else one of the first segment that has one, and
+    // there the Pass comes last.
     fn next_pending(&mut self, worker: u32) -> Option<u32>
         ensures same { self.new ≡ self.old }
         ensures some { IfSome result (λ code. (line_state self.old).status code ≡ Pending) }
         ensures none { result ≡ None → (code : ℕ) → (line_state self.old).status code ≢ Pending }
     {
-        if worker > 0 {
-            if let Some(code) = self.free_leaf() {
-                return Some(code);
-            }
+        if self.row.in_flight() == 0 {
+            return self.row.next_pending(0);
         }
-        self.row.next_pending(worker)
+        match self.due_job(worker) {
+            Some(code) => Some(code),
+            None => self.row.next_pending(worker),
+        }
     }
 
-    /// Claims a job that is Pending, if any: one of the first segment that has one, its Pass where no other job of it is Pending.
-    /// Others than worker 0 first take leaves of any segment that hang on none before them.
+    /// Claims a job that is Pending, if any: one that is due for the worker, where there is one, else one of the first segment that has one,
+    /// its Pass where no other job of it is Pending.
     pub fn claim(&mut self, worker: u32) -> Claim<Job<W>>
         requires worker { worker < most_workers }
         requires free { (line_state self.old).claim worker ≡ None }

@@ -32,7 +32,7 @@ invariant_of-self g c =
     let code = ap code_of c.name-name.ensures in
     let st = c.abandon-held.ensures.state (claim_of_task c.job.inside.task) (sym code) in
     rw (c.push_reserved.ensures.items, c.push_reserved.ensures.len, c.push_reserved.ensures.capacity, c.give_back-used.ensures, c.name-name.ensures)
-    (abandon_circuit _ _ _ _ _ _ _ _ _ c.self.invariant c.args.worker c.job.inside.task c.abandon-held.new.self cl c.abandon-held.ensures.leaves st c.abandon-held.ensures.claims ok)
+    (abandon_circuit _ _ _ _ _ _ _ _ _ c.self.invariant c.args.worker c.job.inside.task c.abandon-held.new.self cl c.abandon-held.ensures.leaves st c.abandon-held.ensures.claims ok c.requires.worker)
 
 pub returns-clause-state : goal.returns-clause-state
 returns-clause-state g c =

@@ -36,7 +36,7 @@ invariant_of-self g c =
     let ok = rw w at c.output.invariant in
     let st = c.store-stood.ensures.state _ (claim_of_done c.output.inside.did) refl refl ok.gave in
     rw (c.push_reserved.ensures.items, c.push_reserved.ensures.len, c.push_reserved.ensures.capacity, c.store-stood.ensures.tallies, c.name-job.ensures)
-    (finish_circuit _ _ _ _ _ _ _ _ _ c.self.invariant c.args.worker c.output.inside.did c.store-stood.new.board cl c.store-stood.ensures.leaves st c.store-stood.ensures.claims ok)
+    (finish_circuit _ _ _ _ _ _ _ _ _ c.self.invariant c.args.worker c.output.inside.did c.store-stood.new.board cl c.store-stood.ensures.leaves st c.store-stood.ensures.claims ok c.requires.worker)
 
 pub returns-clause-state : goal.returns-clause-state
 returns-clause-state g c =

@@ -60,7 +60,7 @@ invariant_of-self-2 g c =
     let pending : (state_of b).status (code_of c.args.name) ≡ Pending = rw (← c.self.view_is) at c.requires.pending in
     let free : (state_of b).claim c.args.worker ≡ None = rw (← c.self.view_is) at c.requires.free in
     let room : vec_len c.self.inside.journal + standing b.claims + 2 ≤ vec_capacity c.reserve.new.self = omega (arith, c.in_ok-reserve.ensures.ok, c.in_flight-in_flight.ensures.count) in
-    let r = claim_circuit _ _ _ _ _ _ _ _ _ c.self.invariant c.args.worker name free pending c.hold.new.self c.hold.ensures.claims.0 (vec_capacity c.reserve.new.self) c.hold.ensures.leaves (c.hold.ensures.state does) c.hold.ensures.claims.1 room in
+    let r = claim_circuit _ _ _ _ _ _ _ _ _ c.self.invariant c.args.worker name free pending c.hold.new.self c.hold.ensures.claims.0 (vec_capacity c.reserve.new.self) c.hold.ensures.leaves (c.hold.ensures.state does) c.hold.ensures.claims.1 room c.requires.worker in
     rw (c.push_reserved.ensures.items, c.push_reserved.ensures.len, c.push_reserved.ensures.capacity, c.in_ok-reserve.ensures.items, c.in_ok-reserve.ensures.len, c.take_task-task.ensures.tallies) r
 
 pub returns-clause-ok : goal.returns-clause-ok
