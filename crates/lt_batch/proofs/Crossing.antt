@@ -1,4 +1,4 @@
--- What is run ahead, and what a leaf keeps, may cross to another thread, and so may the work of a circuit and of a line, which threads may
+-- What is run ahead, and what a leaf keeps, may cross to another thread, and so may the work of a circuit or of a line, which threads may
 -- read at once.
 use denote.Param.Send.{IsSend, IsSync, sendable, struct_send, whole-keyless}
 use denote.Param.SendFields.{as_row_send, as_row_sync, declared_send, declared_sync}
@@ -29,7 +29,6 @@ use Rattle.lt_program.specs.contracts.tally.Tally.TheInside as TallyInside
 use Rattle.lt_batch.specs.contracts.ahead.Ahead as Ahead
 use Rattle.lt_batch.specs.contracts.leaf.LeafTally as LeafTally
 use Rattle.lt_batch.specs.contracts.work.BatchWork as BatchWork
-use Rattle.lt_batch.specs.contracts.line_work.LineWork as LineWork
 
 -- ---- a sense
 
@@ -156,7 +155,7 @@ run_send = search (sendable, inner_send) depth 60
 run_sync : IsSync Tally.the_row
 run_sync = search (sendable, inner_sync) depth 60
 
--- ---- what is run ahead, a leaf's tally, and the works
+-- ---- what is run ahead, a leaf's tally, and the work
 
 pub ahead_send : IsSend Ahead.the_row
 ahead_send = search (sendable, crosses, run_send) depth 60 fits 20000
@@ -172,9 +171,3 @@ work_send = search (sendable, crosses, tally_send, base_send, planned_send, plan
 
 pub work_sync : IsSync BatchWork.the_row
 work_sync = search (sendable, crosses, tally_sync, base_sync, planned_send, planned_sync) depth 60 fits 20000
-
-pub line_send : IsSend LineWork.the_row
-line_send = search (sendable, crosses, work_send) depth 60 fits 20000
-
-pub line_sync : IsSync LineWork.the_row
-line_sync = search (sendable, crosses, work_sync) depth 60 fits 20000

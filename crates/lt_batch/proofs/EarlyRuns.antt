@@ -9,7 +9,7 @@ use Rattle.lt_face.specs.State.{State}
 use Rattle.lt_model.specs.declared.normal.Stmt.{Stmt}
 use Rattle.lt_batch.specs.declared.leaf.LeafTally.{LeafTally}
 use Rattle.lt_batch.specs.Batch.{program_at}
-use Rattle.lt_batch.specs.Early.{AreEarly, early_at}
+use Rattle.lt_batch.specs.Early.{AreEarly, early_of}
 use Rattle.lt_batch.specs.LeafRun.{IsRunOn}
 
 -- the run of a program on the snapshot, if it was made
@@ -31,6 +31,6 @@ early_more s programs all x n program are long is one = λ i. elim (cases_lt i n
     | inr le ↦
         let here : i ≡ length all = omega (arith, ge, le, long) in
         let own : IsEarly s (program_at programs (length all)) x = subst (λ (p : List Stmt). IsEarly s p x) (sym (ap (program_at programs) long ∙ is)) one in
-        subst (λ j. IsEarly s (program_at programs j) (early_at (all ++ x ∷ []) j)) (sym here) (subst (IsEarly s (program_at programs (length all))) (sym (get_or-append_seam all x [] None)) own)
+        subst (λ j. IsEarly s (program_at programs j) (early_of (all ++ x ∷ []) j)) (sym here) (subst (IsEarly s (program_at programs (length all))) (sym (get_or-append_seam all x [] None)) own)
   ]
 ]

@@ -11,11 +11,10 @@ use Rattle.lt_base.specs.Tables.{state_of}
 use Rattle.lt_program.specs.Tally.{ends_at}
 use Rattle.lt_restate.specs.Touches.{cost_again}
 use Rattle.lt_batch.specs.declared.leaf.LeafTally.{LeafTally}
-use Rattle.lt_batch.specs.Batch.{program_at}
 use Rattle.lt_batch.specs.Early.{early_at}
 use Rattle.lt_batch.specs.LeafRun.{IsRunOn, StandsFor}
-use Rattle.lt_batch.specs.Priors.{IsPriorOf, IsRestatedFrom, helper, is_unlaid, run_bound, leaf_bound}
-use Rattle.lt_batch.specs.Work.{BatchView, FitsBatch, marks_for}
+use Rattle.lt_batch.specs.Priors.{IsPriorOf, helper, is_unlaid, run_bound, leaf_bound}
+use Rattle.lt_batch.specs.Work.{BatchView, FitsBatch, leaf_program, marks_for}
 use Rattle.lt_batch.proofs.Runs.{fits_for}
 
 -- ---- what is read of tallies
@@ -46,12 +45,12 @@ moves_again old program snapshot on b is so = ap (λ (x : Bool). if x then 0 els
 
 -- ---- the helper of a leaf
 
-module _ (early : List (Option LeafTally)) (prior help : Option (Bor LeafTally)) (i : ℕ) (is : seen help ≡ helper early (seen prior) i) where
+module _ (early : Option LeafTally) (prior help : Option (Bor LeafTally)) (is : seen help ≡ helper early (seen prior)) where
   -- what is so of a prior and of an early run is so of the helper
-  helped : (P : LeafTally → Type 0) → IfSome (early_at early i) P → IfSome prior (λ (old : Bor LeafTally). P old.now) → IfSome help (λ (old : Bor LeafTally). P old.now)
+  helped : (P : LeafTally → Type 0) → IfSome early P → IfSome prior (λ (old : Bor LeafTally). P old.now) → IfSome help (λ (old : Bor LeafTally). P old.now)
   helped P own old = read P help (subst (λ (o : Option LeafTally). IfSome o P) (sym is) (of prior old))
     where
-      of : (p : Option (Bor LeafTally)) → IfSome p (λ (old : Bor LeafTally). P old.now) → IfSome (helper early (seen p) i) P
+      of : (p : Option (Bor LeafTally)) → IfSome p (λ (old : Bor LeafTally). P old.now) → IfSome (helper early (seen p)) P
       of None h = own
       of (Some old) h = h
 
@@ -59,37 +58,37 @@ module _ (early : List (Option LeafTally)) (prior help : Option (Bor LeafTally))
   pub of_prior : (P : LeafTally → Type 0) → IfSome help (λ (old : Bor LeafTally). P old.now) → IfSome prior (λ (old : Bor LeafTally). P old.now)
   of_prior P h = of prior (subst (λ (o : Option LeafTally). IfSome o P) is (told P help h))
     where
-      of : (p : Option (Bor LeafTally)) → IfSome (helper early (seen p) i) P → IfSome p (λ (old : Bor LeafTally). P old.now)
+      of : (p : Option (Bor LeafTally)) → IfSome (helper early (seen p)) P → IfSome p (λ (old : Bor LeafTally). P old.now)
       of None g = tt
       of (Some old) g = g
 
-  pub of_early : (P : LeafTally → Type 0) → IfSome help (λ (old : Bor LeafTally). P old.now) → seen prior ≡ None → IfSome (early_at early i) P
-  of_early P h none = subst (λ (p : Option LeafTally). IfSome (helper early p i) P) none (subst (λ (o : Option LeafTally). IfSome o P) is (told P help h))
+  pub of_early : (P : LeafTally → Type 0) → IfSome help (λ (old : Bor LeafTally). P old.now) → seen prior ≡ None → IfSome early P
+  of_early P h none = subst (λ (p : Option LeafTally). IfSome (helper early p) P) none (subst (λ (o : Option LeafTally). IfSome o P) is (told P help h))
 
   -- the helper is a run of the leaf's program
-  pub helper_is : (work : BatchView) (program : List Stmt) → program_at work.programs i ≡ program → IfSome (early_at early i) (IsRunOn program (state_of work.snapshot) [])
-      → IfSome prior (λ (old : Bor LeafTally). (c : Marks) × FitsBatch work c × StandsFor work old.now i c) → IfSome help (λ (old : Bor LeafTally). IsPriorOf program (state_of work.snapshot) old.now)
-  helper_is work program program_is own old =
+  pub helper_is : (work : BatchView) (leaf : ℕ) (program : List Stmt) → leaf_program work leaf ≡ program → IfSome early (IsRunOn program (state_of work.snapshot) [])
+      → IfSome prior (λ (old : Bor LeafTally). (c : Marks) × FitsBatch work c × StandsFor work old.now leaf c) → IfSome help (λ (old : Bor LeafTally). IsPriorOf program (state_of work.snapshot) old.now)
+  helper_is work leaf program program_is own old =
       helped (IsPriorOf program (state_of work.snapshot))
-      (weaker (IsRunOn program (state_of work.snapshot) []) (IsPriorOf program (state_of work.snapshot)) (early_at early i) (λ tally run. ([], tt, run)) own)
+      (weaker (IsRunOn program (state_of work.snapshot) []) (IsPriorOf program (state_of work.snapshot)) early (λ tally run. ([], tt, run)) own)
       (each prior old)
     where
-      each : (p : Option (Bor LeafTally)) → IfSome p (λ (old : Bor LeafTally). (c : Marks) × FitsBatch work c × StandsFor work old.now i c) → IfSome p (λ (old : Bor LeafTally). IsPriorOf program (state_of work.snapshot) old.now)
+      each : (p : Option (Bor LeafTally)) → IfSome p (λ (old : Bor LeafTally). (c : Marks) × FitsBatch work c × StandsFor work old.now leaf c) → IfSome p (λ (old : Bor LeafTally). IsPriorOf program (state_of work.snapshot) old.now)
       each None h = tt
       each (Some old) h =
           subst (λ (p : List Stmt). IsPriorOf p (state_of work.snapshot) old.now) program_is
-          (marks_for (program_at work.programs i) h.0, fits_for (program_at work.programs i) (state_of work.snapshot) h.0 h.1.0, h.2.ran)
+          (marks_for (leaf_program work leaf) h.0, fits_for (leaf_program work leaf) (state_of work.snapshot) h.0 h.1.0, h.2.ran)
 
 -- ---- what a leaf tells of its run
 
-module _ (work : BatchView) (i : ℕ) (program : List Stmt) (is : program_at work.programs i ≡ program) (laid_on on : Marks) (on_is : laid_on ≡ marks_for program on) where
-  pub bound_is : (prior help : Option LeafTally) (m n : ℕ) → help ≡ helper work.early prior i → n ≤ m + run_bound help program (state_of work.snapshot) laid_on → IfSome (leaf_bound work prior i on) (λ most. n ≤ m + most)
+module _ (work : BatchView) (leaf : ℕ) (program : List Stmt) (is : leaf_program work leaf ≡ program) (laid_on on : Marks) (on_is : laid_on ≡ marks_for program on) where
+  pub bound_is : (prior help : Option LeafTally) (m n : ℕ) → help ≡ helper (early_at work.early leaf) prior → n ≤ m + run_bound help program (state_of work.snapshot) laid_on → IfSome (leaf_bound work prior leaf on) (λ most. n ≤ m + most)
   bound_is prior help m n help_is h =
-      subst (λ (p : List Stmt). n ≤ m + run_bound (helper work.early prior i) p (state_of work.snapshot) (marks_for p on)) (sym is)
-      (subst (λ (c : Marks). n ≤ m + run_bound (helper work.early prior i) program (state_of work.snapshot) c) on_is
+      subst (λ (p : List Stmt). n ≤ m + run_bound (helper (early_at work.early leaf) prior) p (state_of work.snapshot) (marks_for p on)) (sym is)
+      (subst (λ (c : Marks). n ≤ m + run_bound (helper (early_at work.early leaf) prior) program (state_of work.snapshot) c) on_is
       (subst (λ (o : Option LeafTally). n ≤ m + run_bound o program (state_of work.snapshot) laid_on) help_is h))
 
-  pub stands_is : (tally : LeafTally) → run program (laid (state_of work.snapshot) laid_on) ≡ run program (laid (state_of work.snapshot) on) → IsRunOn program (state_of work.snapshot) laid_on tally → StandsFor work tally i on
+  pub stands_is : (tally : LeafTally) → run program (laid (state_of work.snapshot) laid_on) ≡ run program (laid (state_of work.snapshot) on) → IsRunOn program (state_of work.snapshot) laid_on tally → StandsFor work tally leaf on
   stands_is tally runs h = (let all = subst Stands (sym is) here in record { ran = all.0; reply = all.1; marks = all.2 })
     where
       Stands : List Stmt → Type 0

@@ -3,13 +3,13 @@ pub mod FittingRuns
 pub mod InOrder
 pub mod SpanLists
 pub mod LineLists
-pub mod LineLeaves
+pub mod Leaves
 pub mod LineInOrder
 pub mod LineRuns
 pub mod LineOpened
 pub mod Indexed
-pub mod Leaves
 pub mod Runs
+pub mod LeafPlaces
 pub mod Helpers
 pub mod Crossing
 pub mod EarlyRuns

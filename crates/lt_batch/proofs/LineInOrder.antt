@@ -19,13 +19,12 @@ use Rattle.lt_net.specs.Tree.{leaf_value, then_all}
 use Rattle.lt_workers.specs.Given.{roots}
 use Rattle.lt_batch.specs.Batch.{serial_effects, serial_state, program_at, run_at, does_at, first_of}
 use Rattle.lt_batch.specs.Line.{batch_at, line_does, line_effects, line_marks, line_states, state_before, states_by, whole_effect}
-use Rattle.lt_batch.specs.LineWork.{AreLineRunnable}
-use Rattle.lt_batch.specs.Work.{IsSnapshot, AreRunnable}
+use Rattle.lt_batch.specs.Work.{AreLineRunnable, AreRunnable, IsSnapshot}
 use Rattle.lt_batch.proofs.FittingRuns.{rises, run_fits_snapshot}
 use Rattle.lt_batch.proofs.Gone.{effects_long}
 use Rattle.lt_batch.proofs.InOrder.{each_leaf, leaves_from, ran_all, ran_leaves, then_all_ascends, RanFirst}
 use Rattle.lt_batch.proofs.Leaves.{fits_laid}
-use Rattle.lt_batch.proofs.LineLists.{does_in, each_batch, effects_at, marks_at, marks_long, state_more, then_all_same}
+use Rattle.lt_batch.proofs.LineLists.{batch_small, does_in, each_batch, effects_at, marks_at, marks_long, state_more, then_all_same}
 use Rattle.lt_batch.proofs.Widths.{widths-laid}
 
 -- ---- states with marks laid on them
@@ -102,10 +101,7 @@ module _ (batches : List (List (List Stmt))) (snapshot : State) (can : AreLineRu
   fit_at s = each_batch (AllByRecursion (Fits snapshot)) batches s can.fit tt
 
   small : (s i : ℕ) → i < size_in sizes s → i < 256
-  small s i below =
-      let most : length (batch_at batches s) ≤ 256 = each_batch (λ programs. length programs ≤ 256) batches s few (omega arith) in
-      let is = same s in
-      omega (arith, below, most, is)
+  small s i below = batch_small batches s i few (subst (λ n. i < n) (same s) below)
 
   pub can_before : (s : ℕ) → IsBefore batches snapshot s (before s) → AreRunnable (laid snapshot (before s)) (batch_at batches s)
   can_before s h = runnable_laid snapshot (before s) (batch_at batches s) can.snapshot h.fits (fit_at s)

@@ -22,20 +22,20 @@ part_short span xs i below =
 
 module _ {X : Type 0} where
   -- what stands at a place of a part stands at its place in the list
-  pub part_at : (spans : List Span) (xs : List X) (s i : ℕ) (d : X) → i < length (get_or (parted spans xs) s []) → get_or xs ((get_or spans s no_span).start + i) d ≡ get_or (get_or (parted spans xs) s []) i d
+  pub part_at : (spans : List Span) (xs : List X) (s i : ℕ) (d : X) → i < (get_or spans s no_span).count → get_or xs ((get_or spans s no_span).start + i) d ≡ get_or (get_or (parted spans xs) s []) i d
   part_at [] xs s i d below = absurd (omega arith)
-  part_at (span ∷ spans) xs zero i d below =
-      let short = part_short span xs i below in
-      sym (get_or-take span.count (drop span.start xs) i d short.0 ∙ get_or-drop span.start xs i d)
+  part_at (span ∷ spans) xs zero i d below = sym (get_or-take span.count (drop span.start xs) i d below ∙ get_or-drop span.start xs i d)
   part_at (span ∷ spans) xs (suc s) i d below = part_at spans xs s i d below
 
   -- and there is one
-  pub part_inside : (spans : List Span) (xs : List X) (s i : ℕ) → i < length (get_or (parted spans xs) s []) → (s < length spans) × ((get_or spans s no_span).start + i < length xs)
+  pub part_inside : (spans : List Span) (xs : List X) (s i : ℕ) → i < length (get_or (parted spans xs) s []) → (s < length spans) × (i < (get_or spans s no_span).count) × ((get_or spans s no_span).start + i < length xs)
   part_inside [] xs s i below = absurd (omega arith)
-  part_inside (span ∷ spans) xs zero i below = (omega arith, (part_short span xs i below).1)
+  part_inside (span ∷ spans) xs zero i below =
+      let short = part_short span xs i below in
+      (omega arith, short.0, short.1)
   part_inside (span ∷ spans) xs (suc s) i below =
       let there = part_inside spans xs s i below in
-      (omega (arith, there.0), there.1)
+      (omega (arith, there.0), there.1, there.2)
 
   -- one part more, of all that comes behind the list
   pub parts_more : (spans : List Span) (xs ys : List X) (last : Span) → AreWithin spans (length xs) → last.start ≡ length xs → last.count ≡ length ys → parted (spans ++ last ∷ []) (xs ++ ys) ≡ parted spans xs ++ ys ∷ []
@@ -67,6 +67,10 @@ within_at (span ∷ spans) zero n within =
     let here = within.0 in
     omega (arith, here)
 within_at (span ∷ spans) (suc s) n within = within_at spans s n within.1
+
+-- all of a list as its one part
+pub parted_alone : {X : Type 0} (xs ys : List X) (n : ℕ) → xs ≡ ys → n ≡ length ys → parted (record { start = 0; count = n } ∷ []) xs ≡ ys ∷ []
+parted_alone xs ys n same long = ap (λ zs. take n zs ∷ []) same ∙ ap (λ k. take k ys ∷ []) long ∙ ap (λ zs. zs ∷ []) (take-length ys)
 
 -- ---- batches laid out in one list
 

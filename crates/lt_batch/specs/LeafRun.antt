@@ -7,8 +7,7 @@ use Rattle.lt_model.specs.Run.{run as run_of}
 use Rattle.lt_base.specs.Tables.{state_of}
 use Rattle.lt_program.specs.Tally.{TallyView, IsRun, has_ended}
 use Rattle.lt_batch.specs.declared.leaf.LeafTally.{LeafTally}
-use Rattle.lt_batch.specs.Batch.{program_at, run_at}
-use Rattle.lt_batch.specs.Work.{BatchView, marks_for}
+use Rattle.lt_batch.specs.Work.{BatchView, leaf_program, leaf_run, marks_for}
 
 -- the whole run of the program on the snapshot with these marks laid on it
 pub record IsTallyOn (prog : List Stmt) (snapshot : State) (on : Marks) (run : TallyView) : Type 0 where
@@ -24,9 +23,9 @@ pub record IsRunOn (prog : List Stmt) (snapshot : State) (on : Marks) (tally : L
   pub run : IsTallyOn prog snapshot on tally.run
   pub same_on : tally.on ≡ on
 
--- What program i answers and writes on the snapshot with the correction laid on it. The tally is of the run there; a program that
+-- What the leaf's program answers and writes on the snapshot with the correction laid on it. The tally is of the run there; a program that
 -- reads no relation that the correction has a mark on is as well run on the snapshot itself.
-pub record StandsFor (work : BatchView) (tally : LeafTally) (i : ℕ) (on : Marks) : Type 0 where
-  pub ran : IsRunOn (program_at work.programs i) (state_of work.snapshot) (marks_for (program_at work.programs i) on) tally
-  pub reply : tally.run.reply ≡ (run_at work.programs (state_of work.snapshot) i on).0
-  pub marks : tally.run.marks ≡ (run_at work.programs (state_of work.snapshot) i on).1
+pub record StandsFor (work : BatchView) (tally : LeafTally) (leaf : ℕ) (on : Marks) : Type 0 where
+  pub ran : IsRunOn (leaf_program work leaf) (state_of work.snapshot) (marks_for (leaf_program work leaf) on) tally
+  pub reply : tally.run.reply ≡ (leaf_run work leaf on).0
+  pub marks : tally.run.marks ≡ (leaf_run work leaf on).1

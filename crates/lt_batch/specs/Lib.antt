@@ -1,10 +1,9 @@
 pub mod Batch
+pub mod Line
 pub mod Work
 pub mod LeafRun
-pub mod Early
-pub mod Line
 pub mod Spans
-pub mod LineWork
+pub mod Early
 pub mod LineRun
 pub mod Priors
 pub mod Replaying

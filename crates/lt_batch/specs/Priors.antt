@@ -9,10 +9,9 @@ use Rattle.lt_program.specs.Tally.{TallyView, cost_of_first, ends_at}
 use Rattle.lt_restate.specs.declared.touch.Touch.{Touch}
 use Rattle.lt_restate.specs.Touches.{AreTouches, cost_again}
 use Rattle.lt_batch.specs.declared.leaf.LeafTally.{LeafTally}
-use Rattle.lt_batch.specs.Batch.{program_at}
 use Rattle.lt_batch.specs.Early.{early_at}
 use Rattle.lt_batch.specs.LeafRun.{IsRunOn}
-use Rattle.lt_batch.specs.Work.{BatchView, marks_for}
+use Rattle.lt_batch.specs.Work.{BatchView, leaf_program, marks_for}
 
 -- a whole run of the program on the snapshot, with some marks laid on it that fit it
 abbrev pub IsPriorOf : List Stmt → State → LeafTally → Type 0
@@ -27,9 +26,9 @@ abbrev pub IsRestatedFrom : LeafTally → LeafTally → Type 0
 IsRestatedFrom old new = IsRestated old.run new.run
 
 -- the tally that a leaf restates: its prior, and without one its early run, if there is one
-abbrev pub helper : List (Option LeafTally) → Option LeafTally → ℕ → Option LeafTally
-helper early None i = early_at early i
-helper early (Some old) i = Some old
+abbrev pub helper : (early prior : Option LeafTally) → Option LeafTally
+helper early None = early
+helper early (Some old) = Some old
 
 -- no mark is laid
 abbrev pub is_unlaid : Marks → Bool
@@ -45,5 +44,5 @@ run_bound (Some old) program snapshot on =
 
 -- the moves that the leaf takes at most
 abbrev pub leaf_bound : BatchView → Option LeafTally → ℕ → Marks → Option ℕ
-leaf_bound work prior i on =
-    Some (run_bound (helper work.early prior i) (program_at work.programs i) (state_of work.snapshot) (marks_for (program_at work.programs i) on))
+leaf_bound work prior leaf on =
+    Some (run_bound (helper (early_at work.early leaf) prior) (leaf_program work leaf) (state_of work.snapshot) (marks_for (leaf_program work leaf) on))

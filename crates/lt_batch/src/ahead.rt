@@ -176,30 +176,26 @@ fn placed(
     Ok(all)
 }
 
-/// Runs these programs on the database, by so many workers, each in a thread of its own where there can be one.
+/// Runs these programs on the database, by so many threads, where there can be these.
 pub(crate) fn run_ahead<R: Threads + Sync>(
     rt: &R,
     alloc: Global,
     progs: &[Arc<Planned>],
     tasks: &[Task],
     db: &Database,
-    workers: u32,
+    threads: usize,
 ) -> Result<Vec<Option<Ahead>>, NoMemory>
     requires fit { AllByRecursion (Fits (state_of db.now)) (map arc_value progs.now) }
     requires indexes { AllByRecursion (HasIndexes db.now) (map arc_value progs.now) }
     ensures long { IfOk result (λ all. length all.items ≡ length progs.now) }
     ensures ahead { IfOk result (λ all. AreAhead (map arc_value progs.now) (state_of db.now) [] 0 all.items) }
 {
-    if tasks.is_empty() {
-        let none = no_runs(alloc, progs.len())?;
-        return Ok(none);
-    }
     let next = AtomicU64::new(0);
-    let taken = |_worker: usize| -> Result<Vec<Ahead>, NoMemory>
+    let taken = |_thread: usize| -> Result<Vec<Ahead>, NoMemory>
         requires { AllByRecursion (Fits (state_of db.now)) (map arc_value progs.now) × AllByRecursion (HasIndexes db.now) (map arc_value progs.now) }
         ensures { AreInPlace (map arc_value progs.entry.now) (state_of db.entry.now) result }
     { take_tasks(alloc, progs, tasks, db, &next) };
-    let lists = map_indices(rt, alloc, workers as usize, &taken)?;
+    let lists = map_indices(rt, alloc, threads, &taken)?;
     placed(alloc, progs.len(), lists)
 }
 

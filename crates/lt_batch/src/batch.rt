@@ -1,11 +1,11 @@
 //! The run of a batch.
-ghost use Rattle.std.specs.Prelude.{◌≡◌, ◌<◌, ◌≤◌, ℕ, map, length, slice_index_or, [], IfOk};
+ghost use Rattle.std.specs.Prelude.{◌≡◌, ◌<◌, ◌≤◌, ℕ, map, length, slice_index_or, [], ◌∷◌, IfOk};
 ghost use Rattle.std.specs.Arc.{arc_value};
 ghost use Rattle.std.specs.List.{AllByRecursion};
 ghost use Rattle.lt_face.specs.Limits.{most_programs, most_workers};
 ghost use Rattle.lt_model.specs.Fits.{IsWide, Fits, FitMarks};
 ghost use Rattle.lt_base.specs.Tables.{state_of};
-ghost use Rattle.lt_circuit.specs.Circuit.{state, IsReplay};
+ghost use Rattle.lt_circuit.specs.Circuit.{state, AreOfWorkers, IsReplay};
 ghost use Rattle.lt_net.specs.Net.{IsSettled};
 ghost use Rattle.lt_net.specs.Tree.{leaf_value};
 ghost use Rattle.lt_program.specs.Run.{AreReplied};
@@ -39,11 +39,13 @@ fn settled<R: Threads + Wait + Sync, G: Gate>(
     requires fit { AllByRecursion (Fits (state_of db.now)) (map arc_value progs.now) }
     ensures work { IfOk result (λ out. out.1.work ≡ arc_value out.0) }
     ensures programs { IfOk result (λ out. out.1.work.programs ≡ map arc_value progs.now) }
+    ensures batches { IfOk result (λ out. out.1.work.batches ≡ map arc_value progs.now ∷ []) }
     ensures snapshot { IfOk result (λ out. state_of out.1.work.snapshot ≡ state_of db.now) }
     ensures runnable { IfOk result (λ out. AreRunnable (state_of out.1.work.snapshot) out.1.work.programs) }
     ensures settled { IfOk result (λ out. IsSettled (state out.1)) }
     ensures leaves { IfOk result (λ out. out.1.board.leaves ≡ length progs.now) }
     ensures journal { IfOk result (λ out. IsReplay (does_at (map arc_value progs.now) (state_of db.now)) out.1.board out.1.journal) }
+    ensures workers { IfOk result (λ out. AreOfWorkers out.1.journal) }
 {
     let work = BatchWork::new(rt, alloc, db, progs)?;
     let work = work.begin_early(rt, alloc, workers)?;
@@ -77,11 +79,13 @@ pub fn run_batch<R: Threads + Wait + Sync, G: Gate>(
     ensures effects { IfOk result (λ out. out.effects ≡ serial_effects (map arc_value progs.now) (state_of db.now)) }
     ensures state { IfOk result (λ out. state_of out.db ≡ serial_state (map arc_value progs.now) (state_of db.now)) }
     ensures programs { IfOk result (λ out. out.circuit.work.programs ≡ map arc_value progs.now) }
+    ensures batches { IfOk result (λ out. out.circuit.work.batches ≡ map arc_value progs.now ∷ []) }
     ensures snapshot { IfOk result (λ out. state_of out.circuit.work.snapshot ≡ state_of db.now) }
     ensures settled { IfOk result (λ out. IsSettled (state out.circuit)) }
     ensures leaves { IfOk result (λ out. out.circuit.board.leaves ≡ length progs.now) }
     ensures circuit { IfOk result (λ out. (i : ℕ) → i < length progs.now → leaf_value out.circuit.board.leaves (state out.circuit) i ≡ slice_index_or out.effects i []) }
     ensures journal { IfOk result (λ out. IsReplay (does_at (map arc_value progs.now) (state_of db.now)) out.circuit.board out.circuit.journal) }
+    ensures workers { IfOk result (λ out. AreOfWorkers out.circuit.journal) }
     ensures fit { IfOk result (λ out. AllByRecursion (FitMarks (state_of db.now)) out.effects) }
     ensures widths { IfOk result (λ out. (relation width : ℕ) → IsWide (state_of db.now) relation width → IsWide (state_of out.db) relation width) }
     ensures printed { IfOk result (λ out. AllByRecursion AreReplied out.replies) }

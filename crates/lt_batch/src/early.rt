@@ -1,4 +1,4 @@
-//! Runs of programs on the snapshot that all workers make together, before a circuit starts.
+//! Runs of programs on the snapshot that all workers make together, before a circuit or a line starts.
 ghost use Rattle.std.specs.Prelude.{◌≡◌, ◌≤◌, [], None, map, IfOk, IfSome};
 ghost use Rattle.std.specs.Arc.{arc_value};
 ghost use Rattle.std.specs.List.{AllByRecursion};
@@ -7,7 +7,7 @@ ghost use Rattle.lt_face.specs.Limits.{most_workers};
 ghost use Rattle.lt_model.specs.Fits.{Fits};
 ghost use Rattle.lt_base.specs.Tables.{state_of};
 ghost use Rattle.lt_program.specs.Tally.{HasIndexes};
-ghost use Rattle.lt_batch.specs.Early.{AreEarly, early_at};
+ghost use Rattle.lt_batch.specs.Early.{AreEarly, early_of};
 ghost use Rattle.lt_batch.specs.LeafRun.{IsRunOn};
 ghost use Rattle.lt_batch.specs.Priors.{helper};
 ghost use Rattle.lt_batch.specs.Work.{AreRunnable};
@@ -80,7 +80,7 @@ pub(crate) fn all_early<R: Threads + Wait + Sync>(
 
 /// The early run at the place, if there is one.
 fn early_in(early: &Vec<Option<LeafTally>>, place: usize) -> Option<&LeafTally>
-    ensures { option_map (λ run. run.now) result ≡ early_at early.now.items place }
+    ensures { option_map (λ run. run.now) result ≡ early_of early.now.items place }
 {
     if place >= early.len() {
         return None;
@@ -94,7 +94,7 @@ pub(crate) fn helper_in<'a>(
     prior: Option<&'a LeafTally>,
     place: usize,
 ) -> Option<&'a LeafTally>
-    ensures { option_map (λ old. old.now) result ≡ helper early.now.items (option_map (λ old. old.now) prior.entry) place }
+    ensures { option_map (λ old. old.now) result ≡ helper (early_of early.now.items place) (option_map (λ old. old.now) prior.entry) }
 {
     match prior {
         None => early_in(early, place),

@@ -12,11 +12,11 @@ ghost use Rattle.lt_program.specs.Tally.{HasIndexes};
 ghost use Rattle.lt_batch.specs.Batch.{serial_replies, serial_effects, serial_state};
 ghost use Rattle.lt_batch.specs.Folding.{AreAhead, HasGone, HasRun, IsAlike, IsEarly, IsRanOn};
 
-use crate::ahead::{Ahead, Early, Task, corrected, let_go, run_ahead};
+use crate::ahead::{Ahead, Early, corrected, let_go, run_ahead};
 use crate::batch::run_batch;
 use crate::outcome::{Effects, Outcome, Replies};
 use crate::pace::Pace;
-use crate::ties::{Ties, ties_of};
+use crate::round::Round;
 use lt_base::Database;
 use lt_delta::Marks;
 use lt_edges::Gate;
@@ -28,9 +28,6 @@ use lt_query::Planned;
 use std::alloc::Global;
 use std::sync::{Arc, Wait};
 use std::thread::Threads;
-
-/// A kept run takes several times the time of another, so that it pays from so many workers on.
-const KEEPERS: u32 = 16;
 
 /// What a batch answered and wrote, and the database that it left.
 #[derive(Drop)]
@@ -132,7 +129,7 @@ impl Fold {
         Ok(ran)
     }
 
-    /// Runs the next program, its long joins by all workers together.
+    /// Runs the next program, its long joins by all workers together, or by as many as there are processors.
     fn go_on_by_parts<R: Threads + Wait + Sync>(
         &mut self,
         rt: &R,
@@ -146,7 +143,8 @@ impl Fold {
     {
         let mut moves: Moves<()> = Moves::new();
         let keeps = self.keeps;
-        let ran = run_split_in_place(rt, prog, &mut self.db, keeps, workers, &mut moves)?;
+        let parts = self.pace.at_most(rt, workers);
+        let ran = run_split_in_place(rt, prog, &mut self.db, keeps, parts, &mut moves)?;
         Ok(ran)
     }
 
@@ -183,14 +181,14 @@ impl Fold {
         match early {
             Early::Ran(ran) => {
                 self.pace.count(moves, ran.marks.len());
-                self.pace.note();
+                self.pace.note(moves, ran.marks.len());
                 self.take(prog, ran)
             }
             Early::Kept(tally) => {
                 let (ran, stood) = corrected(alloc, prog, &self.db, tally, since)?;
                 self.pace.count(moves, ran.marks.len());
                 if stood {
-                    self.pace.note();
+                    self.pace.note(moves, ran.marks.len());
                 }
                 self.take(prog, ran)
             }
@@ -222,57 +220,22 @@ impl Fold {
         Ok(())
     }
 
-    /// What is run ahead of the next programs, on the database so far.
-    fn ran_ahead<R: Threads + Wait + Sync>(
-        &self,
-        rt: &R,
-        alloc: Global,
-        round: &[Arc<Planned>],
-        workers: u32,
-    ) -> Result<Vec<Option<Ahead>>, NoMemory>
-        requires fit { AllByRecursion (Fits (state_of self.now.db)) (map arc_value round.now) }
-        requires indexes { AllByRecursion (HasIndexes self.now.db) (map arc_value round.now) }
-        ensures long { IfOk result (λ all. length all.items ≡ length round.now) }
-        ensures ahead { IfOk result (λ all. AreAhead (map arc_value round.now) (state_of self.now.db) [] 0 all.items) }
-    {
-        let tasks = self.tasks(alloc, round, workers)?;
-        let all = run_ahead(rt, alloc, round, tasks.as_slice(), &self.db, workers)?;
-        Ok(all)
-    }
-
-    /// Which of the next programs are run ahead: those that none before them has a bearing on; and while runs mostly stand those that
-    /// read what is written before them by constants alone, and, where there are many workers, all others, whose runs are kept. None,
-    /// where that isn't worth a thread.
-    fn tasks(
-        &self,
-        alloc: Global,
-        round: &[Arc<Planned>],
-        workers: u32,
-    ) -> Result<Vec<Task>, NoMemory> {
-        let is_lucky = self.pace.is_lucky();
-        let mut tasks = tasks_of(alloc, round, is_lucky, is_lucky && workers >= KEEPERS)?;
-        if !self.pace.is_worth(tasks.len()) {
-            tasks.clear();
-        }
-        Ok(tasks)
-    }
-
-    /// The next programs, which are run ahead by all workers, and corrected in order.
+    /// The next programs, of which some are run ahead by several threads, and taken or corrected in order.
     fn go_on_together<R: Threads + Wait + Sync>(
         &mut self,
         rt: &R,
         alloc: Global,
         progs: &[Arc<Planned>],
-        workers: u32,
+        round: &Round,
     ) -> Result<(), NoMemory>
         requires { AllByRecursion (Fits (state_of self.old.db)) (map arc_value progs.now) }
         ensures { OnOk result (HasGone (map arc_value progs.now) self.old self.new) }
     {
         self.index_all(rt, progs)?;
-        let mut ahead = self.ran_ahead(rt, alloc, progs, workers)?;
-        let made = made(&ahead);
+        let tasks = round.tasks.as_slice();
+        let mut ahead = run_ahead(rt, alloc, progs, tasks, &self.db, round.threads)?;
         self.go_round(alloc, progs, &mut ahead)?;
-        self.pace.end_round(progs.len(), made);
+        self.pace.end_round(round);
         Ok(())
     }
 
@@ -328,11 +291,12 @@ impl Fold {
         ensures some { IfOk result (λ count. (1 ≤ count) × (count ≤ length progs.now)) }
         ensures gone { IfOk result (λ count. HasGone (map arc_value (take count progs.now)) self.old self.new) }
     {
-        let together = workers > 1 && self.pace.is_worth(progs.len());
+        let round = self.pace.next_round(rt, alloc, progs, workers)?;
+        let together = round.threads > 1;
         if together {
-            let count = progs.len().min(self.pace.next_round(workers));
-            let (round, _) = progs.split_at(count);
-            self.go_on_together(rt, alloc, round, workers)?;
+            let count = progs.len().min(round.count.max(1));
+            let (next, _) = progs.split_at(count);
+            self.go_on_together(rt, alloc, next, &round)?;
             return Ok(count);
         }
         let prog = &progs[0];
@@ -388,53 +352,11 @@ fn parts_for(programs: usize, workers: u32) -> u32
     1
 }
 
-/// How many runs were made.
-fn made(ahead: &[Option<Ahead>]) -> usize {
-    let mut count: usize = 0;
-    for one in ahead {
-        if one.is_some() {
-            count = count.saturating_add(1);
-        }
-    }
-    count
-}
-
-/// The programs to be run ahead: those that none before them has a bearing on; of the others, if asked for, those that read what is
-/// written before them by constants alone; and, if asked for, the rest, whose runs are kept.
-fn tasks_of(
-    alloc: Global,
-    progs: &[Arc<Planned>],
-    with_narrow: bool,
-    with_kept: bool,
-) -> Result<Vec<Task>, NoMemory> {
-    let ties = ties_of(alloc, progs)?;
-    let mut tasks = Vec::with_capacity(alloc, progs.len())?;
-    for place in 0..ties.len() {
-        let tie = ties[place];
-        if tie.is_free() || (with_narrow && is_narrow_at(progs, place, tie)) {
-            tasks.push(Task {
-                place,
-                keeps: false,
-            })?;
-        } else if with_kept {
-            tasks.push(Task { place, keeps: true })?;
-        }
-    }
-    Ok(tasks)
-}
-
-/// Whether the program at the place reads what is written before it by constants alone.
-fn is_narrow_at(progs: &[Arc<Planned>], place: usize, tie: Ties) -> bool {
-    if place >= progs.len() {
-        return false;
-    }
-    tie.is_narrow(progs[place].statements())
-}
-
 /// Runs the programs of a batch, one after another. The replies and the database left are those of the programs one after another, and
 /// so are the effects, where they are asked for.
 ///
-/// Where there are several workers and the programs show to be dear, the next ones are run ahead by all of them on the database so far.
+/// Where there are several workers and the programs show to be dear, some of the next ones are run ahead by several threads on the
+/// database so far.
 /// At its turn a run is corrected by what was written since: what no changed row touches stays. At a gate that may hold a worker until
 /// another comes they are run by a circuit. The pace is kept from batch to batch.
 pub fn fold_batch<R: Threads + Wait + Sync, G: Gate>(

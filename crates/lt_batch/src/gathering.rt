@@ -1,6 +1,7 @@
 //! What the leaves of a settled circuit answered and wrote.
-ghost use Rattle.std.specs.Prelude.{◌≡◌, ◌<◌, ℕ, [], length, slice_index_or, IfOk};
+ghost use Rattle.std.specs.Prelude.{◌≡◌, ◌<◌, ◌≤◌, ℕ, [], ◌∷◌, length, slice_index_or, IfOk};
 ghost use Rattle.std.specs.List.{AllByRecursion};
+ghost use Rattle.lt_face.specs.Limits.{most_programs};
 ghost use Rattle.lt_model.specs.Fits.{FitMarks};
 ghost use Rattle.lt_model.specs.Marks.{laid};
 ghost use Rattle.lt_base.specs.Tables.{state_of};
@@ -28,6 +29,8 @@ pub(crate) fn gathered(
 ) -> Result<(Replies, Effects), NoMemory>
     requires settled { IsSettled (state circuit.now) }
     requires leaves { leaves ≡ circuit.now.board.leaves }
+    requires few { leaves ≤ most_programs }
+    requires batch { circuit.now.work.batches ≡ circuit.now.work.programs ∷ [] }
     requires programs { circuit.now.board.leaves ≡ length circuit.now.work.programs }
     requires runnable { AreRunnable (state_of circuit.now.work.snapshot) circuit.now.work.programs }
     ensures replies { IfOk result (λ out. out.0 ≡ serial_replies circuit.now.work.programs (state_of circuit.now.work.snapshot)) }

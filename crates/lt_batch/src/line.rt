@@ -18,9 +18,9 @@ ghost use Rattle.lt_batch.specs.Line.{programs_of, last_state, line_does, line_e
 ghost use Rattle.lt_batch.specs.LineRun.{IsOverBatches};
 
 use crate::line_gathering::{gathered_line, left_by_line};
-use crate::line_work::LineWork;
 use crate::outcome::LineOutcome;
 use crate::spans::ProgList;
+use crate::work::BatchWork;
 use lt_base::Database;
 use lt_circuit::Line;
 use lt_edges::Gate;
@@ -44,16 +44,18 @@ fn sizes_of(alloc: Global, batches: &[ProgList]) -> Result<Vec<u32>, NoMemory>
 }
 
 /// The line over the batches at its opening, with the work that it does.
-fn opened_line<R: Threads + Sync>(
+fn opened_line<R: Threads + Wait + Sync>(
     rt: &R,
     alloc: Global,
     db: &Database,
     batches: &[ProgList],
     leaves: &[u32],
-) -> Result<(Arc<LineWork>, Line<LineWork>), NoMemory>
+    workers: u32,
+) -> Result<(Arc<BatchWork>, Line<BatchWork>), NoMemory>
     requires short { length batches.now ≤ most_segments }
     requires few { AllByRecursion (λ (programs : List (List Stmt)). length programs ≤ most_programs) (programs_of batches.now) }
     requires leaves { leaves.now ≡ map length (programs_of batches.now) }
+    requires workers { (1 ≤ workers) × (workers ≤ most_workers) }
     requires fit { AllByRecursion (AllByRecursion (Fits (state_of db.now))) (programs_of batches.now) }
     ensures work { IfOk result (λ out. out.1.work ≡ arc_value out.0) }
     ensures batches { IfOk result (λ out. out.1.work.batches ≡ programs_of batches.now) }
@@ -61,7 +63,8 @@ fn opened_line<R: Threads + Sync>(
     ensures over { IfOk result (λ out. IsOverBatches out.1.work (sizes out.1.row)) }
     ensures free { IfOk result (λ out. IsUnclaimed (line_state out.1)) }
 {
-    let work = LineWork::new(rt, alloc, db, batches)?;
+    let work = BatchWork::of_line(rt, alloc, db, batches)?;
+    let work = work.begin_early(rt, alloc, workers)?;
     let work = Arc::new(alloc, work)?;
     let line = Line::start(alloc, work.clone()?, leaves)?;
     Ok((work, line))
@@ -70,8 +73,8 @@ fn opened_line<R: Threads + Sync>(
 /// What the batches of a settled line gave.
 fn outcome_of(
     alloc: Global,
-    work: &LineWork,
-    line: Line<LineWork>,
+    work: &BatchWork,
+    line: Line<BatchWork>,
     leaves: &[u32],
 ) -> Result<LineOutcome, NoMemory>
     requires over { IsOverBatches line.work (sizes line.row) }
@@ -110,7 +113,8 @@ fn outcome_of(
 /// `on` is given what each batch wrote in all, in order, once no later event can change it. Laid one after another on the
 /// database these are the states that the batches left. After want of memory it was given those of the first few batches.
 ///
-/// So many workers do its jobs, each in a thread of its own. A worker passes `gate` before each of its jobs.
+/// So many workers do its jobs, each in a thread of its own. A worker passes `gate` before each of its jobs. Where the batches have
+/// fewer programs than there are workers, long joins are worked on before as those of one batch.
 pub fn run_line<R: Threads + Wait + Sync, G: Gate, O: OnFinal + Send>(
     rt: &R,
     alloc: Global,
@@ -146,7 +150,7 @@ pub fn run_line<R: Threads + Wait + Sync, G: Gate, O: OnFinal + Send>(
     db.look_over();
     front_is_final();
     let leaves = sizes_of(alloc, batches)?;
-    let (work, line) = opened_line(rt, alloc, db, batches, &leaves)?;
+    let (work, line) = opened_line(rt, alloc, db, batches, &leaves, workers)?;
     let done = settle_line(rt, alloc, line, workers, gate, on)?;
     let _entries = done.journal();
     let outcome = outcome_of(alloc, &work, done, &leaves)?;

@@ -8,8 +8,8 @@ ghost use Rattle.lt_batch.specs.Batch.{serial_replies, serial_effects};
 ghost use Rattle.lt_batch.specs.Line.{batch_at, line_effects, line_replies, state_before};
 ghost use Rattle.lt_batch.specs.LineRun.{IsRunBelow};
 
-use crate::line_work::LineWork;
 use crate::outcome::{Effects, LineEffects, LineReplies, Replies};
+use crate::work::BatchWork;
 use lt_base::Database;
 use lt_circuit::Line;
 use lt_face::items::Items;
@@ -20,7 +20,7 @@ use std::alloc::Global;
 /// The replies and the effects of the leaves of segment s.
 fn gathered_in(
     alloc: Global,
-    line: &Line<LineWork>,
+    line: &Line<BatchWork>,
     s: u32,
     leaves: u32,
 ) -> Result<(Replies, Effects), NoMemory>
@@ -45,7 +45,7 @@ fn gathered_in(
 /// The replies and the effects of all leaves, segment by segment.
 pub(crate) fn gathered_line(
     alloc: Global,
-    line: &Line<LineWork>,
+    line: &Line<BatchWork>,
     leaves: &[u32],
 ) -> Result<(LineReplies, LineEffects), NoMemory>
     requires line { IsRunBelow (length line.now.work.batches) line.now }
@@ -68,7 +68,7 @@ pub(crate) fn gathered_line(
 /// The snapshot with all that the leaves of a settled line wrote laid on it, which is the state that the batches leave.
 pub(crate) fn left_by_line(
     snapshot: &Database,
-    line: &Line<LineWork>,
+    line: &Line<BatchWork>,
     segments: u32,
 ) -> Result<Database, NoMemory>
     requires line { IsRunBelow (length line.now.work.batches) line.now }

@@ -1,5 +1,4 @@
 //! What a batch gives.
-use crate::line_work::LineWork;
 use crate::work::BatchWork;
 use lt_base::Database;
 use lt_circuit::{Circuit, Line};
@@ -34,5 +33,5 @@ pub struct LineOutcome {
     pub replies: LineReplies,
     pub effects: LineEffects,
     pub db: Database,
-    pub line: Line<LineWork>,
+    pub line: Line<BatchWork>,
 }

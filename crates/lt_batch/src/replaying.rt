@@ -1,18 +1,19 @@
 //! The replay of a journal that was written down.
-ghost use Rattle.std.specs.Prelude.{◌≡◌, ◌<◌, ◌≤◌, ℕ, [], map, length, slice_index_or, IfOk, IfErr};
+ghost use Rattle.std.specs.Prelude.{◌≡◌, ◌<◌, ◌≤◌, ℕ, List, [], ◌∷◌, map, length, slice_index_or, IfOk, IfErr};
 ghost use Rattle.std.specs.Arc.{arc_value};
 ghost use Rattle.std.specs.List.{AllByRecursion};
 ghost use Rattle.lt_face.specs.Limits.{most_programs};
 ghost use Rattle.lt_model.specs.Fits.{IsWide, Fits, FitMarks};
 ghost use Rattle.lt_base.specs.Tables.{state_of};
-ghost use Rattle.lt_circuit.specs.Circuit.{state, IsReplay};
+ghost use Rattle.lt_circuit.specs.Circuit.{state, AreOfWorkers, IsReplay};
 ghost use Rattle.lt_circuit.specs.Shape.{shape, shape_net};
-ghost use Rattle.lt_net.specs.Net.{IsSettled, opening};
+ghost use Rattle.lt_net.specs.Net.{Net, State, IsSettled, opening};
 ghost use Rattle.lt_net.specs.Tree.{leaf_value};
 ghost use Rattle.lt_program.specs.Run.{AreReplied};
 ghost use Rattle.lt_batch.specs.Batch.{serial_replies, serial_effects, serial_state, does_at};
 ghost use Rattle.lt_batch.specs.Work.{AreRunnable, batch_does};
-ghost use Rattle.lt_batch.specs.Replaying.{IsFault, batch_net, written_of};
+ghost use Rattle.lt_batch.specs.Replaying.{IsFault, LeadTo, batch_net, written_of};
+ghost use Rattle.lt_batch.specs.declared.replaying.Written.{Written as WrittenView};
 ghost use Rattle.lt_batch.specs.declared.replaying.ReplayFault.TheVariants.{Entry as EntryFault};
 
 use crate::entries::follow;
@@ -76,6 +77,11 @@ pub fn write_down<W: LeafWork>(alloc: Global, circuit: &Circuit<W>) -> Result<Jo
     Ok(entries)
 }
 
+/// Entries that lead to a settled state have no fault.
+pub fn settled_entries_are_faultless()
+    ensures { (net : Net) (entries : List WrittenView) (s : State) → LeadTo net entries s → IsSettled s → (e : ℕ) → IsFault net entries e → ⊥ }
+{}
+
 /// A new circuit over the programs, with the work that it does.
 fn opened<R: Threads + Sync>(
     rt: &R,
@@ -87,6 +93,7 @@ fn opened<R: Threads + Sync>(
     requires fit { AllByRecursion (Fits (state_of db.now)) (map arc_value progs.now) }
     ensures work { IfOk result (λ out. out.1.work ≡ arc_value out.0) }
     ensures programs { IfOk result (λ out. out.1.work.programs ≡ map arc_value progs.now) }
+    ensures batches { IfOk result (λ out. out.1.work.batches ≡ map arc_value progs.now ∷ []) }
     ensures snapshot { IfOk result (λ out. state_of out.1.work.snapshot ≡ state_of db.now) }
     ensures runnable { IfOk result (λ out. AreRunnable (state_of out.1.work.snapshot) out.1.work.programs) }
     ensures leaves { IfOk result (λ out. out.1.board.leaves ≡ length progs.now) }
@@ -111,11 +118,13 @@ fn followed<R: Threads + Sync>(
     requires fit { AllByRecursion (Fits (state_of db.now)) (map arc_value progs.now) }
     ensures work { IfOk result (λ out. out.1.work ≡ arc_value out.0) }
     ensures programs { IfOk result (λ out. out.1.work.programs ≡ map arc_value progs.now) }
+    ensures batches { IfOk result (λ out. out.1.work.batches ≡ map arc_value progs.now ∷ []) }
     ensures snapshot { IfOk result (λ out. state_of out.1.work.snapshot ≡ state_of db.now) }
     ensures runnable { IfOk result (λ out. AreRunnable (state_of out.1.work.snapshot) out.1.work.programs) }
     ensures settled { IfOk result (λ out. IsSettled (state out.1)) }
     ensures leaves { IfOk result (λ out. out.1.board.leaves ≡ length progs.now) }
     ensures journal { IfOk result (λ out. IsReplay (does_at (map arc_value progs.now) (state_of db.now)) out.1.board out.1.journal) }
+    ensures workers { IfOk result (λ out. AreOfWorkers out.1.journal) }
     ensures entries { IfOk result (λ out. map written_of out.1.journal ≡ entries.now) }
     ensures faultless { IfOk result (λ _. (e : ℕ) → IsFault (batch_net (map arc_value progs.now) (state_of db.now)) entries.now e → ⊥) }
     ensures fault { IfErr result (λ fault. (e : ℕ) → fault ≡ EntryFault e → IsFault (batch_net (map arc_value progs.now) (state_of db.now)) entries.now e) }
@@ -143,11 +152,13 @@ pub fn replay_batch<R: Threads + Sync>(
     ensures effects { IfOk result (λ out. out.effects ≡ serial_effects (map arc_value progs.now) (state_of db.now)) }
     ensures state { IfOk result (λ out. state_of out.db ≡ serial_state (map arc_value progs.now) (state_of db.now)) }
     ensures programs { IfOk result (λ out. out.circuit.work.programs ≡ map arc_value progs.now) }
+    ensures batches { IfOk result (λ out. out.circuit.work.batches ≡ map arc_value progs.now ∷ []) }
     ensures snapshot { IfOk result (λ out. state_of out.circuit.work.snapshot ≡ state_of db.now) }
     ensures settled { IfOk result (λ out. IsSettled (state out.circuit)) }
     ensures leaves { IfOk result (λ out. out.circuit.board.leaves ≡ length progs.now) }
     ensures circuit { IfOk result (λ out. (i : ℕ) → i < length progs.now → leaf_value out.circuit.board.leaves (state out.circuit) i ≡ slice_index_or out.effects i []) }
     ensures journal { IfOk result (λ out. IsReplay (does_at (map arc_value progs.now) (state_of db.now)) out.circuit.board out.circuit.journal) }
+    ensures workers { IfOk result (λ out. AreOfWorkers out.circuit.journal) }
     ensures entries { IfOk result (λ out. map written_of out.circuit.journal ≡ entries.now) }
     ensures fit { IfOk result (λ out. AllByRecursion (FitMarks (state_of db.now)) out.effects) }
     ensures widths { IfOk result (λ out. (relation width : ℕ) → IsWide (state_of db.now) relation width → IsWide (state_of out.db) relation width) }

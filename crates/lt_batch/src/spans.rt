@@ -1,5 +1,5 @@
 //! The programs of several batches in one list, and where those of each batch stand in it.
-ghost use Rattle.std.specs.Prelude.{◌≡◌, ◌<◌, ◌≤◌, ◌+◌, ◌/◌, ◌%◌, ◌++◌, List, map, length, slice_index_or, IfOk, IsTrue, OnOk};
+ghost use Rattle.std.specs.Prelude.{◌≡◌, ◌<◌, ◌≤◌, ◌+◌, ◌/◌, ◌%◌, ◌++◌, List, [], ◌∷◌, map, length, slice_index_or, IfOk, IsTrue, OnOk};
 ghost use Rattle.std.specs.Arc.{arc_value};
 ghost use Rattle.std.specs.List.{AllByRecursion, flat_map};
 ghost use Rattle.lt_face.specs.Limits.{most_programs};
@@ -44,7 +44,7 @@ pub(crate) fn place_of(spans: &[Span], leaf: u32) -> u32
 }
 
 /// Puts further owners of a batch's programs behind the others.
-pub(crate) fn push_all(all: &mut ProgList, batch: &[Arc<Planned>]) -> Result<(), NoMemory>
+fn push_all(all: &mut ProgList, batch: &[Arc<Planned>]) -> Result<(), NoMemory>
     ensures { OnOk result (map arc_value all.new.items ≡ map arc_value all.old.items ++ map arc_value batch.now) }
 {
     for prog in batch {
@@ -52,6 +52,24 @@ pub(crate) fn push_all(all: &mut ProgList, batch: &[Arc<Planned>]) -> Result<(),
         all.push(prog)?;
     }
     Ok(())
+}
+
+/// The programs of a batch that runs alone, and where they stand.
+pub(crate) fn laid_alone(
+    alloc: Global,
+    batch: &[Arc<Planned>],
+) -> Result<(ProgList, Vec<Span>), NoMemory>
+    requires few { length batch.now ≤ most_programs }
+    ensures all { IfOk result (λ out. map arc_value out.0.items ≡ map arc_value batch.now) }
+    ensures parted { IfOk result (λ out. parted out.1.items (map arc_value out.0.items) ≡ map arc_value batch.now ∷ []) }
+    ensures within { IfOk result (λ out. AreWithin out.1.items 2048) }
+{
+    let mut all = Vec::with_capacity(alloc, batch.len())?;
+    push_all(&mut all, batch)?;
+    let mut spans = Vec::with_capacity(alloc, 1)?;
+    let count = batch.len() as u32;
+    spans.push(Span { start: 0, count })?;
+    Ok((all, spans))
 }
 
 /// All programs, batch after batch, and where those of each batch stand.

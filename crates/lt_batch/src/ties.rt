@@ -3,7 +3,7 @@ use crate::leaf::LeafTally;
 use lt_delta::Marks;
 use lt_face::memory::NoMemory;
 use lt_model::mark::Mark;
-use lt_model::normal::{Atom, Stmt, Term};
+use lt_model::normal::{Atom, Stmt};
 use lt_program::{Found, Part, weight_of};
 use lt_query::{Planned, body_of};
 use std::alloc::Global;
@@ -25,23 +25,14 @@ impl Ties {
         self.reads & self.written == 0
     }
 
-    /// Whether the program, where it reads what programs before it write, reads it by constants alone.
-    pub(crate) fn is_narrow(self, prog: &[Stmt]) -> bool {
-        for stmt in prog {
-            if !is_narrow_in(stmt, self.written) {
-                return false;
-            }
-        }
-        true
-    }
-
     /// Whether the program reads a relation of this number, modulo 64.
     fn reads(self, relation: u32) -> bool {
         self.reads & bit(relation) != 0
     }
 }
 
-fn bit(relation: u32) -> u64 {
+/// The bit of a relation of this number.
+pub(crate) fn bit(relation: u32) -> u64 {
     1 << (relation % 64)
 }
 
@@ -72,50 +63,6 @@ fn displacing(stmt: &Stmt) -> u64 {
             bit(come.relation)
         }
         _plain => 0,
-    }
-}
-
-/// Whether one of the first terms is a constant.
-fn has_constant(terms: &[Term], count: usize) -> bool {
-    for i in 0..terms.len() {
-        if i < count && matches!(terms[i], Term::Cell(_)) {
-            return true;
-        }
-    }
-    false
-}
-
-/// Whether each of the atoms on these relations has a constant.
-fn are_narrow(atoms: &[Atom], relations: u64) -> bool {
-    for atom in atoms {
-        let terms = atom.terms.as_slice();
-        if relations & bit(atom.relation) != 0 && !has_constant(terms, terms.len()) {
-            return false;
-        }
-    }
-    true
-}
-
-/// The same of the key of a head, whose relation has value columns.
-fn is_narrow_head(head: &Atom, keys: u32, relations: u64) -> bool {
-    let terms = head.terms.as_slice();
-    relations & bit(head.relation) == 0
-        || keys as usize == terms.len()
-        || has_constant(terms, keys as usize)
-}
-
-/// Whether the statement reads these relations by constants alone.
-fn is_narrow_in(stmt: &Stmt, relations: u64) -> bool {
-    let body = body_of(stmt);
-    if !are_narrow(body.atoms.as_slice(), relations)
-        || !are_narrow(body.absents.as_slice(), relations)
-    {
-        return false;
-    }
-    match stmt {
-        Stmt::Insert { head, keys, .. } => is_narrow_head(head, *keys, relations),
-        Stmt::Replace { come, keys, .. } => is_narrow_head(come, *keys, relations),
-        _plain => true,
     }
 }
 

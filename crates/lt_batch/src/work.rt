@@ -1,6 +1,6 @@
-//! The work of a batch: its programs as the leaves of a circuit.
-ghost use Rattle.std.specs.Prelude.{◌≡◌, ◌<◌, ◌≤◌, ◌+◌, ◌&&◌, ℕ, [], None, map, length, IfOk, IfSome, IsTrue};
-ghost use Rattle.lt_face.specs.Limits.{most_workers};
+//! The work of batches: their programs as the leaves of a circuit, or of a line.
+ghost use Rattle.std.specs.Prelude.{◌≡◌, ◌<◌, ◌≤◌, ◌+◌, ◌*◌, ◌&&◌, ℕ, List, [], ◌∷◌, None, map, length, IfOk, IfSome, IsTrue};
+ghost use Rattle.lt_face.specs.Limits.{most_programs, most_workers};
 ghost use Rattle.lt_face.specs.State.{State};
 ghost use Rattle.std.specs.Arc.{arc_value};
 ghost use Rattle.std.specs.List.{AllByRecursion};
@@ -8,18 +8,22 @@ ghost use Rattle.std.specs.Option.{option_map};
 ghost use Rattle.lt_model.specs.Fits.{Fits, FitMarks};
 ghost use Rattle.lt_model.specs.Marks.{Marks as MarksView, laid};
 ghost use Rattle.lt_model.specs.Run.{run as run_of};
+ghost use Rattle.lt_model.specs.declared.normal.Stmt.{Stmt};
 ghost use Rattle.lt_base.specs.Tables.{state_of};
 ghost use Rattle.lt_program.specs.Tally.{HasIndexes, cost_of_first, ends_at};
 ghost use Rattle.lt_restate.specs.Touches.{cost_again};
+ghost use Rattle.lt_circuit.specs.Row.{most_segments};
 ghost use Rattle.lt_batch.specs.Early.{early_at};
 ghost use Rattle.lt_batch.specs.LeafRun.{IsTallyOn, IsRunOn, StandsFor};
+ghost use Rattle.lt_batch.specs.Line.{batch_at, programs_of};
 ghost use Rattle.lt_batch.specs.Priors.{IsPriorOf, IsRestated, IsRestatedFrom, is_unlaid, run_bound, leaf_bound};
-ghost use Rattle.lt_batch.specs.Work.{AreRunnable, FitsBatch, IsLeaf, marks_for};
+ghost use Rattle.lt_batch.specs.Spans.{parted, AreWithin};
+ghost use Rattle.lt_batch.specs.Work.{AreRunnable, FitsBatch, IsLeaf, IsSnapshot, marks_for};
 
 use crate::early::{all_early, helper_in};
 use crate::indexing::all_indexed;
 use crate::leaf::LeafTally;
-use crate::spans::{ProgList, push_all};
+use crate::spans::{ProgList, Span, has_segment, laid_alone, laid_out, place_of};
 use crate::ties::{Ties, is_tied, ties_of};
 use lt_base::Database;
 use lt_circuit::LeafWork;
@@ -34,11 +38,15 @@ use std::marker::Model;
 use std::sync::{Arc, Wait};
 use std::thread::Threads;
 
-/// The programs of a batch, and the snapshot that each of them starts on, with the indexes that they need.
+/// The programs of a batch, or of several that follow one another, and the snapshot that each of them starts on, with the indexes that
+/// they need. Leaf 256 * s + i is program i of batch s.
 #[derive(Drop)]
 pub struct BatchWork {
     snapshot: Database,
+    /// All programs, batch after batch.
     programs: ProgList,
+    /// Where those of each batch stand.
+    spans: Vec<Span>,
     /// The tallies of programs that were run on the snapshot before, by their places. Past the end there are none.
     early: Vec<Option<LeafTally>>,
     /// Of each program, which of those before it have a bearing on it. No clause speaks of it.
@@ -49,13 +57,14 @@ impl Model for BatchWork {
     ghost use Rattle.std.specs.Prelude.{map};
     ghost use Rattle.std.specs.Arc.{arc_value};
     ghost use Rattle.lt_batch.specs.Early.{IsBegun};
+    ghost use Rattle.lt_batch.specs.Spans.{parted};
     ghost use Rattle.lt_batch.specs.Work.{BatchView};
 
     ghost Value = { BatchView };
 
-    ghost view = { λ w. record { snapshot = w.snapshot; programs = map arc_value w.programs.items; early = w.early.items } };
+    ghost view = { λ w. record { snapshot = w.snapshot; programs = map arc_value w.programs.items; batches = parted w.spans.items (map arc_value w.programs.items); early = parted w.spans.items w.early.items } };
 
-    ghost invariant = { λ w. IsBegun w.snapshot (map arc_value w.programs.items) w.early.items };
+    ghost invariant = { λ w. IsBegun w.snapshot (map arc_value w.programs.items) w.early.items w.spans.items };
 }
 
 /// What of a correction is laid on the snapshot before a program: all of it, or nothing where the program reads no relation
@@ -173,38 +182,60 @@ fn tally_on<L>(
 }
 
 impl BatchWork {
-    /// The work of these programs on this snapshot. It makes the indexes that they need and the snapshot lacks.
+    /// The work of a batch of these programs on this snapshot. It makes the indexes that they need and the snapshot lacks.
     pub fn new<R: Threads + Sync>(
         rt: &R,
         alloc: Global,
         db: &Database,
         progs: &[Arc<Planned>],
     ) -> Result<BatchWork, NoMemory>
-        requires { AllByRecursion (Fits (state_of db.now)) (map arc_value progs.now) }
+        requires few { length progs.now ≤ most_programs }
+        requires fit { AllByRecursion (Fits (state_of db.now)) (map arc_value progs.now) }
         ensures programs { IfOk result (λ work. work.programs ≡ map arc_value progs.now) }
+        ensures batches { IfOk result (λ work. work.batches ≡ map arc_value progs.now ∷ []) }
         ensures snapshot { IfOk result (λ work. state_of work.snapshot ≡ state_of db.now) }
         ensures runnable { IfOk result (λ work. AreRunnable (state_of work.snapshot) work.programs) }
         ensures leaves { IfOk result (λ work. (i : ℕ) → i < length progs.now → IsLeaf work i) }
     {
-        let mut programs = Vec::with_capacity(alloc, progs.len())?;
-        push_all(&mut programs, progs)?;
-        let work = BatchWork::over(rt, alloc, db, programs)?;
+        let (programs, spans) = laid_alone(alloc, progs)?;
+        let work = BatchWork::over(rt, alloc, db, programs, spans)?;
         Ok(work)
     }
 
-    /// The same of programs that are handed over.
-    pub(crate) fn over<R: Threads + Sync>(
+    /// The work of several batches on it.
+    pub fn of_line<R: Threads + Sync>(
+        rt: &R,
+        alloc: Global,
+        db: &Database,
+        batches: &[ProgList],
+    ) -> Result<BatchWork, NoMemory>
+        requires short { length batches.now ≤ most_segments }
+        requires few { AllByRecursion (λ (programs : List (List Stmt)). length programs ≤ most_programs) (programs_of batches.now) }
+        requires fit { AllByRecursion (AllByRecursion (Fits (state_of db.now))) (programs_of batches.now) }
+        ensures batches { IfOk result (λ work. work.batches ≡ programs_of batches.now) }
+        ensures snapshot { IfOk result (λ work. state_of work.snapshot ≡ state_of db.now) }
+        ensures runnable { IfOk result (λ work. IsSnapshot (state_of work.snapshot)) }
+        ensures leaves { IfOk result (λ work. (s i : ℕ) → i < length (batch_at (programs_of batches.now) s) → IsLeaf work (256 * s + i)) }
+    {
+        let (programs, spans) = laid_out(alloc, batches)?;
+        let work = BatchWork::over(rt, alloc, db, programs, spans)?;
+        Ok(work)
+    }
+
+    /// The work of programs that are handed over, and stand so.
+    fn over<R: Threads + Sync>(
         rt: &R,
         alloc: Global,
         db: &Database,
         programs: ProgList,
+        spans: Vec<Span>,
     ) -> Result<BatchWork, NoMemory>
-        requires { AllByRecursion (Fits (state_of db.now)) (map arc_value programs.items) }
+        requires fit { AllByRecursion (Fits (state_of db.now)) (map arc_value programs.items) }
+        requires within { AreWithin spans.items 2048 }
         ensures programs { IfOk result (λ work. work.programs ≡ map arc_value programs.items) }
+        ensures batches { IfOk result (λ work. work.batches ≡ parted spans.items (map arc_value programs.items)) }
         ensures snapshot { IfOk result (λ work. state_of work.snapshot ≡ state_of db.now) }
         ensures runnable { IfOk result (λ work. AreRunnable (state_of work.snapshot) work.programs) }
-        ensures leaves { IfOk result (λ work. (i : ℕ) → i < length programs.items → IsLeaf work i) }
-        ensures early { IfOk result (λ work. work.early ≡ []) }
     {
         db.look_over();
         let snapshot = all_indexed(rt, db, programs.as_slice())?;
@@ -212,6 +243,7 @@ impl BatchWork {
         Ok(BatchWork {
             snapshot,
             programs,
+            spans,
             early: Vec::new(alloc),
             ties,
         })
@@ -226,11 +258,13 @@ impl BatchWork {
     ) -> Result<BatchWork, NoMemory>
         requires workers { (1 ≤ workers) × (workers ≤ most_workers) }
         ensures programs { IfOk result (λ work. work.programs ≡ self.programs) }
+        ensures batches { IfOk result (λ work. work.batches ≡ self.batches) }
         ensures snapshot { IfOk result (λ work. work.snapshot ≡ self.snapshot) }
     {
         let BatchWork {
             snapshot,
             programs,
+            spans,
             early: _,
             ties,
         } = self;
@@ -245,9 +279,18 @@ impl BatchWork {
         Ok(BatchWork {
             snapshot,
             programs,
+            spans,
             early,
             ties,
         })
+    }
+
+    /// Which programs before the leaf's have a bearing on it, if there is such a leaf. No clause speaks of it.
+    fn ties_at(&self, leaf: u32) -> Option<Ties> {
+        if !has_segment(&self.spans, leaf) {
+            return None;
+        }
+        self.ties.get(place_of(&self.spans, leaf) as usize).copied()
     }
 
     /// The snapshot with its indexes.
@@ -303,9 +346,10 @@ impl LeafWork for BatchWork {
         ensures restated { IfOk result (λ tally. IfSome prior.entry (λ old. IsRestatedFrom old.now tally)) }
         ensures early { IfOk result (λ tally. option_map (λ old. old.now) prior.entry ≡ None → IfSome (early_at self.now.early leaf) (λ old. IsRestatedFrom old tally)) }
     {
-        let prog = &self.programs[leaf as usize];
+        let place = place_of(&self.spans, leaf);
+        let prog = &self.programs[place as usize];
         let on = marks_to_lay(prog, correction)?;
-        let helper = helper_in(&self.early, prior, leaf as usize);
+        let helper = helper_in(&self.early, prior, place as usize);
         let tally = tally_on(prog, &self.snapshot, helper, on, moves)?;
         Ok(tally)
     }
@@ -319,12 +363,16 @@ impl LeafWork for BatchWork {
     }
 
     fn is_tied(&self, leaf: u32, tally: &LeafTally) -> bool {
-        let leaf = leaf as usize;
-        leaf < self.ties.len() && is_tied(self.ties[leaf], tally)
+        match self.ties_at(leaf) {
+            Some(ties) => is_tied(ties, tally),
+            None => false,
+        }
     }
 
     fn is_free(&self, leaf: u32) -> bool {
-        let leaf = leaf as usize;
-        leaf < self.ties.len() && self.ties[leaf].is_free()
+        match self.ties_at(leaf) {
+            Some(ties) => ties.is_free(),
+            None => false,
+        }
     }
 }

@@ -1,17 +1,19 @@
 use denote.Param.Send.{sendable}
-use Rattle.std.proofs.Common.{◌∙◌, List, rules, ap, sym, subst, arith}
+use Rattle.std.proofs.Common.{◌∙◌, List, length, map, rules, ap, sym, subst, arith}
+use Rattle.std.proofs.lemmas.List.{length-map}
+use Rattle.std.specs.Arc.{arc_value}
 use Rattle.lt_model.specs.declared.normal.Stmt.{Stmt}
 use Rattle.lt_base.specs.Tables.{Table, state_of}
 use Rattle.lt_circuit.specs.Circuit.{IsReplay}
 use Rattle.lt_batch.specs.Work.{BatchView, IsLeaf, AreRunnable}
 use Rattle.lt_batch.proofs.Crossing.{tally_send, tally_sync, work_send, work_sync}
-use Rattle.lt_batch.proofs.Leaves.{of_programs, same_leaf}
+use Rattle.lt_batch.proofs.Leaves.{does_alone, same_leaf}
 use Rattle.lt_batch.proofs.batch.settled.Goals as goal
 
 pub start-requires-clause-has : goal.start-requires-clause-has
 start-requires-clause-has g c = λ i below.
     subst (λ (work : BatchView). IsLeaf work i) (sym (c.in_ok-clone.ensures.cases ∙ c.in_ok-work-3.ensures.ok))
-    (same_leaf c.in_ok-work-2.work c.in_ok-work.work i c.in_ok-work-2.ensures.programs c.in_ok-work-2.ensures.snapshot (c.in_ok-work.ensures.leaves i (omega arith)))
+    (same_leaf c.in_ok-work-2.work c.in_ok-work.work i c.in_ok-work-2.ensures.batches c.in_ok-work-2.ensures.snapshot (c.in_ok-work.ensures.leaves i (omega arith)))
 
 pub returns-clause-work : goal.returns-clause-work
 returns-clause-work g c = c.in_ok-circuit-2.ensures.work ∙ c.in_ok-circuit.ensures.work ∙ c.in_ok-clone.ensures.cases
@@ -20,6 +22,11 @@ pub returns-clause-programs : goal.returns-clause-programs
 returns-clause-programs g c =
     ap (λ (work : BatchView). work.programs) (c.in_ok-circuit-2.ensures.work ∙ c.in_ok-circuit.ensures.work ∙ c.in_ok-clone.ensures.cases ∙ c.in_ok-work-3.ensures.ok)
     ∙ (c.in_ok-work-2.ensures.programs ∙ c.in_ok-work.ensures.programs)
+
+pub returns-clause-batches : goal.returns-clause-batches
+returns-clause-batches g c =
+    ap (λ (work : BatchView). work.batches) (c.in_ok-circuit-2.ensures.work ∙ c.in_ok-circuit.ensures.work ∙ c.in_ok-clone.ensures.cases ∙ c.in_ok-work-3.ensures.ok)
+    ∙ (c.in_ok-work-2.ensures.batches ∙ c.in_ok-work.ensures.batches)
 
 pub returns-clause-snapshot : goal.returns-clause-snapshot
 returns-clause-snapshot g c =
@@ -34,9 +41,9 @@ returns-clause-runnable g c =
 
 pub returns-clause-journal : goal.returns-clause-journal
 returns-clause-journal g c =
-    of_programs (λ does. IsReplay does c.in_ok-circuit-2.circuit.board c.in_ok-circuit-2.circuit.journal) c.in_ok-circuit-2.circuit.work c.in_ok-work-2.work _ _
-    (c.in_ok-circuit-2.ensures.work ∙ c.in_ok-circuit.ensures.work ∙ c.in_ok-clone.ensures.cases ∙ c.in_ok-work-3.ensures.ok)
-    (ap state_of c.in_ok-work-2.ensures.snapshot ∙ c.in_ok-work.ensures.snapshot) (c.in_ok-work-2.ensures.programs ∙ c.in_ok-work.ensures.programs) c.journal-entries.ensures.replay
+    subst (λ does. IsReplay does c.in_ok-circuit-2.circuit.board c.in_ok-circuit-2.circuit.journal)
+    (does_alone c.in_ok-circuit-2.circuit.work (state_of c.args.db.now) (map arc_value c.args.progs.now) (returns-clause-snapshot g c) (returns-clause-batches g c) (omega (arith, c.requires.few, length-map c.args.progs.now arc_value)))
+    c.journal-entries.ensures.replay
 
 pub returns-clause-leaves : goal.returns-clause-leaves
 returns-clause-leaves g c = search rules

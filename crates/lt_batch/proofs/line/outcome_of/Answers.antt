@@ -5,7 +5,7 @@ use Rattle.lt_base.specs.Tables.{state_of}
 use Rattle.lt_circuit.specs.Line.{line_event}
 use Rattle.lt_circuit.specs.Row.{sizes}
 use Rattle.lt_batch.specs.Line.{last_state}
-use Rattle.lt_batch.specs.LineWork.{LineWorkView}
+use Rattle.lt_batch.specs.Work.{BatchView}
 use Rattle.lt_batch.proofs.LineLists.{taken_batches}
 use Rattle.lt_batch.proofs.LineOpened.{segment_below}
 use Rattle.lt_batch.proofs.LineRuns.{before_in, before_is, leaf_was, run_settled}
@@ -22,7 +22,7 @@ pub left_by_line-requires-clause-segments : goal.left_by_line-requires-clause-se
 left_by_line-requires-clause-segments c = omega (arith, ap length c.requires.leaves, length-map c.args.line.work.batches length)
 
 pub left_by_line-requires-clause-snapshot : goal.left_by_line-requires-clause-snapshot
-left_by_line-requires-clause-snapshot c = c.snapshot.ensures ∙ ap (λ (w : LineWorkView). w.snapshot) (sym c.requires.work)
+left_by_line-requires-clause-snapshot c = c.snapshot.ensures ∙ ap (λ (w : BatchView). w.snapshot) (sym c.requires.work)
 
 pub returns-clause-state : goal.returns-clause-state
 returns-clause-state c = c.in_ok-db.ensures ∙ ap (λ bs. last_state bs (state_of c.args.line.work.snapshot)) (taken_batches c.args.line.work.batches)

@@ -7,9 +7,9 @@ use Rattle.lt_base.specs.Tables.{state_of}
 use Rattle.lt_circuit.specs.Line.{line_event, line_state, IsLineReplay}
 use Rattle.lt_circuit.specs.Row.{sizes}
 use Rattle.lt_batch.specs.Line.{last_state, line_does, line_effects, line_marks, line_replies, programs_of, HasGivenFront}
-use Rattle.lt_batch.specs.LineWork.{LineWorkView}
+use Rattle.lt_batch.specs.Work.{BatchView}
 use Rattle.lt_sense.proofs.Growth.{on_err}
-use Rattle.lt_batch.proofs.Crossing.{line_send, line_sync, tally_send, tally_sync}
+use Rattle.lt_batch.proofs.Crossing.{tally_send, tally_sync, work_send, work_sync}
 use Rattle.lt_batch.proofs.FittingRuns.{snapshot_of}
 use Rattle.lt_batch.proofs.LineInOrder.{marks_lead}
 use Rattle.lt_batch.proofs.LineOpened.{by_both, over_same, replay_same}
@@ -27,35 +27,35 @@ pub outcome_of-requires-clause-work : goal.outcome_of-requires-clause-work
 outcome_of-requires-clause-work g c = c.in_ok-done.ensures.work ∙ c.in_ok-work.ensures.work ∙ sym c.deref-2.ensures
 
 pub outcome_of-requires-clause-leaves : goal.outcome_of-requires-clause-leaves
-outcome_of-requires-clause-leaves g c = c.deref-3.ensures.value ∙ c.in_ok-leaves.ensures ∙ ap (map length) (sym (ap (λ (w : LineWorkView). w.batches) c.in_ok-done.ensures.work ∙ c.in_ok-work.ensures.batches))
+outcome_of-requires-clause-leaves g c = c.deref-3.ensures.value ∙ c.in_ok-leaves.ensures ∙ ap (map length) (sym (ap (λ (w : BatchView). w.batches) c.in_ok-done.ensures.work ∙ c.in_ok-work.ensures.batches))
 
 pub returns-clause-replies : goal.returns-clause-replies
-returns-clause-replies g c = c.in_ok-outcome.ensures.replies ∙ by_both line_replies (ap (λ (w : LineWorkView). w.batches) c.in_ok-done.ensures.work ∙ c.in_ok-work.ensures.batches) (ap (λ (w : LineWorkView). state_of w.snapshot) c.in_ok-done.ensures.work ∙ c.in_ok-work.ensures.snapshot)
+returns-clause-replies g c = c.in_ok-outcome.ensures.replies ∙ by_both line_replies (ap (λ (w : BatchView). w.batches) c.in_ok-done.ensures.work ∙ c.in_ok-work.ensures.batches) (ap (λ (w : BatchView). state_of w.snapshot) c.in_ok-done.ensures.work ∙ c.in_ok-work.ensures.snapshot)
 
 pub returns-clause-effects : goal.returns-clause-effects
-returns-clause-effects g c = c.in_ok-outcome.ensures.effects ∙ by_both line_effects (ap (λ (w : LineWorkView). w.batches) c.in_ok-done.ensures.work ∙ c.in_ok-work.ensures.batches) (ap (λ (w : LineWorkView). state_of w.snapshot) c.in_ok-done.ensures.work ∙ c.in_ok-work.ensures.snapshot)
+returns-clause-effects g c = c.in_ok-outcome.ensures.effects ∙ by_both line_effects (ap (λ (w : BatchView). w.batches) c.in_ok-done.ensures.work ∙ c.in_ok-work.ensures.batches) (ap (λ (w : BatchView). state_of w.snapshot) c.in_ok-done.ensures.work ∙ c.in_ok-work.ensures.snapshot)
 
 pub returns-clause-state : goal.returns-clause-state
-returns-clause-state g c = c.in_ok-outcome.ensures.state ∙ by_both last_state (ap (λ (w : LineWorkView). w.batches) c.in_ok-done.ensures.work ∙ c.in_ok-work.ensures.batches) (ap (λ (w : LineWorkView). state_of w.snapshot) c.in_ok-done.ensures.work ∙ c.in_ok-work.ensures.snapshot)
+returns-clause-state g c = c.in_ok-outcome.ensures.state ∙ by_both last_state (ap (λ (w : BatchView). w.batches) c.in_ok-done.ensures.work ∙ c.in_ok-work.ensures.batches) (ap (λ (w : BatchView). state_of w.snapshot) c.in_ok-done.ensures.work ∙ c.in_ok-work.ensures.snapshot)
 
 pub returns-clause-programs : goal.returns-clause-programs
-returns-clause-programs g c = ap (λ (w : LineWorkView). w.batches) c.in_ok-outcome.ensures.work ∙ ap (λ (w : LineWorkView). w.batches) c.in_ok-done.ensures.work ∙ c.in_ok-work.ensures.batches
+returns-clause-programs g c = ap (λ (w : BatchView). w.batches) c.in_ok-outcome.ensures.work ∙ ap (λ (w : BatchView). w.batches) c.in_ok-done.ensures.work ∙ c.in_ok-work.ensures.batches
 
 pub returns-clause-snapshot : goal.returns-clause-snapshot
-returns-clause-snapshot g c = ap (λ (w : LineWorkView). state_of w.snapshot) c.in_ok-outcome.ensures.work ∙ ap (λ (w : LineWorkView). state_of w.snapshot) c.in_ok-done.ensures.work ∙ c.in_ok-work.ensures.snapshot
+returns-clause-snapshot g c = ap (λ (w : BatchView). state_of w.snapshot) c.in_ok-outcome.ensures.work ∙ ap (λ (w : BatchView). state_of w.snapshot) c.in_ok-done.ensures.work ∙ c.in_ok-work.ensures.snapshot
 
 pub returns-clause-sizes : goal.returns-clause-sizes
 returns-clause-sizes g c = c.in_ok-outcome.ensures.sizes ∙ c.in_ok-done.ensures.sizes ∙ c.in_ok-work.ensures.over.segments ∙ ap (map length) c.in_ok-work.ensures.batches
 
 pub returns-clause-journal : goal.returns-clause-journal
 returns-clause-journal g c =
-    subst (λ does. IsLineReplay does c.in_ok-outcome.outcome.line.row c.in_ok-outcome.outcome.line.journal) (by_both line_does (ap (λ (w : LineWorkView). w.batches) c.in_ok-done.ensures.work ∙ c.in_ok-work.ensures.batches) (ap (λ (w : LineWorkView). state_of w.snapshot) c.in_ok-done.ensures.work ∙ c.in_ok-work.ensures.snapshot)) c.in_ok-outcome.ensures.journal
+    subst (λ does. IsLineReplay does c.in_ok-outcome.outcome.line.row c.in_ok-outcome.outcome.line.journal) (by_both line_does (ap (λ (w : BatchView). w.batches) c.in_ok-done.ensures.work ∙ c.in_ok-work.ensures.batches) (ap (λ (w : BatchView). state_of w.snapshot) c.in_ok-done.ensures.work ∙ c.in_ok-work.ensures.snapshot)) c.in_ok-outcome.ensures.journal
 
 pub returns-clause-fit : goal.returns-clause-fit
-returns-clause-fit g c = subst (λ (s : State). AllByRecursion (AllByRecursion (FitMarks s)) c.in_ok-outcome.outcome.effects) (ap (λ (w : LineWorkView). state_of w.snapshot) c.in_ok-done.ensures.work ∙ c.in_ok-work.ensures.snapshot) c.in_ok-outcome.ensures.fit
+returns-clause-fit g c = subst (λ (s : State). AllByRecursion (AllByRecursion (FitMarks s)) c.in_ok-outcome.outcome.effects) (ap (λ (w : BatchView). state_of w.snapshot) c.in_ok-done.ensures.work ∙ c.in_ok-work.ensures.snapshot) c.in_ok-outcome.ensures.fit
 
 pub returns-clause-widths : goal.returns-clause-widths
-returns-clause-widths g c = λ relation width wide. c.in_ok-outcome.ensures.widths relation width (subst (λ (s : State). IsWide s relation width) (sym (ap (λ (w : LineWorkView). state_of w.snapshot) c.in_ok-done.ensures.work ∙ c.in_ok-work.ensures.snapshot)) wide)
+returns-clause-widths g c = λ relation width wide. c.in_ok-outcome.ensures.widths relation width (subst (λ (s : State). IsWide s relation width) (sym (ap (λ (w : BatchView). state_of w.snapshot) c.in_ok-done.ensures.work ∙ c.in_ok-work.ensures.snapshot)) wide)
 
 pub returns-clause-given : goal.returns-clause-given
 returns-clause-given g c =
@@ -97,13 +97,13 @@ pub returns-in_err-outcome-clause-states : goal.returns-in_err-outcome-clause-st
 returns-in_err-outcome-clause-states g c = marks_lead (programs_of c.args.batches.now) (state_of c.args.db.now) (snapshot_of (state_of c.args.db.now) c.look_over.ensures.state c.look_over.ensures.wide) c.requires.fit
 
 pub settle_line-requires-send-W : goal.settle_line-requires-send-W
-settle_line-requires-send-W g c κs within = search (sendable, line_send)
+settle_line-requires-send-W g c κs within = search (sendable, work_send)
 
 pub settle_line-requires-send-W-Tally : goal.settle_line-requires-send-W-Tally
 settle_line-requires-send-W-Tally g c κs within = search (sendable, tally_send)
 
 pub settle_line-requires-sync-W : goal.settle_line-requires-sync-W
-settle_line-requires-sync-W g c κs within = search (sendable, line_sync)
+settle_line-requires-sync-W g c κs within = search (sendable, work_sync)
 
 pub settle_line-requires-sync-W-Tally : goal.settle_line-requires-sync-W-Tally
 settle_line-requires-sync-W-Tally g c κs within = search (sendable, tally_sync)

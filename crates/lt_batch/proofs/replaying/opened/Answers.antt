@@ -15,6 +15,9 @@ returns-clause-work g c = c.in_ok-circuit.ensures.work ∙ c.in_ok-clone.ensures
 pub returns-clause-programs : goal.returns-clause-programs
 returns-clause-programs g c = ap (λ (work : BatchView). work.programs) (c.in_ok-circuit.ensures.work ∙ c.in_ok-clone.ensures.cases ∙ c.in_ok-work-2.ensures.ok) ∙ c.in_ok-work.ensures.programs
 
+pub returns-clause-batches : goal.returns-clause-batches
+returns-clause-batches g c = ap (λ (work : BatchView). work.batches) (c.in_ok-circuit.ensures.work ∙ c.in_ok-clone.ensures.cases ∙ c.in_ok-work-2.ensures.ok) ∙ c.in_ok-work.ensures.batches
+
 pub returns-clause-snapshot : goal.returns-clause-snapshot
 returns-clause-snapshot g c = ap (λ (work : BatchView). state_of work.snapshot) (c.in_ok-circuit.ensures.work ∙ c.in_ok-clone.ensures.cases ∙ c.in_ok-work-2.ensures.ok) ∙ c.in_ok-work.ensures.snapshot
 

@@ -1,10 +1,14 @@
-use Rattle.std.proofs.Common.{◌∙◌, [], ap, sym, arith}
+use Rattle.std.proofs.Common.{◌∙◌, List, [], ◌∷◌, ap, sym, arith}
+use Rattle.lt_model.specs.declared.normal.Stmt.{Stmt}
 use Rattle.lt_base.specs.Tables.{state_of}
 use Rattle.lt_circuit.specs.Circuit.{state}
 use Rattle.lt_net.specs.Tree.{leaf_value, then_all}
 use Rattle.lt_batch.specs.Work.{BatchView}
 use Rattle.lt_batch.proofs.Widths.{wide_laid}
 use Rattle.lt_batch.proofs.replaying.replay_batch.Goals as goal
+
+pub gathered-requires-clause-batch : goal.gathered-requires-clause-batch
+gathered-requires-clause-batch g c = c.in_ok-work.ensures.batches ∙ ap (λ (ps : List (List Stmt)). ps ∷ []) (sym c.in_ok-work.ensures.programs)
 
 pub returns-clause-circuit : goal.returns-clause-circuit
 returns-clause-circuit g c = λ i below. c.in_ok-replies.ensures.leaves i (omega (arith, below, c.in_ok-work.ensures.leaves))

@@ -6,8 +6,8 @@ use Rattle.lt_model.specs.Fits.{Fits}
 use Rattle.lt_batch.proofs.Gone.{gone_alike}
 use Rattle.lt_batch.proofs.fold.Fold.go_on_together.Goals as goal
 
-pub ran_ahead-requires-clause-fit : goal.ran_ahead-requires-clause-fit
-ran_ahead-requires-clause-fit g c = λ lifetimes outlive. subst (λ (s : State). AllByRecursion (Fits s) (map arc_value c.args.progs.now)) (sym c.in_ok-index_all.ensures.alike.state) c.requires
+pub run_ahead-requires-clause-fit : goal.run_ahead-requires-clause-fit
+run_ahead-requires-clause-fit g c = λ lifetimes outlive. subst (λ (s : State). AllByRecursion (Fits s) (map arc_value c.args.progs.now)) (sym c.in_ok-index_all.ensures.alike.state) c.requires
 
 pub go_round-requires-clause-fit : goal.go_round-requires-clause-fit
 go_round-requires-clause-fit g c = subst (λ (s : State). AllByRecursion (Fits s) (map arc_value c.args.progs.now)) (sym c.in_ok-index_all.ensures.alike.state) c.requires

@@ -17,4 +17,5 @@ pub invariant_of-result : goal.invariant_of-result
 invariant_of-result g c = record {
   batch = c.self.invariant.batch;
   early = subst (λ programs. AreEarly (state_of c.self.inside.snapshot) (map arc_value programs) c.in_ok-early.early.items) c.as_slice.ensures.value c.in_ok-early.ensures;
+  within = c.self.invariant.within;
 }

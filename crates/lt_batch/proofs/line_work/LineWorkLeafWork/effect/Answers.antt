@@ -1,5 +1,0 @@
-use Rattle.std.proofs.Common.{◌∙◌}
-use Rattle.lt_batch.proofs.line_work.LineWorkLeafWork.effect.Goals as goal
-
-pub returns : goal.returns
-returns c = λ leaf on stands. c.effect.ensures ∙ stands.marks
