@@ -3,7 +3,8 @@
 //! `session` takes the items of a script as they come: where lines are asked for, batches that follow each other wait in it until one more
 //! makes the line full, or something else comes. What items make is `lt_world`. `input` reads a script piece by piece into a `Feed`, and
 //! `script` has each item run and written once it is there, and passes on what was written before it reads on; neither the script nor the
-//! report is held as a whole. `front` reads the blocks before a script that is run by them, `replay` runs it. `stop` tells why a script
+//! report is held as a whole. `front` reads the blocks before a script that is run by them, `replay` runs it, and `laws` says that what
+//! a run with traces leaves is taken so. `stop` tells why a script
 //! isn't run to its end, `status` how a call ends. Read `specs/Ends` first.
 //!
 //! `bench` runs the items of `lt_gen` on the same `World`, counts what each batch answered (`come`), and then gives up its version; where
@@ -18,6 +19,7 @@ mod endings;
 mod front;
 pub mod generated;
 mod input;
+pub mod laws;
 pub mod replay;
 pub mod script;
 mod session;

@@ -1,8 +1,9 @@
 -- The journals of batches, kept as a script is run.
-use Rattle.std.proofs.Common.{◌≡◌, ◌+◌, ◌++◌, ◌∷◌, ◌∙◌, Bool, true, false, List, [], length, map, refl, sym, ap, subst, append-nil, append_assoc}
+use Rattle.std.proofs.Common.{◌≡◌, ◌<◌, ◌+◌, ◌++◌, ◌∷◌, ◌∙◌, Bool, true, false, List, [], length, map, refl, sym, ap, subst, append-nil, append_assoc}
 use Rattle.std.specs.Prelude.{filter_map, fold}
-use Rattle.std.specs.List.{AllZip}
+use Rattle.std.specs.List.{AllByRecursion, AllZip}
 use Rattle.std.proofs.lemmas.List.{length-map}
+use Rattle.lt_face.specs.Limits.{most_workers}
 use Rattle.lt_face.specs.State.{State}
 use Rattle.lt_model.specs.declared.normal.Stmt.{Stmt}
 use Rattle.lt_model.specs.declared.reply.Reply.{Reply}
@@ -18,9 +19,10 @@ use Rattle.lt_base.specs.Tables.{state_of}
 use Rattle.lt_net.specs.Net.{Event, IsReached}
 use Rattle.lt_net.specs.Tree.{circuit_net, tree_of}
 use Rattle.lt_circuit.specs.declared.entry.Entry.{Entry}
-use Rattle.lt_circuit.specs.Circuit.{state, CircuitView}
+use Rattle.lt_circuit.specs.Circuit.{state, AreOfWorkers, CircuitView}
 use Rattle.lt_circuit.specs.Entry.{event_of}
 use Rattle.lt_circuit.proofs.Entries.{event_told}
+use Rattle.lt_batch.specs.declared.replaying.Written.{Written}
 use Rattle.lt_batch.specs.Batch.{does_at}
 use Rattle.lt_batch.specs.Replaying as written
 use Rattle.lt_batch.specs.Replaying.{batch_net, written_of}
@@ -40,14 +42,21 @@ told_again : (journal : List Entry) → map written.told (map written_of journal
 told_again [] = refl
 told_again (e ∷ journal) = ap (λ (x : Event). x ∷ map written.told (map written_of journal)) (event_told e) ∙ ap (λ (xs : List Event). event_of e ∷ xs) (told_again journal)
 
+of_workers : (journal : List Entry) → AreOfWorkers journal → AllByRecursion (λ (entry : Written). entry.worker < most_workers) (map written_of journal)
+of_workers [] all = tt
+of_workers (e ∷ journal) all = (all.0, of_workers journal all.1)
+
 -- a journal that settled its circuit is that of the programs
 pub settles : {W T : Type 0} (programs : List (List Stmt)) (snapshot : State) (circuit : CircuitView W T) → HasSettled programs snapshot circuit → Settles programs snapshot (map written_of circuit.journal)
 settles programs snapshot circuit h =
     let does = does_at programs snapshot in
     record {
       state = state circuit;
-      reached = subst (λ (es : List Event). IsReached (batch_net programs snapshot) es (state circuit)) (sym (told_again circuit.journal))
-          (subst (λ n. IsReached (circuit_net does (tree_of n)) (map event_of circuit.journal) (state circuit)) h.leaves h.journal);
+      legal = record {
+        workers = of_workers circuit.journal h.workers;
+        reached = subst (λ (es : List Event). IsReached (batch_net programs snapshot) es (state circuit)) (sym (told_again circuit.journal))
+            (subst (λ n. IsReached (circuit_net does (tree_of n)) (map event_of circuit.journal) (state circuit)) h.leaves h.journal);
+      };
       settled = h.settled;
     }
 

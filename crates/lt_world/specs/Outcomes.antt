@@ -7,7 +7,7 @@ use Rattle.lt_model.specs.Fits.{FitMarks}
 use Rattle.lt_base.specs.Tables.{state_of}
 use Rattle.lt_batch.specs.declared.outcome.Outcome.{Outcome}
 use Rattle.lt_batch.specs.Batch.{does_at, serial_effects, serial_replies, serial_state}
-use Rattle.lt_circuit.specs.Circuit.{state, CircuitView, IsReplay}
+use Rattle.lt_circuit.specs.Circuit.{state, AreOfWorkers, CircuitView, IsReplay}
 use Rattle.lt_net.specs.Net.{IsSettled}
 use Rattle.lt_program.specs.Run.{AreReplied}
 
@@ -16,6 +16,7 @@ pub record HasSettled {W T : Type 0} (programs : List (List Stmt)) (snapshot : S
   pub leaves : circuit.board.leaves ≡ length programs
   pub settled : IsSettled (state circuit)
   pub journal : IsReplay (does_at programs snapshot) circuit.board circuit.journal
+  pub workers : AreOfWorkers circuit.journal
 
 -- the programs ran on the snapshot, and gave what they give one after another
 pub record IsOutcome (programs : List (List Stmt)) (snapshot : State) (outcome : Outcome) : Type 0 where

@@ -11,10 +11,9 @@ use Rattle.lt_model.specs.Report as model
 use Rattle.lt_model.specs.Report.{good_of, opening, step}
 use Rattle.lt_model.specs.Schema.{Schema}
 use Rattle.lt_net.specs.Net as net
-use Rattle.lt_net.specs.Net.{IsReached, IsSettled}
+use Rattle.lt_net.specs.Net.{IsSettled}
 use Rattle.lt_batch.specs.declared.replaying.Written.{Written}
-use Rattle.lt_batch.specs.Replaying as written
-use Rattle.lt_batch.specs.Replaying.{batch_net}
+use Rattle.lt_batch.specs.Replaying.{batch_net, LeadTo}
 use Rattle.lt_blocks.specs.declared.block.Block.{Block}
 
 -- a batch: its number, its programs without a code, and the state that it finds
@@ -37,10 +36,10 @@ abbrev pub batches_from : Bool → model.World → List Item → List Begun
 batches_from marks w [] = []
 batches_from marks w (item ∷ items) = batch_in w item ++ batches_from marks (step marks w item) items
 
--- the events lead the circuit of these programs on this snapshot to a settled state
+-- the entries are of workers that there may be, and lead the circuit of these programs on this snapshot to a settled state
 pub record Settles (programs : List (List Stmt)) (snapshot : State) (entries : List Written) : Type 0 where
   pub state : net.State
-  pub reached : IsReached (batch_net programs snapshot) (map written.told entries) state
+  pub legal : LeadTo (batch_net programs snapshot) entries state
   pub settled : IsSettled state
 
 -- the block is the batch's: it has its number, tells how many programs have no code, and its entries settle the batch's circuit

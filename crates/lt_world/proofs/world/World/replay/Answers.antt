@@ -54,7 +54,7 @@ keep_outcome-requires-clause-outcome g c =
       state_is = ran.state;
       printed = ran.printed;
       fit = ran.fit;
-      circuit = record { leaves = ran.leaves ∙ sym (length-map c.deref-2.result.now arc_value); settled = ran.settled; journal = ran.journal };
+      circuit = record { leaves = ran.leaves ∙ sym (length-map c.deref-2.result.now arc_value); settled = ran.settled; journal = ran.journal; workers = ran.workers };
     })
 
 pub returns-clause-ran : goal.returns-clause-ran
@@ -147,5 +147,5 @@ returns-clause-right g c = λ m s.
     (subst (λ (n : ℕ). HasJournal c.args.blocks.now n c.len.result c.in-Some.entries.now) c.next_number-number.ensures c.in-Some.ensures.some) in
     let ran = c.in_ok-outcome.ensures in
     let settled = settled_by goods (state_of c.args.self.now.database) c.in_ok-outcome.outcome.circuit c.in-Some.entries.now
-    (record { leaves = ran.leaves ∙ sym (length-map c.deref-2.result.now arc_value); settled = ran.settled; journal = ran.journal }) ran.entries in
+    (record { leaves = ran.leaves ∙ sym (length-map c.deref-2.result.now arc_value); settled = ran.settled; journal = ran.journal; workers = ran.workers }) ran.entries in
     right_at c.args.self.now m s c.args.programs.now goods same c.args.blocks.now c.in-Some.entries.now journal settled ran.faultless

@@ -49,7 +49,7 @@ keep_outcome-requires-clause-outcome g c =
       state_is = ran.state;
       printed = ran.printed;
       fit = ran.fit;
-      circuit = record { leaves = ran.leaves ∙ sym (length-map c.deref-2.result.now arc_value); settled = ran.settled; journal = ran.journal };
+      circuit = record { leaves = ran.leaves ∙ sym (length-map c.deref-2.result.now arc_value); settled = ran.settled; journal = ran.journal; workers = ran.workers };
     })
 
 pub returns-clause-ran : goal.returns-clause-ran
