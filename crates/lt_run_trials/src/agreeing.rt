@@ -13,7 +13,7 @@ use std::alloc::Global;
 use std::thread::Threads;
 
 /// The run by plain loops, on relations without rows.
-fn plain(alloc: Global, prog: &Prog) -> Result<Ran, NoMemory>
+pub(crate) fn plain(alloc: Global, prog: &Prog) -> Result<Ran, NoMemory>
     requires { FitsBoth prog.now }
 {
     let mut relations = no_rows(alloc)?;

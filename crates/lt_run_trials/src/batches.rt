@@ -59,14 +59,14 @@ pub(crate) const DEAR: Batch<'static> = Batch {
     pairs: Pairs::Plain,
     stock: "insert r(1); insert r(2); insert r(3); insert r(4); insert r(5); insert r(6); insert r(7); insert r(8); insert r(9); insert r(10); insert r(11); insert r(12); insert e(x, y) where r(x), r(y);",
     texts: &[
-        "print (x) where e(x, y), e(y, x);",
-        "print (y) where e(x, y), e(y, x), x < y;",
-        "insert r(20); print (x) where e(x, y), e(y, x);",
-        "print (x) where r(x), e(x, y), e(y, x);",
-        "print (x) where e(x, y), e(y, x), x < 3;",
-        "delete e(1, 2); print (x) where e(x, y), r(y), e(y, x);",
-        "print (x) where e(x, y), e(y, x);",
-        "insert e(1, 2); insert e(20, 1); print (y) where e(x, y), e(y, x);",
+        "print (x, y) where e(x, y), e(y, x);",
+        "print (x, y) where e(x, y), e(y, x), x < y;",
+        "insert r(20); print (x, y) where e(x, y), e(y, x);",
+        "print (x, y) where r(x), e(x, y), e(y, x);",
+        "print (x, y) where e(x, y), e(y, x), x < 3;",
+        "delete e(1, 2); print (x, y) where e(x, y), r(y), e(y, x);",
+        "print (x, y) where e(x, y), e(y, x);",
+        "insert e(1, 2); insert e(20, 1); print (x, y) where e(x, y), e(y, x);",
     ],
 };
 
@@ -131,7 +131,14 @@ fn has_relations(db: &Database, relations: &[RowList]) -> bool {
     }
 }
 
-/// What a batch does as a circuit where r and e have the rows that these statements leave.
+/// How a batch is run.
+#[derive(Clone, Copy)]
+enum Way {
+    Circuit,
+    InOrder,
+}
+
+/// What a batch does where r and e have the rows that these statements leave.
 #[tactic(auto, using(crate::proofs::Fitting::all_fit))]
 fn ran<R: Threads + Wait + Sync>(
     rt: &R,
@@ -139,77 +146,46 @@ fn ran<R: Threads + Wait + Sync>(
     stock: &str,
     progs: &[Arc<Planned>],
     workers: u32,
-) -> Result<Outcome, NoMemory>
-    requires few { length progs.now ≤ 256 }
-    requires workers { (1 ≤ workers) × (workers ≤ 16) }
-    requires fit { AllByRecursion FitsBoth (map arc_value progs.now) }
-{
-    let db = stocked(rt, alloc, stock)?;
-    let out = run_batch(rt, alloc, &db, progs, workers, &OpenGate)?;
-    Ok(out)
-}
-
-/// What it does in order.
-#[tactic(auto, using(crate::proofs::Fitting::all_fit))]
-fn folded<R: Threads + Wait + Sync>(
-    rt: &R,
-    alloc: Global,
-    stock: &str,
-    progs: &[Arc<Planned>],
-    workers: u32,
+    way: Way,
 ) -> Result<Folded, NoMemory>
     requires few { length progs.now ≤ 256 }
     requires workers { (1 ≤ workers) × (workers ≤ 16) }
     requires fit { AllByRecursion FitsBoth (map arc_value progs.now) }
 {
     let db = stocked(rt, alloc, stock)?;
-    let out = fold_batch(
-        rt,
-        alloc,
-        &db,
-        progs,
-        true,
-        workers,
-        &OpenGate,
-        &mut Pace::start(),
-    )?;
-    Ok(out)
+    if let Way::InOrder = way {
+        let mut pace = Pace::start_on(16, 64);
+        let out = fold_batch(rt, alloc, &db, progs, true, workers, &OpenGate, &mut pace)?;
+        return Ok(out);
+    }
+    let Outcome {
+        replies,
+        effects,
+        db,
+        circuit: _,
+    } = run_batch(rt, alloc, &db, progs, workers, &OpenGate)?;
+    Ok(Folded {
+        replies,
+        effects,
+        db,
+    })
 }
 
-/// Whether the batch as a circuit does what its programs do one after another.
-fn is_circuit_serial<R: Threads + Wait + Sync>(
+/// Whether the batch does what its programs do one after another.
+fn is_serial<R: Threads + Wait + Sync>(
     rt: &R,
     alloc: Global,
     stock: &str,
     progs: &[Arc<Planned>],
     serial: &Serial,
     workers: u32,
+    way: Way,
 ) -> Result<bool, NoMemory>
     requires few { length progs.now ≤ 256 }
     requires workers { (1 ≤ workers) × (workers ≤ 16) }
     requires fit { AllByRecursion FitsBoth (map arc_value progs.now) }
 {
-    let out = ran(rt, alloc, stock, progs, workers)?;
-    let is_so = are_same_runs(out.replies.as_slice(), out.effects.as_slice(), &serial.runs)
-        && has_relations(&out.db, &serial.relations);
-    drop(out);
-    Ok(is_so)
-}
-
-/// Whether the batch in order does.
-fn is_fold_serial<R: Threads + Wait + Sync>(
-    rt: &R,
-    alloc: Global,
-    stock: &str,
-    progs: &[Arc<Planned>],
-    serial: &Serial,
-    workers: u32,
-) -> Result<bool, NoMemory>
-    requires few { length progs.now ≤ 256 }
-    requires workers { (1 ≤ workers) × (workers ≤ 16) }
-    requires fit { AllByRecursion FitsBoth (map arc_value progs.now) }
-{
-    let out = folded(rt, alloc, stock, progs, workers)?;
+    let out = ran(rt, alloc, stock, progs, workers, way)?;
     let is_so = are_same_runs(out.replies.as_slice(), out.effects.as_slice(), &serial.runs)
         && has_relations(&out.db, &serial.relations);
     drop(out);
@@ -230,9 +206,25 @@ fn agrees<R: Threads + Wait + Sync>(
     }
     let progs = programs_over(alloc, batch.pairs, batch.texts, count)?;
     let serial = one_after_another(alloc, batch.stock, &progs)?;
-    let is_circuit_so = is_circuit_serial(rt, alloc, batch.stock, &progs, &serial, workers)?;
-    let is_fold_so = is_fold_serial(rt, alloc, batch.stock, &progs, &serial, workers)?;
-    Ok(is_circuit_so && is_fold_so)
+    let circuit = is_serial(
+        rt,
+        alloc,
+        batch.stock,
+        &progs,
+        &serial,
+        workers,
+        Way::Circuit,
+    )?;
+    let in_order = is_serial(
+        rt,
+        alloc,
+        batch.stock,
+        &progs,
+        &serial,
+        workers,
+        Way::InOrder,
+    )?;
+    Ok(circuit && in_order)
 }
 
 /// The first of these numbers of programs and workers with which a batch does something else.
@@ -260,7 +252,7 @@ fn batches_are_serial(rt: HostRuntime) -> Result<(), NoMemory> {
         ),
         ("keyed", KEYED, [(2, 2), (6, 1), (32, 4)].as_slice()),
         ("refused", REFUSED, [(8, 1), (40, 4)].as_slice()),
-        ("dear", DEAR, [(12, 4), (80, 7)].as_slice()),
+        ("dear", DEAR, [(12, 4), (80, 7), (80, 16)].as_slice()),
     ] {
         same_at(&rt, differs(&rt, rt.alloc(), batch, sizes)?, None, row);
     }
@@ -298,7 +290,7 @@ fn prints_long<R: Threads + Wait + Sync>(
     requires workers { (1 ≤ workers) × (workers ≤ 16) }
 {
     let progs = programs(alloc, &TEXTS, count)?;
-    let out = ran(rt, alloc, LONG, &progs, workers)?;
+    let out = ran(rt, alloc, LONG, &progs, workers, Way::Circuit)?;
     let is_so = out.replies.len() == count && are_prints(alloc, out.replies.as_slice());
     drop(out);
     Ok(is_so)

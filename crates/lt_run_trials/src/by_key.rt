@@ -24,7 +24,7 @@ struct Want<'a> {
 }
 
 /// The row of these ints, of which there are two at most.
-fn row_of(alloc: Global, ints: &[i64]) -> Row {
+pub(crate) fn row_of(alloc: Global, ints: &[i64]) -> Row {
     match ints {
         [x] => Row::from_cells(alloc, &[cell_of_int(*x)]),
         [x, y, ..] => Row::from_cells(alloc, &[cell_of_int(*x), cell_of_int(*y)]),
@@ -114,87 +114,75 @@ const ALL: [i64; 8] = [0, 1, 2, 3, 4, 5, 6, 7];
 
 /// A key that came, one that went, a level that ends at hits, a pin that ends the first level with its find and forbids what was passed
 /// without a look, and a range.
-const TABLE: [(&str, &str, &str, Want<'static>); 7] = [
+const TABLE: [(&str, &str, &str, u32, &[i64], &[&[i64]]); 7] = [
     (
         EDGES,
         "print (x, y) where e(x, y);",
         "",
-        Want {
-            relation: PAIRS,
-            firsts: &ALL,
-            rows: &[&[1, 2], &[3, 4]],
-        },
+        PAIRS,
+        &ALL,
+        &[&[1, 2], &[3, 4]],
     ),
     (
         EDGES,
         "print (x, y) where e(x, y);",
         "insert e(5, 6);",
-        Want {
-            relation: PAIRS,
-            firsts: &ALL,
-            rows: &[&[1, 2], &[3, 4], &[5, 6]],
-        },
+        PAIRS,
+        &ALL,
+        &[&[1, 2], &[3, 4], &[5, 6]],
     ),
     (
         EDGES,
         "print (x, y) where e(x, y);",
         "delete e(1, 2);",
-        Want {
-            relation: PAIRS,
-            firsts: &ALL,
-            rows: &[&[3, 4]],
-        },
+        PAIRS,
+        &ALL,
+        &[&[3, 4]],
     ),
     (
         "insert r(1); insert r(3);",
         "print (x) where r(x), x > 1;",
         "",
-        Want {
-            relation: ONES,
-            firsts: &ALL,
-            rows: &[&[3]],
-        },
+        ONES,
+        &ALL,
+        &[&[3]],
     ),
     (
         "insert e(1, 2); insert e(3, 4); insert e(5, 6);",
         "print (y) where e(x, y), x = 3;",
         "",
-        Want {
-            relation: PAIRS,
-            firsts: &[0, 3],
-            rows: &[&[4]],
-        },
+        PAIRS,
+        &[0, 3],
+        &[&[4]],
     ),
     (
         "insert e(1, 2); insert e(3, 4); insert e(5, 6);",
         "print (y) where e(x, y), x = 3;",
         "insert e(3, 1); insert e(4, 4);",
-        Want {
-            relation: PAIRS,
-            firsts: &[0, 3],
-            rows: &[&[1], &[4]],
-        },
+        PAIRS,
+        &[0, 3],
+        &[&[1], &[4]],
     ),
     (
         "insert e(1, 2); insert e(3, 4); insert e(5, 6);",
         "print (x) where e(x, y), x <= 3;",
         "insert e(2, 2);",
-        Want {
-            relation: PAIRS,
-            firsts: &[0, 1, 2, 3, 4],
-            rows: &[&[1], &[2], &[3]],
-        },
+        PAIRS,
+        &[0, 1, 2, 3, 4],
+        &[&[1], &[2], &[3]],
     ),
 ];
 
 #[test]
 fn each_key_has_its_rows(rt: HostRuntime) -> Result<(), NoMemory> {
-    for (stock, print, inserts, want) in TABLE {
-        holds_at(
-            &rt,
-            keeps(&rt, rt.alloc(), stock, print, inserts, &want)?,
-            print,
-        );
+    for (stock, print, inserts, relation, firsts, rows) in TABLE {
+        let want = Want {
+            relation,
+            firsts,
+            rows,
+        };
+        let is_so = keeps(&rt, rt.alloc(), stock, print, inserts, &want)?;
+        holds_at(&rt, is_so, print);
     }
     Ok(())
 }

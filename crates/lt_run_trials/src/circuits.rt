@@ -54,7 +54,7 @@ fn stands(
 
 /// Whether one worker settles two leaves by these events.
 fn one_settles_two(alloc: Global) -> Result<bool, NoMemory> {
-    let work = Arc::new(alloc, Sample { alloc })?;
+    let work = Arc::new(alloc, Sample::new(alloc))?;
     let mut circuit = Circuit::start(alloc, work, 2)?;
     circuit.settle_alone()?;
     let is_so = stands(alloc, &circuit, &ONE_WORKER, &SERIAL[..1], true);
@@ -79,7 +79,7 @@ fn leaf_goes_round(floor: &mut Floor<Sample>) -> bool {
 
 /// Whether the one leaf of a circuit goes so.
 fn one_leaf_goes_round(alloc: Global) -> Result<bool, NoMemory> {
-    let mut floor = Floor::start(alloc, Sample { alloc }, 1)?;
+    let mut floor = Floor::start(alloc, Sample::new(alloc), 1)?;
     let is_so = leaf_goes_round(&mut floor);
     drop(floor);
     Ok(is_so)
@@ -98,7 +98,7 @@ fn stands_after(
     rows: &[(Key, bool)],
     settled: bool,
 ) -> Result<bool, NoMemory> {
-    let mut floor = Floor::start(alloc, Sample { alloc }, 2)?;
+    let mut floor = Floor::start(alloc, Sample::new(alloc), 2)?;
     floor.follow(events);
     let is_so = stands(alloc, floor.circuit(), events, rows, settled);
     drop(floor);

@@ -75,7 +75,7 @@ fn hands_on<R: Threads + Wait + Sync, G: Gate>(
     requires { (1 ≤ workers) × (workers ≤ 16) }
 {
     let mut kept = nothing_kept(alloc, refused);
-    let work = Arc::new(alloc, Sample { alloc })?;
+    let work = Arc::new(alloc, Sample::new(alloc))?;
     let line = Line::start(alloc, work, &[2, 1, 1])?;
     let line = settle_line(rt, alloc, line, workers, gate, &mut kept)?;
     let is_so = line.settled() && are_kept(alloc, &kept);

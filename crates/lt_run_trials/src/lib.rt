@@ -1,14 +1,17 @@
 //! Joins, programs, circuits and batches, run as the database runs them, by hand, and by plain loops.
 //!
 //! `texts` has programs as text and their databases, `sampled` draws them, `serial` runs them by plain loops, `comparing` and `agree`
-//! compare. `floor` has two workers at a circuit, `sample` leaves for it. `batches` are the large tests, `meeting` shows
-//! workers that work at the same time, `boards` readers.
+//! compare. `floor` has two workers at a circuit, `sample` leaves for it. `batches` are the large tests, `backwards` those in which each
+//! program runs before those that it reads from. `hanging` puts rows in and takes them out that an evaluation doesn't hang on, `meeting`
+//! shows workers that work at the same time, `boards` readers.
 #![tactic(auto)]
 
 #[cfg(test)]
 mod agree;
 #[cfg(test)]
 mod agreeing;
+#[cfg(test)]
+mod backwards;
 #[cfg(test)]
 mod batches;
 #[cfg(test)]
@@ -25,6 +28,8 @@ mod finals;
 mod floor;
 #[cfg(test)]
 mod free;
+#[cfg(test)]
+mod hanging;
 #[cfg(test)]
 mod joins;
 #[cfg(test)]

@@ -1,9 +1,12 @@
 //! Programs restated on later states: what touches them, and how far they go then.
 use crate::agree::holds_at;
-use crate::comparing::int_row;
+use crate::comparing::{int_row, is_print};
 use crate::restatement::restated_by;
+use crate::serial::{Serial, one_after_another};
+use crate::texts::{is_same_ran, programs};
 use lt_face::memory::NoMemory;
 use lt_face::row::Row;
+use lt_program::{Ran, Tally};
 use lt_restate::{Spot, Touch};
 use lt_values::cell_of_int;
 use std::alloc::Global;
@@ -27,16 +30,19 @@ fn are_by_five(alloc: Global, touches: &[Touch]) -> bool {
     }
 }
 
-/// Whether these inserts touch the answers above 3 of 1 and 9 so.
+/// Whether these inserts touch the answers above 3 of 1 and 9 so, and turn them into these.
 fn touches_by_five<R: Threads + Sync>(
     rt: &R,
     alloc: Global,
     inserts: &str,
+    answers: &[i64],
 ) -> Result<bool, NoMemory> {
     let reading = "print (x) where r(x), x > 3;";
     let out = restated_by(rt, alloc, NINE, reading, "", inserts)?;
     let is_so = are_by_five(alloc, out.touches.as_slice())
-        && are_by_five(alloc, out.named.as_slice());
+        && are_by_five(alloc, out.named.as_slice())
+        && is_print(alloc, out.old.reply(), &[9])
+        && is_print(alloc, out.new.reply(), answers);
     drop(out);
     Ok(is_so)
 }
@@ -55,8 +61,15 @@ const MANY_WITH_FIVE: &str =
 
 #[test]
 fn an_insert_into_a_gap_touches(rt: HostRuntime) -> Result<(), NoMemory> {
-    for inserts in ["insert r(5);", MANY_WITH_FIVE] {
-        holds_at(&rt, touches_by_five(&rt, rt.alloc(), inserts)?, inserts);
+    for (inserts, answers) in [
+        ("insert r(5);", [5, 9].as_slice()),
+        (
+            MANY_WITH_FIVE,
+            [5, 9, 20, 21, 22, 23, 24, 25, 26, 27].as_slice(),
+        ),
+    ] {
+        let is_so = touches_by_five(&rt, rt.alloc(), inserts, answers)?;
+        holds_at(&rt, is_so, inserts);
     }
     Ok(())
 }
@@ -70,7 +83,23 @@ struct Case<'a> {
     second: &'a str,
 }
 
-/// Whether so many of the program's statements are touched, by marks and by rows, and so many are then evaluated.
+/// What the second statements do by plain loops, and then the program.
+fn in_order(alloc: Global, case: Case) -> Result<Serial, NoMemory> {
+    let progs = programs(alloc, &[case.second, case.statements], 2)?;
+    let serial = one_after_another(alloc, case.stock, &progs)?;
+    Ok(serial)
+}
+
+/// Whether the last of two runs answers and writes what this one did.
+fn is_last(runs: &[Ran], tally: &Tally) -> bool {
+    match runs {
+        [_, ran] => is_same_ran(ran, tally),
+        _ => false,
+    }
+}
+
+/// Whether so many of the program's statements are touched, by marks and by rows, and so many are then evaluated, which do what they do
+/// in order.
 fn touches<R: Threads + Sync>(
     rt: &R,
     alloc: Global,
@@ -86,9 +115,11 @@ fn touches<R: Threads + Sync>(
         case.first,
         case.second,
     )?;
+    let serial = in_order(alloc, case)?;
     let is_so = out.touches.len() == touched
         && out.named.len() == touched
-        && out.new.evaluated() == evaluated;
+        && out.new.evaluated() == evaluated
+        && is_last(&serial.runs, &out.new);
     drop(out);
     Ok(is_so)
 }
@@ -103,6 +134,9 @@ const NIGHTS: &str =
     "insert e(1, 5); insert e(1, 6); insert e(1, 10); insert e(1, 11); insert e(1, 20);";
 
 const THREE: &str = "print (d) where e(1, d), d >= 10, d < 13;";
+
+/// Books two nights of room 1.
+const BOOKING: &str = "require none e(1, 7); require none e(1, 8); insert e(1, 7); insert e(1, 8);";
 
 const EDGES: &str = "insert e(1, 2); insert e(2, 3); insert e(1, 3);";
 
@@ -132,6 +166,24 @@ fn what_was_asked_for_touches(rt: HostRuntime) -> Result<(), NoMemory> {
             THREE,
             "",
             "insert e(1, 12);",
+            1,
+            1,
+        ),
+        (
+            "a booking of another room",
+            NIGHTS,
+            BOOKING,
+            "",
+            "insert e(2, 7); insert e(2, 8);",
+            0,
+            4,
+        ),
+        (
+            "a booking of one of the nights",
+            NIGHTS,
+            BOOKING,
+            "",
+            "insert e(1, 7);",
             1,
             1,
         ),

@@ -9,12 +9,31 @@ use lt_face::items::Items;
 use lt_face::key::Key;
 use lt_face::{Moves, NoMemory, Row};
 use std::alloc::Global;
+use std::sync::atomic::{AtomicU32, Ordering};
 
 /// Leaf 0 deletes the row (1). Each other leaf i inserts the row (i) where fewer than two marks stand before it, and else
-/// deletes it.
+/// deletes it. Of their works the one with the number `refused`, from 0 on, is refused.
 #[derive(Drop)]
 pub struct Sample {
-    pub alloc: Global,
+    alloc: Global,
+    refused: u32,
+    begun: AtomicU32,
+}
+
+impl Sample {
+    /// None is refused, of fewer than `u32::MAX`.
+    pub fn new(alloc: Global) -> Sample {
+        Sample::refusing(alloc, u32::MAX)
+    }
+
+    /// The work with this number is refused.
+    pub fn refusing(alloc: Global, refused: u32) -> Sample {
+        Sample {
+            alloc,
+            refused,
+            begun: AtomicU32::new(0),
+        }
+    }
 }
 
 /// What four leaves write one after another. What two or three write are the first marks.
@@ -63,6 +82,9 @@ impl LeafWork for Sample {
         correction: &Marks,
         _moves: &mut Moves<L>,
     ) -> Result<Marks, NoMemory> {
+        if self.begun.fetch_add(1, Ordering::SeqCst) == self.refused {
+            return Err(NoMemory);
+        }
         let plus = 0 < leaf && correction.len() < 2;
         let marks = one_mark(self.alloc, leaf.max(1) as Key, plus)?;
         Ok(marks)

@@ -69,18 +69,37 @@ fn put(text: &mut String, random: &mut Pcg32, template: &str) -> Result<(), NoMe
     Ok(())
 }
 
+/// The statements that insert ten rows.
+pub(crate) fn stock(alloc: Global, random: &mut Pcg32) -> Result<String, NoMemory> {
+    let mut text = String::new(alloc);
+    for _ in 0..10 {
+        put(&mut text, random, "insert e($, $); ")?;
+    }
+    Ok(text)
+}
+
+/// Appends a statement with one of these heads and a body.
+fn put_one(text: &mut String, random: &mut Pcg32, heads: &[&'static str]) -> Result<(), NoMemory>
+    requires { 0 < length heads.now }
+{
+    let head = one_of(random, heads);
+    let body = one_of(random, &BODIES);
+    put(text, random, head)?;
+    put(text, random, body)
+}
+
+/// A statement that writes nothing.
+pub(crate) fn asking(alloc: Global, random: &mut Pcg32) -> Result<String, NoMemory> {
+    let mut text = String::new(alloc);
+    put_one(&mut text, random, &HEADS[3..6])?;
+    Ok(text)
+}
+
 /// The statements of a program that inserts ten rows, and then joins them.
 pub(crate) fn text(alloc: Global, random: &mut Pcg32) -> Result<String, NoMemory> {
-    let mut text = String::new(alloc);
-    for place in 0..16 {
-        if place < 10 {
-            put(&mut text, random, "insert e($, $); ")?;
-        } else {
-            let head = one_of(random, &HEADS);
-            let body = one_of(random, &BODIES);
-            put(&mut text, random, head)?;
-            put(&mut text, random, body)?;
-        }
+    let mut text = stock(alloc, random)?;
+    for _ in 0..6 {
+        put_one(&mut text, random, &HEADS)?;
     }
     Ok(text)
 }

@@ -24,7 +24,7 @@ fn ends_serial(alloc: Global, floor: Floor<Sample>, leaves: usize) -> Result<boo
 
 /// Whether so many of these events can be done over four leaves, and these end so.
 fn settles_from(alloc: Global, events: &[(u32, u32)], could: usize) -> Result<bool, NoMemory> {
-    let mut floor = Floor::start(alloc, Sample { alloc }, 4)?;
+    let mut floor = Floor::start(alloc, Sample::new(alloc), 4)?;
     let done = floor.follow(events);
     let is_serial = ends_serial(alloc, floor, 4)?;
     Ok(done == could && is_serial)
@@ -93,7 +93,7 @@ fn play(floor: &mut Floor<Sample>, random: &mut Pcg32, draws: u32) -> usize {
 fn settles(alloc: Global, random: &mut Pcg32, leaves: u32, draws: u32) -> Result<bool, NoMemory>
     requires { leaves ≤ 4 }
 {
-    let mut floor = Floor::start(alloc, Sample { alloc }, leaves)?;
+    let mut floor = Floor::start(alloc, Sample::new(alloc), leaves)?;
     let done = play(&mut floor, random, draws);
     let is_written = floor.circuit().journal().len() == done;
     let is_serial = ends_serial(alloc, floor, leaves as usize)?;

@@ -1,6 +1,6 @@
 use Rattle.lt_workers.specs.Machines.{net_of}
 use Rattle.lt_workers.proofs.Continuing.{begins_then}
-use Rattle.lt_run_trials.specs.contracts.refusing.RefusingLeafWork.TheImpl.{ghosts}
+use Rattle.lt_run_trials.specs.contracts.sample.SampleLeafWork.TheImpl.{ghosts}
 use Rattle.lt_run_trials.proofs.refusing.settles_after.Goals as goal
 
 pub settle_alone-requires : goal.settle_alone-requires
